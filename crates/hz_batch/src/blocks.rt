@@ -1,5 +1,5 @@
 //! Blocks of patterns.
-ghost use Rattle.std.specs.Prelude.{◌≡◌, ◌<◌, ◌≤◌, ◌+◌, ◌*◌, ◌^◌, ◌-◌, List, false, length, min, take, drop};
+ghost use Rattle.std.specs.Prelude.{◌≡◌, ◌<◌, ◌≤◌, ◌+◌, ◌*◌, ◌^◌, ◌-◌, ℕ, List, false, length, min, take, drop};
 ghost use Rattle.hz_plane.specs.declared.stage.Stage.TheVariants.{Loading, Completed, Spread, Settled};
 ghost use Rattle.hz_plane.specs.View.{AreOf};
 ghost use Rattle.hz_write.specs.Writer.{Writes, NoneWaits, has_failed};
@@ -67,6 +67,8 @@ pub(crate) fn write_blocks<K: Sink>(
     ensures planes { has_failed writer.new ≡ false
         → planes.new ≡ planes_after (loaded_by work.now.job work.now.patterns.now) planes.old
         (block_count (length work.now.patterns.now.patterns)) }
+    ensures looked { (blocks : ℕ)
+        × (planes.new ≡ planes_after (loaded_by work.now.job work.now.patterns.now) planes.old blocks) }
 {
     let _variables = work.net.len();
     for block in 0..work.patterns.count().div_ceil(BLOCK) {

@@ -48,6 +48,7 @@ pub fn batch<K: Sink>(
     ensures planes { OnOk result
         (planes.new ≡ planes_after patterns.now planes.old
         (block_count (length patterns.now.patterns))) }
+    ensures looked { (blocks : ℕ) × (planes.new ≡ planes_after patterns.now planes.old blocks) }
 {
     match write_text(alloc, net, patterns, Job::Batch, planes, out) {
         Ok(()) => Ok(()),
@@ -72,6 +73,8 @@ pub fn reset<K: Sink>(
     ensures planes { OnOk result
         (planes.new ≡ planes_after (without_held patterns.now) planes.old
         (block_count (length patterns.now.patterns))) }
+    ensures looked { (blocks : ℕ)
+        × (planes.new ≡ planes_after (without_held patterns.now) planes.old blocks) }
 {
     match write_text(alloc, net, patterns, Job::Reset, planes, out) {
         Ok(()) => Ok(()),
@@ -96,6 +99,8 @@ fn write_text<K: Sink>(
     ensures planes { OnOk result
         (planes.new ≡ planes_after (loaded_by job patterns.now) planes.old
         (block_count (length patterns.now.patterns))) }
+    ensures looked { (blocks : ℕ)
+        × (planes.new ≡ planes_after (loaded_by job patterns.now) planes.old blocks) }
 {
     laws_hold();
     let _variables = net.len();
@@ -161,6 +166,8 @@ fn write_all<K: Sink>(
     ensures planes { has_failed writer.new ≡ false
         → planes.new ≡ planes_after (loaded_by work.now.job work.now.patterns.now) planes.old
         (block_count (length work.now.patterns.now.patterns)) }
+    ensures looked { (blocks : ℕ)
+        × (planes.new ≡ planes_after (loaded_by work.now.job work.now.patterns.now) planes.old blocks) }
 {
     write_blocks(writer, work, planes, room);
     if writer.has_failed() {

@@ -9,7 +9,7 @@ use hz_net::Net;
 use smallvec::SmallVec;
 use std::alloc::Global;
 
-// The kinds of the gates of an order.
+/// The kinds of the gates of an order.
 pub(crate) fn list_kinds(alloc: Global, net: &Net, order: &[u32]) -> Result<Vec<Kind>, Memory>
     requires { All (IsGateNumber net.now) order.now }
     ensures { IfOk result (λ kinds. kinds.items ≡ kinds_at net.now order.now) }
@@ -26,7 +26,7 @@ pub(crate) fn list_kinds(alloc: Global, net: &Net, order: &[u32]) -> Result<Vec<
     Ok(kinds)
 }
 
-// The nodes that the gates of an order read.
+/// The nodes that the gates of an order read.
 pub(crate) fn list_pins(alloc: Global, net: &Net, order: &[u32]) -> Result<Lists, Memory>
     requires { All (IsGateNumber net.now) order.now }
     ensures { IfOk result (λ pins. pins ≡ pins_at net.now order.now) }
@@ -53,7 +53,7 @@ fn all_pins(alloc: Global, net: &Net, order: &[u32]) -> Result<Vec<SmallVec<u32,
     Ok(lists)
 }
 
-// A list of the same numbers.
+/// A list of the same numbers.
 #[tactic(auto, using(std::proofs::lemmas::List::take_more))]
 pub(crate) fn copy_of(alloc: Global, numbers: &[u32]) -> Result<SmallVec<u32, 4>, Memory>
     ensures { IfOk result (λ list. list.items ≡ numbers.now) }

@@ -36,7 +36,7 @@ fn gather(bits: &[bool], at: usize, step: usize, count: usize, bytes: &mut [u8; 
     }
 }
 
-// Gives eight lanes their bits for the inputs.
+/// Gives eight lanes their bits for the inputs.
 pub(crate) fn set_eight(eight: u32, bits: &[bool], at: usize, step: usize, sets: &mut [[u64; 8]])
     requires eight { eight < 64 }
     requires inside { length sets.old + at + 7 * step ≤ length bits.now }
@@ -74,7 +74,7 @@ fn set_part(eight: u32, bytes: &[u8; 64], from: usize, count: usize, sets: &mut 
     }
 }
 
-// Gives eight lanes that list nothing the start that lists their bits for the inputs.
+/// Gives eight lanes that list nothing the start that lists their bits for the inputs.
 pub(crate) fn start_eight(
     eight: u32,
     bits: &[bool],

@@ -15,8 +15,8 @@ use crate::stage::LaneFault;
 use hz_net::Net;
 use std::simd::prelude::*;
 
-// Notes why a lane has no stable start, for each lane: the least open node, and if there is none the least unstable gate. Where
-// each gate is its own excitation, as the caller may say, no lane has a fault.
+/// Notes why a lane has no stable start, for each lane: the least open node, and if there is none the least unstable gate. Where
+/// each gate is its own excitation, as the caller may say, no lane has a fault.
 pub(crate) fn note_faults(
     net: &Net,
     listings: &[Listing],
@@ -66,7 +66,7 @@ fn forget(faults: &mut [Option<LaneFault>])
     }
 }
 
-// The lanes in which some node is X. There are none where each gate is its own excitation, as the caller may say.
+/// The lanes in which some node is X. There are none where each gate is its own excitation, as the caller may say.
 pub(crate) fn unsettled_lanes(net: &Net, values: &[Pair], are_evaluated: bool) -> [u64; 8]
     requires values { length values.now ≡ length net.now.names }
     requires planes { AreAllPlanes values.now }

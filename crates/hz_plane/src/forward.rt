@@ -12,7 +12,7 @@ use crate::schedule::Schedule;
 use hz_core::Kind;
 use hz_net::Net;
 
-// Gives each gate its excitation, if each input has a known bit in each lane. Then each gate has one too.
+/// Gives each gate its excitation, if each input has a known bit in each lane. Then each gate has one too.
 pub(crate) fn evaluate_all(net: &Net, schedule: &Schedule, planes: &mut [Pair])
     requires schedule { IsSchedule net.now schedule.now }
     requires forward { schedule.now.is_forward ≡ true }

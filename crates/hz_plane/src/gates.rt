@@ -7,14 +7,14 @@ use hz_net::Net;
 use std::alloc::Global;
 use std::marker::Model;
 
-// A gate's kind, and how many pins it has.
+/// A gate's kind, and how many pins it has.
 #[derive(Clone, Copy, Debug)]
 pub(crate) struct Shape {
     pub(crate) kind: Kind,
     pub(crate) pins: u32,
 }
 
-// The shapes of all gates, and the sources of all pins, by gate and pin.
+/// The shapes of all gates, and the sources of all pins, by gate and pin.
 #[derive(Debug, Drop)]
 pub(crate) struct Gates {
     shapes: Vec<Shape>,
@@ -35,7 +35,7 @@ impl Model for Gates {
 }
 
 impl Gates {
-    // The gates of the circuit of a network.
+    /// The gates of the circuit of a network.
     pub(crate) fn of(alloc: Global, net: &Net) -> Result<Gates, Memory>
         ensures { IfOk result (λ gates. gates ≡ net.now.gates) }
     {
@@ -58,7 +58,7 @@ impl Gates {
         Ok(Gates { shapes, sources })
     }
 
-    // The source of a pin, counted over all gates. The wires of a network are numbered so.
+    /// The source of a pin, counted over all gates. The wires of a network are numbered so.
     #[inline(always)]
     pub(crate) fn source(&self, pin: u32) -> u32
         requires { pin < sum_by (λ gate. length gate.sources) self.now }

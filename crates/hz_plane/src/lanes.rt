@@ -6,7 +6,7 @@ ghost use Rattle.hz_plane.specs.EightBits.{byte_has};
 use crate::pair::is_plane;
 use std::simd::prelude::*;
 
-// Whether a lane is in a set.
+/// Whether a lane is in a set.
 #[inline(always)]
 pub(crate) fn has_lane(set: &[u64; 8], lane: u32) -> bool
     requires { lane < 512 }
@@ -15,7 +15,7 @@ pub(crate) fn has_lane(set: &[u64; 8], lane: u32) -> bool
     (set[(lane / 64) as usize] >> (lane % 64)) & 1 == 1
 }
 
-// Takes a lane into a set, or out of it.
+/// Takes a lane into a set, or out of it.
 #[inline(always)]
 pub(crate) fn put_lane(set: &mut [u64; 8], lane: u32, is_in: bool)
     requires { lane < 512 }
@@ -30,7 +30,7 @@ pub(crate) fn put_lane(set: &mut [u64; 8], lane: u32, is_in: bool)
     }
 }
 
-// Takes lanes into a set, or out of it.
+/// Takes lanes into a set, or out of it.
 #[inline(always)]
 pub(crate) fn put_lanes(set: &mut [u64; 8], lanes: &[u64; 8], are_in: bool)
     ensures here { (lane : ℕ) → lane < 512 → has_lane lanes.now lane ≡ true
@@ -49,7 +49,7 @@ pub(crate) fn put_lanes(set: &mut [u64; 8], lanes: &[u64; 8], are_in: bool)
     }
 }
 
-// Takes a lane that is not in a set into it, if it is to be in. This takes no branch.
+/// Takes a lane that is not in a set into it, if it is to be in. This takes no branch.
 #[inline(always)]
 pub(crate) fn join_lane(set: &mut [u64; 8], lane: u32, is_in: bool)
     requires lane { lane < 512 }
@@ -84,7 +84,7 @@ fn remove_lane(set: &mut [u64; 8], lane: u32)
     set[word] &= !(1u64 << (lane % 64));
 }
 
-// Gives eight lanes their bits, those of a byte.
+/// Gives eight lanes their bits, those of a byte.
 #[inline(always)]
 pub(crate) fn put_eight(set: &mut [u64; 8], eight: u32, byte: u8)
     requires { eight < 64 }

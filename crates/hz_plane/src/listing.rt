@@ -11,7 +11,7 @@ use crate::lanes::{join_lane, put_eight, put_lane, put_lanes};
 use crate::pair::{Pair, is_plane, is_zero};
 use std::simd::prelude::*;
 
-// The lanes that list 0 for a node, and those that list 1.
+/// The lanes that list 0 for a node, and those that list 1.
 #[derive(Clone, Copy, Debug)]
 pub(crate) struct Listing {
     pub(crate) zeros: [u64; 8],
@@ -19,7 +19,7 @@ pub(crate) struct Listing {
 }
 
 impl Listing {
-    // No lane lists the node.
+    /// No lane lists the node.
     pub(crate) fn none() -> Listing
         ensures { (lane : ℕ) → listed_in result lane ≡ None }
     {
@@ -29,7 +29,7 @@ impl Listing {
         }
     }
 
-    // Lists a bit for the node in a lane that lists none.
+    /// Lists a bit for the node in a lane that lists none.
     #[inline(always)]
     pub(crate) fn list(&mut self, lane: u32, bit: bool)
         requires lane { lane < 512 }
@@ -42,7 +42,7 @@ impl Listing {
         join_lane(&mut self.ones, lane, bit);
     }
 
-    // Lists a value for the node in a lane, or none.
+    /// Lists a value for the node in a lane, or none.
     #[inline(always)]
     pub(crate) fn put(&mut self, lane: u32, value: Option<bool>)
         requires { lane < 512 }
@@ -54,7 +54,7 @@ impl Listing {
         put_lane(&mut self.ones, lane, value == Some(true));
     }
 
-    // Lists a bit for the node in each of eight lanes, those of a byte.
+    /// Lists a bit for the node in each of eight lanes, those of a byte.
     #[inline(always)]
     pub(crate) fn list_eight(&mut self, eight: u32, bits: u8)
         requires { eight < 64 }
@@ -67,7 +67,7 @@ impl Listing {
         put_eight(&mut self.ones, eight, bits);
     }
 
-    // Lists the same bit for the node in each lane of a set.
+    /// Lists the same bit for the node in each lane of a set.
     #[inline(always)]
     pub(crate) fn hold(&mut self, lanes: &[u64; 8], bit: bool)
         ensures here { (lane : ℕ) → lane < 512 → has_lane lanes.now lane ≡ true
@@ -79,7 +79,7 @@ impl Listing {
         put_lanes(&mut self.ones, lanes, bit);
     }
 
-    // The listed value in each lane, and X in the lanes that list none.
+    /// The listed value in each lane, and X in the lanes that list none.
     #[inline(always)]
     pub(crate) fn values(&self) -> Pair
         ensures planes { ArePlanes result }
@@ -98,7 +98,7 @@ impl Listing {
         pair
     }
 
-    // The listed bit in each lane, and 0 in the lanes that list none.
+    /// The listed bit in each lane, and 0 in the lanes that list none.
     #[inline(always)]
     pub(crate) fn bits(&self) -> Pair
         ensures known { IsKnownPair result }
@@ -113,7 +113,7 @@ impl Listing {
         Pair { zero: !one, one }
     }
 
-    // Whether no lane lists the node.
+    /// Whether no lane lists the node.
     #[inline(always)]
     pub(crate) fn is_empty(&self) -> bool
         ensures { IsTrue result → (lane : ℕ) → lane < 512 → listed_in self.now lane ≡ None }

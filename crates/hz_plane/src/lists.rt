@@ -8,7 +8,7 @@ use smallvec::SmallVec;
 use std::alloc::Global;
 use std::marker::Model;
 
-// All numbers, list after list, and where each list ends.
+/// All numbers, list after list, and where each list ends.
 #[derive(Debug, Drop)]
 pub(crate) struct Lists {
     ends: Vec<u32>,
@@ -28,7 +28,7 @@ impl Model for Lists {
 }
 
 impl Lists {
-    // These lists. If they have together more numbers than 32 bits count, memory is said to be out.
+    /// These lists. If they have together more numbers than 32 bits count, memory is said to be out.
     pub(crate) fn of(alloc: Global, lists: &[SmallVec<u32, 4>]) -> Result<Lists, Memory>
         ensures { IfOk result (λ made. made ≡ map (λ list. list.items) lists.now) }
     {
@@ -50,7 +50,7 @@ impl Lists {
         Ok(Lists { ends, numbers })
     }
 
-    // The list with a number.
+    /// The list with a number.
     #[inline(always)]
     pub(crate) fn at(&self, number: usize) -> &[u32]
         requires { number < length self.now }

@@ -12,8 +12,8 @@ use hz_core::Memory;
 use std::alloc::Global;
 use std::marker::Model;
 
-// The lanes that were loaded; for each input the lanes whose new input has a 1 there; for each node what the lanes list; and
-// whether it is known that no lane lists a gate.
+/// The lanes that were loaded; for each input the lanes whose new input has a 1 there; for each node what the lanes list; and
+/// whether it is known that no lane lists a gate.
 #[derive(Debug, Drop)]
 pub(crate) struct Loads {
     loaded: [u64; 8],
@@ -35,7 +35,7 @@ impl Model for Loads {
 }
 
 impl Loads {
-    // No lane is loaded.
+    /// No lane is loaded.
     pub(crate) fn new(alloc: Global, inputs: u32, nodes: u32) -> Result<Loads, Memory>
         ensures { IfOk result
             (λ loads. loads
@@ -52,7 +52,7 @@ impl Loads {
         })
     }
 
-    // Forgets what was loaded.
+    /// Forgets what was loaded.
     pub(crate) fn clear(&mut self)
         ensures { self.new ≡ record self.old { lanes = replicate 512 None } }
     {
@@ -62,7 +62,7 @@ impl Loads {
         self.no_gates = true;
     }
 
-    // Whether it is known that no lane lists a gate.
+    /// Whether it is known that no lane lists a gate.
     pub(crate) fn lists_no_gate(&self) -> bool
         ensures { result ≡ true → (lane : ℕ) (loaded : Loaded)
             → slice_get self.now.lanes lane ≡ Some (Some loaded)
@@ -72,7 +72,7 @@ impl Loads {
         self.no_gates
     }
 
-    // For each input the lanes whose new input has a 1 there.
+    /// For each input the lanes whose new input has a 1 there.
     pub(crate) fn inputs(&self) -> &[[u64; 8]]
         ensures count { length result.now ≡ self.now.inputs }
         ensures lanes { (lane : ℕ) (loaded : Loaded)
@@ -83,7 +83,7 @@ impl Loads {
         self.inputs.as_slice()
     }
 
-    // For each node what the lanes list.
+    /// For each node what the lanes list.
     pub(crate) fn listings(&self) -> &[Listing]
         ensures count { length result.now ≡ self.now.nodes }
         ensures lanes { (lane : ℕ) (loaded : Loaded)
@@ -94,7 +94,7 @@ impl Loads {
         self.listings.as_slice()
     }
 
-    // Loads a lane with a new input and a listed start.
+    /// Loads a lane with a new input and a listed start.
     pub(crate) fn load(&mut self, lane: u32, input: &[bool], listed: &[Option<bool>])
         requires lane { lane < 512 }
         requires input { IsInput self.old input.now }
@@ -110,7 +110,7 @@ impl Loads {
         self.no_gates = false;
     }
 
-    // Loads a lane with a new input, and the listed start that lists the first bits of the inputs, and the held gates.
+    /// Loads a lane with a new input, and the listed start that lists the first bits of the inputs, and the held gates.
     pub(crate) fn load_held(
         &mut self,
         lane: u32,
@@ -142,7 +142,7 @@ impl Loads {
         self.no_gates = are_none_with(self.no_gates, held);
     }
 
-    // Forgets what was loaded, and loads the first lanes, from a list of the bits of one lane after the other.
+    /// Forgets what was loaded, and loads the first lanes, from a list of the bits of one lane after the other.
     pub(crate) fn load_block(&mut self, lanes: u32, bits: &[bool], held: &[(u32, bool)])
         requires lanes { lanes ≤ 512 }
         requires inputs { self.old.inputs ≤ self.old.nodes }

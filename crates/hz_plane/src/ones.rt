@@ -9,7 +9,7 @@ use crate::pair::{Pair, is_plane};
 use hz_core::Kind;
 use std::simd::prelude::*;
 
-// The lanes in which a gate of this kind, whose pins read these nodes, is excited to 1. In all others it is excited to 0.
+/// The lanes in which a gate of this kind, whose pins read these nodes, is excited to 1. In all others it is excited to 0.
 #[inline(always)]
 pub(crate) fn excited_ones(kind: Kind, sources: &[u32], planes: &[Pair]) -> u64x8
     requires takes { IsTrue (takes kind (length sources.now)) }

@@ -8,7 +8,7 @@ use hz_core::Memory;
 use hz_net::Net;
 use std::alloc::Global;
 
-// All gates in an order. Without feedback each stands after the gates that it reads, and gates of one class together.
+/// All gates in an order. Without feedback each stands after the gates that it reads, and gates of one class together.
 pub(crate) fn order_gates(alloc: Global, net: &Net) -> Result<Vec<u32>, Memory>
     ensures gates { IfOk result (λ order. HasAllGates net.now order.items) }
     ensures few { IfOk result (λ order. length order.items < 2 ^ 32) }
@@ -53,7 +53,7 @@ fn order_by_search(alloc: Global, net: &Net) -> Result<Vec<u32>, Memory>
     Ok(order)
 }
 
-// Puts a gate at the end of the order.
+/// Puts a gate at the end of the order.
 pub(crate) fn place(gate: u32, placed: &mut [bool], order: &mut Vec<u32>) -> Result<(), Memory>
     requires { gate < length placed.old }
     ensures placed { placed.new ≡ slice_set placed.old gate true }

@@ -5,7 +5,7 @@ ghost use Rattle.hz_plane.specs.Pairs.{and_pair, or_pair, xor_pair, complement_p
 
 use std::simd::prelude::*;
 
-// Of 512 lanes, where a node can be 0 and where it can be 1.
+/// Of 512 lanes, where a node can be 0 and where it can be 1.
 #[derive(Clone, Copy, Debug)]
 pub(crate) struct Pair {
     pub(crate) zero: u64x8,
@@ -53,7 +53,7 @@ impl Pair {
         }
     }
 
-    // In the lanes where this is X the other pair, in all others this.
+    /// In the lanes where this is X the other pair, in all others this.
     #[inline(always)]
     pub(crate) fn narrowed(self, excited: Pair) -> Pair
         ensures { result ≡ narrowed_pair self excited }
@@ -64,7 +64,7 @@ impl Pair {
         }
     }
 
-    // The join of both, lane by lane.
+    /// The join of both, lane by lane.
     #[inline(always)]
     pub(crate) fn widened(self, excited: Pair) -> Pair
         ensures { result ≡ widened_pair self excited }
@@ -75,7 +75,7 @@ impl Pair {
         }
     }
 
-    // Both have eight words of 64 bits. It computes nothing.
+    /// Both have eight words of 64 bits. It computes nothing.
     #[inline(always)]
     pub(crate) fn are_planes(self)
         ensures { ArePlanes self }
@@ -94,7 +94,7 @@ impl Pair {
     }
 }
 
-// A vector has eight words of 64 bits. It computes nothing.
+/// A vector has eight words of 64 bits. It computes nothing.
 #[inline(always)]
 pub(crate) fn is_plane(words: u64x8)
     ensures { IsPlane words }
@@ -112,7 +112,7 @@ fn are_same(words: u64x8, others: u64x8, ones: u64x8, more: u64x8) -> bool
     is_zero((words ^ others) | (ones ^ more))
 }
 
-// Whether no lane is set.
+/// Whether no lane is set.
 #[inline(always)]
 pub(crate) fn is_zero(words: u64x8) -> bool
     ensures { IsTrue result ↔ AreZero words }

@@ -24,8 +24,8 @@ use crate::sweep::Pass;
 use hz_net::Net;
 use std::simd::prelude::*;
 
-// Fills the starts of all lanes from what they list. If each lane lists inputs alone, which the caller then says, and no gate
-// reads itself in a circle, each gate is evaluated once. It answers whether this was so.
+/// Fills the starts of all lanes from what they list. If each lane lists inputs alone, which the caller then says, and no gate
+/// reads itself in a circle, each gate is evaluated once. It answers whether this was so.
 pub(crate) fn fill(
     net: &Net,
     schedule: &Schedule,
@@ -174,7 +174,7 @@ fn set_inputs(inputs: &[[u64; 8]], values: &mut [Pair])
     }
 }
 
-// Algorithm A in all lanes, from their values, where each wire has its source's.
+/// Algorithm A in all lanes, from their values, where each wire has its source's.
 pub(crate) fn spread(
     net: &Net,
     schedule: &Schedule,
@@ -208,8 +208,8 @@ pub(crate) fn spread(
     pass.run(marks, values);
 }
 
-// Algorithm B in all lanes, from their values, where their excitations lie below them. It answers whether no gate reads itself in
-// a circle, so that each was evaluated once.
+/// Algorithm B in all lanes, from their values, where their excitations lie below them. It answers whether no gate reads itself in
+/// a circle, so that each was evaluated once.
 pub(crate) fn settle(
     net: &Net,
     schedule: &Schedule,

@@ -1,8 +1,9 @@
 //! 512 patterns at once.
 //!
 //! The idea. A node has two words for each 64 lanes: the lanes in which it can be 0, and those in which it can be 1; X is both.
-//! A wire has its source's value in each result, so wires need no planes. All three passes are one loop over the gates, which
-//! evaluates them in place until none would change (`sweep`).
+//! A wire has its source's value in each result, so wires need no planes. If the circuit has feedback, all three passes are one
+//! loop over the gates, which evaluates them in place until none would change (`sweep`). If it has none, Algorithm A makes one
+//! sweep, and Algorithm B evaluates each gate once, and so does the completion of starts that list inputs alone (`forward`).
 //!
 //! What must stay true: `HoldsPlanes`. What a lane holds is said of each circuit with these inputs and gates, since the fields
 //! keep no more of it.
@@ -34,8 +35,8 @@ use std::simd::prelude::*;
 
 /// Bit planes for 512 lanes, each of which holds a pattern: a start, and a new input.
 ///
-/// The lanes are loaded one by one. Then `complete` fills their starts, `spread` makes Algorithm A of them, and `settle`
-/// Algorithm B (Brzozowski and Seger). Each is one pass for all lanes.
+/// `load_block` loads the first lanes at once, `load` and `load_held` a lane of their own. Then `complete` fills the starts of
+/// all lanes, `spread` makes Algorithm A of them, and `settle` Algorithm B (Brzozowski and Seger). Each is one pass for all lanes.
 #[derive(Debug, Drop)]
 pub struct Planes {
     stage: Stage,

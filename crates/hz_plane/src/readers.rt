@@ -14,7 +14,7 @@ use std::alloc::Global;
 // A list while it grows. Few are longer.
 type List = SmallVec<u32, 4>;
 
-// For each node the places of the gates that read it.
+/// For each node the places of the gates that read it.
 pub(crate) fn list_by_node(alloc: Global, net: &Net, order: &[u32]) -> Result<Lists, Memory>
     requires order { HasAllGates net.now order.now }
     requires few { length order.now < 2 ^ 32 }
@@ -91,7 +91,7 @@ fn file(lists: &mut [List], node: u32, place: u32) -> Result<(), Memory>
     Ok(())
 }
 
-// For each place the places of the gates that read its gate. No place has an input, so inputs take no room here.
+/// For each place the places of the gates that read its gate. No place has an input, so inputs take no room here.
 pub(crate) fn list_readers(
     alloc: Global,
     net: &Net,
@@ -129,7 +129,7 @@ fn all_readers(
     Ok(lists)
 }
 
-// For each place the places up to it of the gates that read its gate.
+/// For each place the places up to it of the gates that read its gate.
 pub(crate) fn list_back(
     alloc: Global,
     net: &Net,

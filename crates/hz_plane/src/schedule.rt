@@ -11,8 +11,8 @@ use hz_core::{Kind, Memory};
 use hz_net::Net;
 use std::alloc::Global;
 
-// The gates in an order; for each place the places of the gates that read its gate; those of them that stand no later;
-// whether there are none of these, as without feedback; and the kind and the pins of the gate at each place.
+/// The gates in an order; for each place the places of the gates that read its gate; those of them that stand no later;
+/// whether there are none of these, as without feedback; and the kind and the pins of the gate at each place.
 #[derive(Debug, Drop)]
 pub(crate) struct Schedule {
     pub(crate) order: Vec<u32>,
@@ -24,7 +24,7 @@ pub(crate) struct Schedule {
 }
 
 impl Schedule {
-    // The schedule of the gates of a network.
+    /// The schedule of the gates of a network.
     pub(crate) fn of(alloc: Global, net: &Net) -> Result<Schedule, Memory>
         ensures { IfOk result (IsSchedule net.now) }
     {

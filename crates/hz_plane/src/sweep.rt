@@ -12,7 +12,7 @@ use crate::schedule::Schedule;
 use hz_core::Kind;
 use hz_net::Net;
 
-// A part of the words of marks, outside of which no word has one.
+/// A part of the words of marks, outside of which no word has one.
 #[derive(Clone, Copy, Debug)]
 pub(crate) struct Span {
     pub(crate) begin: usize,
@@ -37,7 +37,7 @@ impl Span {
     }
 }
 
-// What a pass goes by.
+/// What a pass goes by.
 #[derive(Clone, Copy)]
 pub(crate) struct Pass<'a> {
     pub(crate) rule: Rule,
@@ -99,7 +99,7 @@ fn take(word: usize, marks: &mut [u64]) -> usize
 }
 
 impl<'a> Pass<'a> {
-    // Evaluates gates in place, each of them at least once, until no gate would change.
+    /// Evaluates gates in place, each of them at least once, until no gate would change.
     pub(crate) fn run(&self, marks: &mut [u64], planes: &mut [Pair])
         requires schedule { IsSchedule self.now.net.now self.now.schedule.now }
         requires circuit { IsCircuit self.now.net.now }

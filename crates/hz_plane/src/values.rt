@@ -17,7 +17,7 @@ pub struct LaneValues {
 }
 
 impl LaneValues {
-    // X in each lane.
+    /// X in each lane.
     pub(crate) fn unknown() -> LaneValues
         ensures { (lane : ℕ) → lane < 512 → value_in result lane ≡ Unknown }
     {
@@ -37,7 +37,7 @@ impl LaneValues {
     }
 }
 
-// The value that can be 0, or 1, or both. Bits of many lanes are random, so this is written to take no branch.
+/// The value that can be 0, or 1, or both. Bits of many lanes are random, so this is written to take no branch.
 #[inline(always)]
 pub(crate) fn value_by(zero: bool, one: bool) -> Tri
     ensures { result ≡ value_by zero one }

@@ -5,7 +5,7 @@ ghost use Rattle.hz_gmw.specs.Runs.{state_after, end_of};
 
 use hz_gmw::Run;
 
-// Changes the listed variables, each of which is listed once.
+/// Changes the listed variables, each of which is listed once.
 pub(crate) fn make_step(state: &mut [bool], flips: &[u32])
     requires inside { All (λ var. var < length state.old) flips.now }
     requires once { IsRepeatFree flips.now }
@@ -16,7 +16,7 @@ pub(crate) fn make_step(state: &mut [bool], flips: &[u32])
     }
 }
 
-// Makes the steps of a run.
+/// Makes the steps of a run.
 pub(crate) fn make_run(state: &mut [bool], run: &Run)
     requires inside { All (All (λ var. var < length state.old)) run.now.steps }
     requires once { All IsRepeatFree run.now.steps }

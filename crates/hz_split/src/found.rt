@@ -9,7 +9,7 @@ use hz_gmw::Run;
 use std::alloc::Global;
 use std::marker::Model;
 
-// At most two runs, the states in which they end differing, and the state in which the first one ends.
+/// At most two runs, the states in which they end differing, and the state in which the first one ends.
 #[derive(Debug, Drop)]
 pub(crate) struct Found {
     first: Run,
@@ -31,7 +31,7 @@ impl Model for Found {
 }
 
 impl Found {
-    // No run, and room for two on a network of so many variables.
+    /// No run, and room for two on a network of so many variables.
     pub(crate) fn new(alloc: Global, variables: u32) -> Result<Found, Memory>
         ensures runs { IfOk result (λ found. found.runs ≡ []) }
         ensures room { IfOk result (λ found. found.variables ≡ variables) }
@@ -45,7 +45,7 @@ impl Found {
         })
     }
 
-    // Forgets all runs.
+    /// Forgets all runs.
     pub(crate) fn clear(&mut self)
         ensures runs { self.new.runs ≡ [] }
         ensures room { self.new.variables ≡ self.old.variables }
@@ -53,7 +53,7 @@ impl Found {
         self.count = 0;
     }
 
-    // How many runs there are.
+    /// How many runs there are.
     pub(crate) fn count(&self) -> usize
         ensures count { result ≡ length self.now.runs }
         ensures few { result ≤ 2 }
@@ -61,7 +61,7 @@ impl Found {
         self.count
     }
 
-    // A run, counted from 0.
+    /// A run, counted from 0.
     pub(crate) fn run(&self, number: usize) -> &Run
         requires { number < length self.now.runs }
         ensures { result.now.steps ≡ slice_index_or self.now.runs number [] }
@@ -73,8 +73,8 @@ impl Found {
         }
     }
 
-    // Adds a run that ends in a state: the first one, or a second one if it ends in another state than the first. The run has
-    // the steps of `settle`, so many of `cycle`, and then one for each turn.
+    /// Adds a run that ends in a state: the first one, or a second one if it ends in another state than the first. The run has
+    /// the steps of `settle`, so many of `cycle`, and then one for each turn.
     pub(crate) fn add(
         &mut self,
         settle: &Run,

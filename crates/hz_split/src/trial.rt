@@ -11,7 +11,7 @@ use hz_net::Net;
 use std::alloc::Global;
 use std::marker::Model;
 
-// Room for an attempt, and the last one: the variables that flipped, one in each turn, and the state after them.
+/// Room for an attempt, and the last one: the variables that flipped, one in each turn, and the state after them.
 #[derive(Debug, Drop)]
 pub(crate) struct Trial<'n> {
     net: &'n Net,
@@ -32,7 +32,7 @@ impl<'n> Model for Trial<'n> {
 }
 
 impl<'n> Trial<'n> {
-    // Room for attempts on a network.
+    /// Room for attempts on a network.
     pub(crate) fn new(alloc: Global, net: &'n Net) -> Result<Trial<'n>, Memory>
         ensures { IfOk result (λ trial. trial.circuit ≡ net.now) }
     {
@@ -43,7 +43,7 @@ impl<'n> Trial<'n> {
         })
     }
 
-    // Makes an attempt from a state. Returns whether it stops at a stable state.
+    /// Makes an attempt from a state. Returns whether it stops at a stable state.
     pub(crate) fn make(&mut self, input: &[bool], state: &[bool], pick: Pick) -> bool
         requires input { IsInput self.old.circuit input.now }
         requires state { IsState self.old.circuit state.now }
@@ -65,14 +65,14 @@ impl<'n> Trial<'n> {
         self.walk.picked(pick).is_none()
     }
 
-    // The variables that flipped, one in each turn.
+    /// The variables that flipped, one in each turn.
     pub(crate) fn turns(&self) -> &[u32]
         ensures { result.now ≡ self.now.turns }
     {
         self.turns.as_slice()
     }
 
-    // The state after them.
+    /// The state after them.
     pub(crate) fn state(&self) -> &[bool]
         ensures { result.now ≡ self.now.state }
     {

@@ -13,8 +13,8 @@ use hz_net::Net;
 use std::alloc::Global;
 use std::marker::Model;
 
-// A state of a network under an input. A flip costs the variables that read the one that flips, and the least or the greatest
-// unstable variable takes constant time. `begin` costs the whole network. Only `new` takes memory.
+/// A state of a network under an input. A flip costs the variables that read the one that flips, and the least or the greatest
+/// unstable variable takes constant time. `begin` costs the whole network. Only `new` takes memory.
 #[derive(Debug, Drop)]
 pub(crate) struct Walk<'n> {
     net: &'n Net,
@@ -36,7 +36,7 @@ impl<'n> Model for Walk<'n> {
 }
 
 impl<'n> Walk<'n> {
-    // It begins where every input and every variable is 0.
+    /// It begins where every input and every variable is 0.
     pub(crate) fn new(alloc: Global, net: &'n Net) -> Result<Walk<'n>, Memory>
         ensures { IfOk result (λ walk. walk ≡ follower_at net.now (replicate net.now.inputs false) (replicate (length (network_of net.now)) false)) }
     {
@@ -52,7 +52,7 @@ impl<'n> Walk<'n> {
         })
     }
 
-    // Goes to a state under an input.
+    /// Goes to a state under an input.
     pub(crate) fn begin(&mut self, input: &[bool], state: &[bool])
         requires input { IsInput self.old.circuit input.now }
         requires state { IsState self.old.circuit state.now }
@@ -63,7 +63,7 @@ impl<'n> Walk<'n> {
         look_at_all(self.net, input, state, &mut self.unstable);
     }
 
-    // Changes one variable. Only it and the variables that read it may become stable or unstable.
+    /// Changes one variable. Only it and the variables that read it may become stable or unstable.
     pub(crate) fn flip(&mut self, var: u32)
         requires { IsVariable self.old.circuit var }
         ensures { self.new ≡ follower_after self.old (var ∷ []) }
@@ -87,7 +87,7 @@ impl<'n> Walk<'n> {
         );
     }
 
-    // The unstable variable that is picked.
+    /// The unstable variable that is picked.
     pub(crate) fn picked(&self, pick: Pick) -> Option<u32>
         ensures { result ≡ picked pick (unstable_variables (network_of self.now.circuit) self.now.input self.now.state) }
     {
@@ -97,7 +97,7 @@ impl<'n> Walk<'n> {
         }
     }
 
-    // The state.
+    /// The state.
     pub(crate) fn state(&self) -> &[bool]
         ensures { result.now ≡ self.now.state }
     {

@@ -13,7 +13,7 @@ const BASE: u32 = 94;
 
 const BASE_SQUARED: u32 = BASE * BASE;
 
-// Gives the code of a variable. No network has more than 200,000 variables, so three digits are enough.
+/// Gives the code of a variable. No network has more than 200,000 variables, so three digits are enough.
 pub(crate) fn write_code<K: Sink>(writer: &mut Writer<'_, K>, var: u32)
     requires { var < most_variables }
     ensures { Writes K.output K.faults (code_of var) writer.old writer.new }

@@ -20,7 +20,7 @@ impl Model for Wave {
 }
 
 impl Wave {
-    // A state, and a run from there.
+    /// A state, and a run from there.
     pub(crate) fn of(state: Vec<bool>, run: Run) -> Wave
         ensures state { result.state ≡ state.items }
         ensures steps { result.steps ≡ run.steps }

@@ -108,7 +108,7 @@ fn write_declarations<K: Sink>(writer: &mut Writer<'_, K>, net: &Net)
     }
 }
 
-// Gives the declaration of a variable.
+/// Gives the declaration of a variable.
 pub(crate) fn write_declaration<K: Sink>(writer: &mut Writer<'_, K>, net: &Net, var: u32)
     requires var { var < variables_of net.now }
     requires few { variables_of net.now ≤ most_variables }

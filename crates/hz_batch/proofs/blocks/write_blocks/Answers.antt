@@ -47,3 +47,9 @@ loop-block-preserved g c =
       c.write_block.ensures.room,
       after-next (loaded_by c.args.work.now.job c.args.work.now.patterns.now) c.args.planes.now c.loop-block.planes c.write_block.new.planes block c.loop-block.invariant.2 c.write_block.ensures.planes,
     )
+
+pub returns-then-has_failed-clause-looked : goal.returns-then-has_failed-clause-looked
+returns-then-has_failed-clause-looked g c = (c.loop-block.block, c.loop-block.invariant.2)
+
+pub returns-clause-looked : goal.returns-clause-looked
+returns-clause-looked g c = (c.loop-block.block, c.loop-block.invariant.2)

@@ -1,5 +1,5 @@
 -- The text exists before its first line is made.
-use Rattle.std.proofs.Common.{◌∙◌, ap, length, rules, List, Option, Bool}
+use Rattle.std.proofs.Common.{◌∙◌, ap, refl, length, rules, List, Option, Bool}
 use Rattle.hz_write.proofs.Writers.{wrote_whole}
 use Rattle.hz_batch.proofs.Exist.{text-exists}
 use Rattle.hz_batch.proofs.Texts.{few-nodes, stops-nothing}
@@ -25,3 +25,9 @@ returns-clause-wrote g c =
     let is = gave.1 in
     let wrote = wrote_whole _ _ _ _ _ _ _ _ c.new-writer.ensures.begins gave.2 c.finish.ensures in
     search rules
+
+pub returns-in_default-clause-looked : goal.returns-in_default-clause-looked
+returns-in_default-clause-looked g c = (0, refl)
+
+pub returns-in_default-room_for-clause-looked : goal.returns-in_default-room_for-clause-looked
+returns-in_default-room_for-clause-looked g c = (0, refl)

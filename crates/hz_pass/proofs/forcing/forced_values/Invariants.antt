@@ -1,4 +1,4 @@
-use Rattle.std.proofs.Common.{◌+◌, [], length}
+use Rattle.std.proofs.Common.{◌+◌, length}
 use Rattle.hz_core.specs.Ternary.{unknown_count}
 use Rattle.hz_pass.specs.Forcing.{ForcedSoFar, only_waiting}
 use Rattle.hz_pass.proofs.forcing.forced_values.Given as goal
