@@ -207,7 +207,9 @@ fn boxed_assignments(
         (λ why. IsUnread (by_tokens (assigned_by circuit.now) (tokens_of line.now)) why) }
     ensures below { IfOk result (λ read. AreBelow (length circuit.now.names) read.value.items) }
 {
-    let read = read_assignments(alloc, circuit, line)?;
+    let mut read = read_assignments(alloc, circuit, line)?;
+    // A text of such lines alone may have a million and a half of them.
+    read.shrink_to_fit();
     Ok(Box::new(alloc, read)?)
 }
 
