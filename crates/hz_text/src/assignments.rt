@@ -176,7 +176,8 @@ fn first_unlisted(listed: &[bool]) -> Option<usize>
 
 // For each of the first so many nodes, whether it is assigned.
 fn listed_nodes(alloc: Global, all: &[Assigned], nodes: u32) -> Result<Vec<bool>, Memory>
-    ensures listed { IfOk result (λ listed. listed.items ≡ map (assigns all.now) (range_with_len 0 nodes)) }
+    ensures listed { IfOk result
+        (λ listed. listed.items ≡ map (assigns all.now) (range_with_len 0 nodes)) }
     ensures len { IfOk result (λ listed. vec_len listed ≡ nodes) }
 {
     let mut listed = vec![in alloc; false; nodes as usize]?;

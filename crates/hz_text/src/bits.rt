@@ -17,7 +17,8 @@ pub(crate) fn bits_of(
     nodes: u32,
 ) -> Result<Vec<Option<bool>>, Memory>
     requires { ArePairs nodes all.now }
-    ensures { IfOk result (λ bits. bits.items ≡ map (assigned_bit all.now) (range_with_len 0 nodes)) }
+    ensures { IfOk result
+        (λ bits. bits.items ≡ map (assigned_bit all.now) (range_with_len 0 nodes)) }
 {
     let mut bits = vec![in alloc; None; nodes as usize]?;
     let mut pairs = Vec::new(alloc);
@@ -39,7 +40,8 @@ pub(crate) fn read_pairs(all: &[Assigned], pairs: &mut Vec<(u32, bool)>) -> Resu
 
 // Adds the node and the bit of an assignment that has both.
 fn push_pair(pairs: &mut Vec<(u32, bool)>, assigned: &Assigned) -> Result<(), Memory>
-    ensures { OnOk result (pairs.new.items ≡ pairs.old.items ++ option_to_list (pair_of assigned.now)) }
+    ensures { OnOk result
+        (pairs.new.items ≡ pairs.old.items ++ option_to_list (pair_of assigned.now)) }
 {
     let (Some(node), Some(bit)) = (assigned.node, assigned.bit) else {
         return Ok(());

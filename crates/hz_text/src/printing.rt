@@ -13,7 +13,8 @@ use hz_write::Writer;
 // Gives a space, and the assignment of a bit to a node.
 fn write_assignment<K: Sink>(writer: &mut Writer<'_, K>, circuit: &Circuit, node: u32, bit: bool)
     requires { node < length circuit.now.names }
-    ensures { Writes K.output K.faults (assignment_text circuit.now (node, bit)) writer.old writer.new }
+    ensures { Writes K.output K.faults
+        (assignment_text circuit.now (node, bit)) writer.old writer.new }
 {
     writer.text(b" ");
     writer.text(circuit.name(node));
@@ -34,7 +35,8 @@ pub fn write_assignments<K: Sink>(
     pairs: &[(u32, bool)],
 )
     requires { All (λ pair. pair.0 < length circuit.now.names) pairs.now }
-    ensures { Writes K.output K.faults (flat_map (assignment_text circuit.now) pairs.now) writer.old writer.new }
+    ensures { Writes K.output K.faults
+        (flat_map (assignment_text circuit.now) pairs.now) writer.old writer.new }
 {
     for (node, bit) in pairs {
         write_assignment(writer, circuit, *node, *bit);
@@ -67,7 +69,8 @@ pub(crate) fn write_listed<K: Sink>(
 )
     requires circuit { IsCircuit circuit.now }
     requires nodes { length start.now ≤ length circuit.now.names }
-    ensures { Writes K.output K.faults (flat_map (assignment_text circuit.now) (listed_from 0 start.now)) writer.old writer.new }
+    ensures { Writes K.output K.faults
+        (flat_map (assignment_text circuit.now) (listed_from 0 start.now)) writer.old writer.new }
 {
     for node in 0..start.len() as u32 {
         if let Some(bit) = start[node as usize] {
@@ -80,7 +83,8 @@ pub(crate) fn write_listed<K: Sink>(
 fn write_all<K: Sink>(writer: &mut Writer<'_, K>, circuit: &Circuit, bits: &[bool])
     requires circuit { IsCircuit circuit.now }
     requires nodes { length bits.now ≤ length circuit.now.names }
-    ensures { Writes K.output K.faults (flat_map (assignment_text circuit.now) (all_listed bits.now)) writer.old writer.new }
+    ensures { Writes K.output K.faults
+        (flat_map (assignment_text circuit.now) (all_listed bits.now)) writer.old writer.new }
 {
     for node in 0..bits.len() as u32 {
         write_assignment(writer, circuit, node, bits[node as usize]);
@@ -97,7 +101,8 @@ pub fn write_bits<K: Sink>(
 )
     requires circuit { IsCircuit circuit.now }
     requires nodes { length bits.now ≤ length circuit.now.names }
-    ensures gave { Writes K.output K.faults (statement_text circuit.now keyword.now (all_listed bits.now)) writer.old writer.new }
+    ensures gave { Writes K.output K.faults
+        (statement_text circuit.now keyword.now (all_listed bits.now)) writer.old writer.new }
     ensures none_waits { NoneWaits writer.new }
 {
     writer.text(keyword);

@@ -7,8 +7,8 @@
 //! | `keyword` | the keywords with which they begin |
 //! | `variables` | the variables of a step |
 //! | `number` | decimal numbers |
-//! | `version` | the versions of the format |
-//! | `size` | the size of a network, as version 2 has it |
+//! | `version` | the formats, 1 and 2 |
+//! | `size` | the size of a network, as format 2 has it |
 //! | `order` | the order of the statements |
 //! | `rules` | the passes over the statements, one for each fault |
 //! | `build` | the run text of statements without a fault |

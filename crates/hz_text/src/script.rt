@@ -85,7 +85,8 @@ impl Script {
     pub fn add_change(&mut self, change: &[(u32, bool)]) -> Result<(), Memory>
         requires change { IsChange (length self.old.start) change.now }
         requires few { length self.old.changes < most_changes }
-        ensures ok { OnOk result (self.new ≡ record self.old { changes = self.old.changes ++ change.now ∷ [] }) }
+        ensures ok { OnOk result
+            (self.new ≡ record self.old { changes = self.old.changes ++ change.now ∷ [] }) }
         ensures err { OnErr result (self.new ≡ self.old) }
     {
         self.ends.reserve(1)?;

@@ -42,17 +42,24 @@ pub(crate) trait Text<'t>: Drop {
     // The statement of a line that begins with this token, and goes on with this rest.
     fn statement(&mut self, first: Token<'t>, rest: &'t [u8]) -> Result<Self::Held, StatementFault>
         ensures read { MatchResult result
-            (λ held. by_tokens (λ later. grammar (context self.old) (token_of first.entry ∷ later)) (tokens_of rest.now)
+            (λ held. by_tokens (λ later. grammar (context self.old) (token_of first.entry ∷ later))
+            (tokens_of rest.now)
             ≡ Some (stated held))
-            (λ why. IsUnread (by_tokens (λ later. grammar (context self.old) (token_of first.entry ∷ later))
+            (λ why. IsUnread
+            (by_tokens (λ later. grammar (context self.old) (token_of first.entry ∷ later))
             (tokens_of rest.now)) why) }
-        ensures below { IfOk result (λ held. AreBelow (node_count (context self.old)) ((rules (context self.old)).assigned (stated held))) }
+        ensures below { IfOk result
+            (λ held. AreBelow (node_count (context self.old))
+            ((rules (context self.old)).assigned (stated held))) }
         ensures same { context self.new ≡ context self.old };
 
     // The statement of a line in the commonest form, read without its tokens. `None` says nothing of the line.
     fn short(&self, line: &'t [u8]) -> Option<Self::Held>
-        ensures read { IfSome result (λ held. meaning_of (grammar (context self.now)) line.now ≡ Means (stated held)) }
-        ensures below { IfSome result (λ held. AreBelow (node_count (context self.now)) ((rules (context self.now)).assigned (stated held))) };
+        ensures read { IfSome result
+            (λ held. meaning_of (grammar (context self.now)) line.now ≡ Means (stated held)) }
+        ensures below { IfSome result
+            (λ held. AreBelow (node_count (context self.now))
+            ((rules (context self.now)).assigned (stated held))) };
 
     // The number of nodes.
     fn node_count(&self) -> u32
@@ -76,19 +83,24 @@ pub(crate) trait Text<'t>: Drop {
         alloc: Global,
         entries: &[Numbered<Self::Held>],
     ) -> Result<Option<u32>, Memory>
-        ensures { IfOk result (λ node. node ≡ (rules (context self.now)).missing (map (numbered_by stated) entries.now)) };
+        ensures { IfOk result
+            (λ node. node ≡ (rules (context self.now)).missing
+            (map (numbered_by stated) entries.now)) };
 
     // The line that breaks the order.
     fn first_out_of_order(&self, entries: &[Numbered<Self::Held>]) -> Option<u32>
-        ensures { result ≡ (rules (context self.now)).order (map (numbered_by stated) entries.now) };
+        ensures { result ≡ (rules (context self.now)).order
+            (map (numbered_by stated) entries.now) };
 
     // The line that passes a limit.
     fn line_beyond(&self, entries: &[Numbered<Self::Held>]) -> Option<u32>
-        ensures { result ≡ (rules (context self.now)).beyond (map (numbered_by stated) entries.now) };
+        ensures { result ≡ (rules (context self.now)).beyond
+            (map (numbered_by stated) entries.now) };
 
     // The first count of the network's size that the text has wrong.
     fn first_mismatch(&self, entries: &[Numbered<Self::Held>]) -> Option<Mismatch>
-        ensures { result ≡ (rules (context self.now)).mismatch (map (numbered_by stated) entries.now) };
+        ensures { result ≡ (rules (context self.now)).mismatch
+            (map (numbered_by stated) entries.now) };
 }
 
 // The lines of a text, as a grammar.
@@ -131,9 +143,14 @@ pub(crate) fn read_text<'t, T: Text<'t>>(
 ) -> Result<Vec<Numbered<T::Held>>, TextFault>
     requires { length text.now ≤ most_text_bytes }
     ensures checked { MatchResult result
-        (λ read. IsChecked (T.grammar (T.context reader)) (T.rules (T.context reader)) text.now (map (numbered_by T.stated) read.items))
-        (λ fault. IsFaultOrMemory (first_fault_of (T.grammar (T.context reader)) (T.rules (T.context reader)) text.now) fault) }
-    ensures below { IfOk result (λ read. All (λ entry. AreBelow (T.node_count (T.context reader)) ((T.rules (T.context reader)).assigned (T.stated entry.held))) read.items) }
+        (λ read. IsChecked (T.grammar (T.context reader)) (T.rules (T.context reader)) text.now
+        (map (numbered_by T.stated) read.items))
+        (λ fault. IsFaultOrMemory
+        (first_fault_of (T.grammar (T.context reader))
+        (T.rules (T.context reader)) text.now) fault) }
+    ensures below { IfOk result
+        (λ read. All (λ entry. AreBelow (T.node_count (T.context reader))
+        ((T.rules (T.context reader)).assigned (T.stated entry.held))) read.items) }
 {
     let mut lines = Lines { text: reader };
     let entries = read_statements(alloc, &mut lines, text)?;
@@ -147,10 +164,14 @@ fn check<'t, T: Text<'t>>(
     reader: &T,
     entries: &[Numbered<T::Held>],
 ) -> Result<(), TextFault>
-    requires { All (λ entry. AreBelow (T.node_count (T.context reader.now)) ((T.rules (T.context reader.now)).assigned (T.stated entry.held))) entries.now }
+    requires { All (λ entry. AreBelow (T.node_count (T.context reader.now))
+        ((T.rules (T.context reader.now)).assigned (T.stated entry.held))) entries.now }
     ensures { MatchResult result
-        (λ _. first_fault_in (T.rules (T.context reader.now)) (map (numbered_by T.stated) entries.now) ≡ None)
-        (λ fault. IsFaultOrMemory (first_fault_in (T.rules (T.context reader.now)) (map (numbered_by T.stated) entries.now)) fault) }
+        (λ _. first_fault_in (T.rules (T.context reader.now))
+        (map (numbered_by T.stated) entries.now) ≡ None)
+        (λ fault. IsFaultOrMemory
+        (first_fault_in (T.rules (T.context reader.now))
+        (map (numbered_by T.stated) entries.now)) fault) }
 {
     let unknown = first_unknown(reader, entries);
     refuse(unknown, |line| TextFault::Unknown { line })?;
@@ -177,7 +198,8 @@ fn check<'t, T: Text<'t>>(
 
 // The line of the first statement that names what is not there or may not be named.
 fn first_unknown<'t, T: Text<'t>>(reader: &T, entries: &[Numbered<T::Held>]) -> Option<u32>
-    ensures { result ≡ first_passing_line (T.rules (T.context reader.now)).unknown (map (numbered_by T.stated) entries.now) }
+    ensures { result ≡ first_passing_line (T.rules (T.context reader.now)).unknown
+        (map (numbered_by T.stated) entries.now) }
 {
     for entry in entries {
         if reader.is_unknown(&entry.held) {
@@ -193,8 +215,12 @@ fn first_twice<'t, T: Text<'t>>(
     reader: &T,
     entries: &[Numbered<T::Held>],
 ) -> Result<Option<u32>, Memory>
-    requires { All (λ entry. AreBelow (T.node_count (T.context reader.now)) ((T.rules (T.context reader.now)).assigned (T.stated entry.held))) entries.now }
-    ensures { IfOk result (λ line. line ≡ first_passing_line (λ statement. repeats_node ((T.rules (T.context reader.now)).assigned statement)) (map (numbered_by T.stated) entries.now)) }
+    requires { All (λ entry. AreBelow (T.node_count (T.context reader.now))
+        ((T.rules (T.context reader.now)).assigned (T.stated entry.held))) entries.now }
+    ensures { IfOk result
+        (λ line. line ≡ first_passing_line
+        (λ statement. repeats_node ((T.rules (T.context reader.now)).assigned statement))
+        (map (numbered_by T.stated) entries.now)) }
 {
     let mut marks = vec![in alloc; 0; reader.node_count() as usize]?;
     for (index, entry) in entries.iter().enumerate() {
@@ -208,7 +234,8 @@ fn first_twice<'t, T: Text<'t>>(
 
 // The line of the first statement that has a word that is to be a bit and is none.
 fn first_without_bit<'t, T: Text<'t>>(reader: &T, entries: &[Numbered<T::Held>]) -> Option<u32>
-    ensures { result ≡ first_passing_line (T.rules (T.context reader.now)).bitless (map (numbered_by T.stated) entries.now) }
+    ensures { result ≡ first_passing_line (T.rules (T.context reader.now)).bitless
+        (map (numbered_by T.stated) entries.now) }
 {
     for entry in entries {
         if reader.lacks_bit(&entry.held) {

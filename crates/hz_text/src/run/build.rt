@@ -25,7 +25,7 @@ use hz_core::{Circuit, Memory};
 use std::alloc::Global;
 use std::slice;
 
-// The run text of statements: the header, in version 2 with the size of the network, the start, the input, the runs and the
+// The run text of statements: the header, in format 2 with the size of the network, the start, the input, the runs and the
 // end.
 pub(crate) fn build_runs(
     alloc: Global,
@@ -35,7 +35,9 @@ pub(crate) fn build_runs(
     requires some { 2 ≤ length (after_header entries.now) }
     requires below { All (AssignsBelow (length circuit.now.names)) entries.now }
     requires clear { first_run_fault circuit.now (numbered_run_resolutions entries.now) ≡ None }
-    ensures { IfOk result (IsRunTextBy circuit.now (statements_without_lines (numbered_run_resolutions entries.now))) }
+    ensures { IfOk result
+        (IsRunTextBy circuit.now
+        (statements_without_lines (numbered_run_resolutions entries.now))) }
 {
     let states = after_header(entries);
     let [start, input, later @ ..] = states else {
@@ -47,7 +49,7 @@ pub(crate) fn build_runs(
     Ok(RunText::of(nodes, input, runs))
 }
 
-// The statements behind the header, and in version 2 behind the size of the network.
+// The statements behind the header, and in format 2 behind the size of the network.
 fn after_header<'h, 'a>(entries: &'h [RunEntry<'a>]) -> &'h [RunEntry<'a>]
     ensures { result.now ≡ after_header entries.now }
 {
@@ -74,7 +76,8 @@ fn after_first<'h, 'a>(entries: &'h [RunEntry<'a>]) -> &'h [RunEntry<'a>]
 // The bits that assignments give to that many nodes.
 fn read_bits(alloc: Global, all: &[Assigned], nodes: u32) -> Result<Vec<bool>, Memory>
     requires { IsWholeStart nodes all.now }
-    ensures { IfOk result (λ bits. map Some bits.items ≡ map (assigned_bit all.now) (range_with_len 0 nodes)) }
+    ensures { IfOk result
+        (λ bits. map Some bits.items ≡ map (assigned_bit all.now) (range_with_len 0 nodes)) }
 {
     let listed = bits_of(alloc, all, nodes)?;
     let mut bits = Vec::new(alloc);
@@ -85,8 +88,12 @@ fn read_bits(alloc: Global, all: &[Assigned], nodes: u32) -> Result<Vec<bool>, M
 // The runs that statements before the end are.
 fn read_runs(alloc: Global, entries: &[RunEntry]) -> Result<Vec<ToldRun>, Memory>
     requires ordered { runs_out_of_order Between (numbered_run_resolutions entries.now) ≡ None }
-    requires known { All (λ entry. list_any is_none (variables_in (run_resolution_of entry.held)) ≡ false) entries.now }
-    ensures { IfOk result (λ runs. statements_without_lines (numbered_run_resolutions entries.now) ≡ flat_map run_statements runs.items ++ End ∷ []) }
+    requires known { All
+        (λ entry. list_any is_none (variables_in (run_resolution_of entry.held))
+        ≡ false) entries.now }
+    ensures { IfOk result
+        (λ runs. statements_without_lines (numbered_run_resolutions entries.now)
+        ≡ flat_map run_statements runs.items ++ End ∷ []) }
 {
     let mut runs = Vec::new(alloc);
     let mut flips = Vec::new(alloc);
@@ -106,7 +113,8 @@ fn add_statement(
     held: &RunHeld,
     flips: &mut Vec<u32>,
 ) -> Result<(), Memory>
-    requires follows { IsSome (place_after (last_place runs.old.items) (run_resolution_of held.now)) }
+    requires follows { IsSome
+        (place_after (last_place runs.old.items) (run_resolution_of held.now)) }
     requires known { list_any is_none (variables_in (run_resolution_of held.now)) ≡ false }
     ensures { OnOk result (IsRunAdded runs.old.items (run_resolution_of held.now) runs.new.items) }
 {

@@ -24,7 +24,8 @@ fn are_digits(word: &[u8]) -> bool
 // The number that digits stand for, if it is not above the most.
 pub(crate) fn number_within(digits: &[u8], most: u32) -> Option<u32>
     requires { IsTrue (list_all is_digit digits.now) }
-    ensures { MatchOption result (most < number_by digits.now) (λ number. number ≡ number_by digits.now) }
+    ensures { MatchOption result (most < number_by digits.now)
+        (λ number. number ≡ number_by digits.now) }
 {
     let mut number: u64 = 0;
     for digit in digits {

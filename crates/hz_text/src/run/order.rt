@@ -142,7 +142,7 @@ fn place_after_cycle(place: Place) -> Option<Place>
     }
 }
 
-// The version of a text whose first statement this is.
+// The format of a text whose first statement this is.
 pub(crate) fn version_in(held: &RunHeld) -> Option<Version>
     ensures { result ≡ version_in (run_resolution_of held.now) }
 {

@@ -24,7 +24,7 @@ use hz_write::Piece::{Number, Text};
 use hz_write::Writer;
 use std::alloc::Global;
 
-/// Prints a run text of a network, in version 2: the version, the size of the network, the start in the order of the nodes,
+/// Prints a run text of a network, in format 2: its number, the size of the network, the start in the order of the nodes,
 /// the input in the order of the inputs, then each run, and the end. Keywords are in small letters, words are separated by one space, and each line ends with a
 /// line feed. The wire into the second pin of a gate `g` is written `g(2)`. If the text has at most 16,777,216 bytes,
 /// [`crate::read_run`] gives the run text back.
@@ -43,11 +43,12 @@ pub fn print_run(alloc: Global, net: &Net, text: &RunText) -> Result<Vec<u8>, Me
     }
 }
 
-/// Writes the lines of a run text, as [`print_run`] prints them. They are of version 2, whichever they were read from.
+/// Writes the lines of a run text, as [`print_run`] prints them. They are in format 2, whichever they were read in.
 pub fn write_run_text<K: Sink>(out: &mut K, net: &Net, text: &RunText) -> Result<(), PutFault>
     requires { IsRunTextFor net.now text.now }
     ensures circuit { IsCircuit net.now }
-    ensures wrote { Wrote K.output K.faults (run_text_printed net.now text.now) out.old out.new result }
+    ensures wrote { Wrote K.output K.faults
+        (run_text_printed net.now text.now) out.old out.new result }
 {
     let mut writer = Writer::new(out);
     write_states(&mut writer, net.circuit(), text.nodes(), text.input());
@@ -56,7 +57,7 @@ pub fn write_run_text<K: Sink>(out: &mut K, net: &Net, text: &RunText) -> Result
     writer.finish()
 }
 
-/// Gives the lines before the runs of a run text: the version, the size of the network, the bit of each node at the start, and
+/// Gives the lines before the runs of a run text: the format, the size of the network, the bit of each node at the start, and
 /// that of each input.
 #[tactic(auto, using(hz_write::proofs::Writers::writes_then), unfolding(crate::specs::RunPrinted::states_text))]
 pub fn write_states<K: Sink>(
@@ -77,7 +78,7 @@ pub fn write_states<K: Sink>(
     write_bits(writer, circuit, b"input", input);
 }
 
-/// Gives the first lines of a run text: the version, and the size of the network.
+/// Gives the first lines of a run text: the format, and the size of the network.
 #[tactic(auto, using(hz_write::proofs::Writers::writes_then), unfolding(crate::specs::RunPrinted::version_text))]
 pub fn write_version<K: Sink>(writer: &mut Writer<'_, K>, circuit: &Circuit)
     requires { IsCircuit circuit.now }
@@ -115,9 +116,11 @@ pub fn write_end<K: Sink>(writer: &mut Writer<'_, K>)
 
 // Gives the lines of the runs.
 fn write_all<K: Sink>(writer: &mut Writer<'_, K>, net: &Net, text: &RunText)
-    requires variables { All (λ flips. All (IsVariable net.now) flips) (all_steps text.now.runs) }
+    requires variables { All (λ flips. All (IsVariable net.now) flips)
+        (all_steps text.now.runs) }
     requires none_waits { NoneWaits writer.old }
-    ensures gave { Writes K.output K.faults (flat_map (run_text net.now) text.now.runs) writer.old writer.new }
+    ensures gave { Writes K.output K.faults
+        (flat_map (run_text net.now) text.now.runs) writer.old writer.new }
     ensures none_waits { NoneWaits writer.new }
 {
     for number in 0..text.runs() {
@@ -128,8 +131,10 @@ fn write_all<K: Sink>(writer: &mut Writer<'_, K>, net: &Net, text: &RunText)
 /// Gives the lines of a run: its lead, and its cycle, if it has one.
 #[tactic(auto, using(hz_write::proofs::Writers::writes_then), unfolding(crate::specs::RunPrinted::run_text))]
 pub fn write_run<K: Sink>(writer: &mut Writer<'_, K>, net: &Net, lead: &Run, cycle: Option<&Run>)
-    requires lead { All (λ flips. All (IsVariable net.now) flips) lead.now.steps }
-    requires cycle { All (λ flips. All (IsVariable net.now) flips) (cycle_steps (option_map (λ run. run.now.steps) cycle)) }
+    requires lead { All
+        (λ flips. All (IsVariable net.now) flips) lead.now.steps }
+    requires cycle { All (λ flips. All (IsVariable net.now) flips)
+        (cycle_steps (option_map (λ run. run.now.steps) cycle)) }
     ensures gave { Writes K.output K.faults
         (run_text net.now (record { lead = lead.now.steps; cycle = option_map (λ run. run.now.steps) cycle.entry })) writer.old writer.new }
     ensures none_waits { NoneWaits writer.new }
@@ -142,7 +147,8 @@ pub fn write_run<K: Sink>(writer: &mut Writer<'_, K>, net: &Net, lead: &Run, cyc
 // Gives the lines of a cycle, if there is one.
 #[tactic(auto, using(hz_write::proofs::Writers::writes_then, hz_write::proofs::Writers::writes_nothing))]
 fn write_cycle<K: Sink>(writer: &mut Writer<'_, K>, net: &Net, cycle: Option<&Run>)
-    requires variables { All (λ flips. All (IsVariable net.now) flips) (cycle_steps (option_map (λ run. run.now.steps) cycle)) }
+    requires variables { All (λ flips. All (IsVariable net.now) flips)
+        (cycle_steps (option_map (λ run. run.now.steps) cycle)) }
     requires none_waits { NoneWaits writer.old }
     ensures gave { Writes K.output K.faults
         (cycle_text net.now (option_map (λ run. run.now.steps) cycle.entry)) writer.old writer.new }
@@ -158,9 +164,11 @@ fn write_cycle<K: Sink>(writer: &mut Writer<'_, K>, net: &Net, cycle: Option<&Ru
 // Gives a line for each step.
 #[tactic(auto, using(hz_write::proofs::Writers::writes_then, hz_write::proofs::Writers::writes_nothing))]
 fn write_steps<K: Sink>(writer: &mut Writer<'_, K>, net: &Net, run: &Run)
-    requires variables { All (λ flips. All (IsVariable net.now) flips) run.now.steps }
+    requires variables { All
+        (λ flips. All (IsVariable net.now) flips) run.now.steps }
     requires none_waits { NoneWaits writer.old }
-    ensures gave { Writes K.output K.faults (flat_map (step_text net.now) run.now.steps) writer.old writer.new }
+    ensures gave { Writes K.output K.faults
+        (flat_map (step_text net.now) run.now.steps) writer.old writer.new }
     ensures none_waits { NoneWaits writer.new }
 {
     for number in 0..run.steps() {
@@ -184,7 +192,8 @@ fn write_step<K: Sink>(writer: &mut Writer<'_, K>, net: &Net, flips: &[u32])
 #[tactic(auto, using(hz_write::proofs::Writers::writes_then, hz_write::proofs::Writers::writes_nothing))]
 fn write_variables<K: Sink>(writer: &mut Writer<'_, K>, net: &Net, flips: &[u32])
     requires { All (IsVariable net.now) flips.now }
-    ensures { Writes K.output K.faults (flat_map (spaced_word net.now) flips.now) writer.old writer.new }
+    ensures { Writes K.output K.faults
+        (flat_map (spaced_word net.now) flips.now) writer.old writer.new }
 {
     for var in flips {
         writer.text(b" ");

@@ -15,7 +15,7 @@ use bumpalo::Bump;
 use hz_net::Net;
 use std::alloc::Global;
 
-/// Reads a run text of a network, version 1 or 2: the line `runs 1`, or the lines `runs 2` and `net` with the numbers of the
+/// Reads a run text of a network, in format 1 or 2: the line `runs 1`, or the lines `runs 2` and `net` with the numbers of the
 /// network's inputs, gates and wires; the lines `start` with a bit for each node and `input` with a bit for each input; runs;
 /// and `end`. A run is the line `run`, lines `step` with variables, and at most one line `cycle` with
 /// further steps. A wire is written as its gate and its pin, counted from 1, as in `g(2)`. Keywords may be in any letter

@@ -58,7 +58,8 @@ pub(crate) fn least_missing_node(
     entries: &[RunEntry],
     circuit: &Circuit,
 ) -> Result<Option<u32>, Memory>
-    ensures { IfOk result (λ node. node ≡ least_missing_node circuit.now (numbered_run_resolutions entries.now)) }
+    ensures { IfOk result
+        (λ node. node ≡ least_missing_node circuit.now (numbered_run_resolutions entries.now)) }
 {
     let start = least_left_out(alloc, first_start(entries), circuit.nodes())?;
     let input = least_left_out(alloc, first_input(entries), circuit.inputs())?;
@@ -71,7 +72,8 @@ fn least_left_out(
     assigned: Option<&[Assigned]>,
     nodes: u32,
 ) -> Result<Option<u32>, Memory>
-    ensures { IfOk result (λ node. node ≡ least_left_out (option_map (λ list. list.now) assigned.entry) nodes) }
+    ensures { IfOk result
+        (λ node. node ≡ least_left_out (option_map (λ list. list.now) assigned.entry) nodes) }
 {
     match assigned {
         None => Ok(None),
@@ -81,7 +83,8 @@ fn least_left_out(
 
 // What the first start assigns, if there is one.
 fn first_start<'h>(entries: &'h [RunEntry]) -> Option<&'h [Assigned]>
-    ensures { option_map (λ list. list.now) result ≡ first_start (numbered_run_resolutions entries.now) }
+    ensures { option_map (λ list. list.now) result ≡ first_start
+        (numbered_run_resolutions entries.now) }
 {
     for entry in entries {
         if is_start_line(&entry.held) {
@@ -93,7 +96,8 @@ fn first_start<'h>(entries: &'h [RunEntry]) -> Option<&'h [Assigned]>
 
 // What the first input line assigns, if there is one.
 fn first_input<'h>(entries: &'h [RunEntry]) -> Option<&'h [Assigned]>
-    ensures { option_map (λ list. list.now) result ≡ first_input (numbered_run_resolutions entries.now) }
+    ensures { option_map (λ list. list.now) result ≡ first_input
+        (numbered_run_resolutions entries.now) }
 {
     for entry in entries {
         if is_input_line(&entry.held) {
@@ -119,7 +123,7 @@ pub(crate) fn line_beyond(entries: &[RunEntry]) -> Option<u32>
     None
 }
 
-// The first count of the network's size that a text of version 2 tells wrongly.
+// The first count of the network's size that a text in format 2 tells wrongly.
 pub(crate) fn first_mismatch(entries: &[RunEntry], real: Size) -> Option<Mismatch>
     ensures { result ≡ first_mismatch real (numbered_run_resolutions entries.now) }
 {
@@ -134,7 +138,7 @@ pub(crate) fn first_mismatch(entries: &[RunEntry], real: Size) -> Option<Mismatc
     Some(Mismatch { line, told, real })
 }
 
-// Whether the statement is the header of version 2.
+// Whether the statement is the header of format 2.
 fn is_second(held: &RunHeld) -> bool
     ensures { result ≡ is_second (run_resolution_of held.now) }
 {

@@ -42,8 +42,10 @@ pub(crate) fn read_size(line: &[u8]) -> Result<Size, StatementFault>
 // The size with the counts that these words are.
 fn read_counts(inputs: &[u8], gates: &[u8], wires: &[u8]) -> Result<Size, StatementFault>
     ensures { MatchResult result
-        (λ size. size_with (count_of inputs.now) (count_of gates.now) (count_of wires.now) ≡ Some size)
-        (λ why. IsUnread (size_with (count_of inputs.now) (count_of gates.now) (count_of wires.now)) why) }
+        (λ size. size_with (count_of inputs.now) (count_of gates.now) (count_of wires.now)
+        ≡ Some size)
+        (λ why. IsUnread
+        (size_with (count_of inputs.now) (count_of gates.now) (count_of wires.now)) why) }
 {
     match (read_count(inputs), read_count(gates), read_count(wires)) {
         (Some(inputs), Some(gates), Some(wires)) => Ok(Size {

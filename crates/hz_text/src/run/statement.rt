@@ -153,11 +153,13 @@ fn read_statement_of<'a>(
     variables: &mut Vec<Option<u32>>,
 ) -> Result<RunHeld<'a>, StatementFault>
     ensures read { MatchResult result
-        (λ held. by_tokens (resolve_run_keyword net.now (Some (run_keyword_by keyword))) (tokens_of rest.now)
+        (λ held. by_tokens (resolve_run_keyword net.now (Some (run_keyword_by keyword)))
+        (tokens_of rest.now)
         ≡ Some (run_resolution_of held))
         (λ why. IsUnread (by_tokens (resolve_run_keyword net.now (Some (run_keyword_by keyword)))
         (tokens_of rest.now)) why) }
-    ensures below { IfOk result (λ held. AreBelow (length net.now.names) (assignments_in (run_resolution_of held))) }
+    ensures below { IfOk result
+        (λ held. AreBelow (length net.now.names) (assignments_in (run_resolution_of held))) }
 {
     match keyword {
         RunKeyword::Runs => Ok(RunHeld::Header(read_version(rest)?)),
@@ -182,9 +184,12 @@ fn read_step<'a>(
     variables: &mut Vec<Option<u32>>,
 ) -> Result<RunHeld<'a>, StatementFault>
     ensures read { MatchResult result
-        (λ held. by_tokens (resolve_run_keyword net.now (Some StepWord)) (tokens_of rest.now) ≡ Some (run_resolution_of held))
-        (λ why. IsUnread (by_tokens (resolve_run_keyword net.now (Some StepWord)) (tokens_of rest.now)) why) }
-    ensures below { IfOk result (λ held. AreBelow (length net.now.names) (assignments_in (run_resolution_of held))) }
+        (λ held. by_tokens (resolve_run_keyword net.now (Some StepWord)) (tokens_of rest.now) ≡ Some
+        (run_resolution_of held))
+        (λ why. IsUnread
+        (by_tokens (resolve_run_keyword net.now (Some StepWord)) (tokens_of rest.now)) why) }
+    ensures below { IfOk result
+        (λ held. AreBelow (length net.now.names) (assignments_in (run_resolution_of held))) }
 {
     read_variables(net, rest, variables)?;
     if let [variable] = variables.as_slice() {
@@ -207,7 +212,9 @@ fn boxed_assignments(
         (λ why. IsUnread (by_tokens (assigned_by circuit.now) (tokens_of line.now)) why) }
     ensures below { IfOk result (λ read. AreBelow (length circuit.now.names) read.value.items) }
 {
-    let read = read_assignments(alloc, circuit, line)?;
+    let mut read = read_assignments(alloc, circuit, line)?;
+    // A text of such lines alone may have a million and a half of them.
+    read.shrink_to_fit();
     Ok(Box::new(alloc, read)?)
 }
 

@@ -59,7 +59,8 @@ impl ToldRun {
 
 // A cycle on the heap, if there is one.
 fn boxed(alloc: Global, cycle: Option<Run>) -> Result<Option<Box<Run>>, Memory>
-    ensures { IfOk result (λ boxed. option_map (λ run. run.value.steps) boxed ≡ option_map (λ run. run.steps) cycle) }
+    ensures { IfOk result
+        (λ boxed. option_map (λ run. run.value.steps) boxed ≡ option_map (λ run. run.steps) cycle) }
 {
     let Some(cycle) = cycle else {
         return Ok(None);
@@ -96,7 +97,8 @@ impl Model for RunText {
 impl RunText {
     /// A run text without runs: the bits of the nodes, in their order, and those of the inputs.
     pub fn new(alloc: Global, nodes: &[bool], input: &[bool]) -> Result<RunText, Memory>
-        ensures { IfOk result (λ text. text ≡ record { nodes = nodes.now; input = input.now; runs = [] }) }
+        ensures { IfOk result
+            (λ text. text ≡ record { nodes = nodes.now; input = input.now; runs = [] }) }
     {
         let nodes = Vec::from_slice(alloc, nodes)?;
         let input = Vec::from_slice(alloc, input)?;
@@ -112,7 +114,11 @@ impl RunText {
 
     /// Adds a run after the last one. It takes both parts; if memory runs out they are dropped.
     pub fn add_run(&mut self, lead: Run, cycle: Option<Run>) -> Result<(), Memory>
-        ensures ok { OnOk result (self.new ≡ record self.old { runs = self.old.runs ++ record { lead = lead.steps; cycle = option_map (λ run. run.steps) cycle } ∷ [] }) }
+        ensures ok { OnOk result
+            (self.new ≡ record self.old {
+              runs = self.old.runs
+                  ++ record { lead = lead.steps; cycle = option_map (λ run. run.steps) cycle } ∷ [];
+            }) }
         ensures err { OnErr result (self.new ≡ self.old) }
     {
         let cycle = boxed(*self.runs.allocator(), cycle)?;
@@ -144,7 +150,8 @@ impl RunText {
     /// The steps of a run up to its cycle. Runs are numbered from 0.
     pub fn lead(&self, number: usize) -> &Run
         requires { number < length self.now.runs }
-        ensures { result.now.steps ≡ (slice_index_or self.now.runs number (record { lead = []; cycle = None })).lead }
+        ensures { result.now.steps ≡
+            (slice_index_or self.now.runs number (record { lead = []; cycle = None })).lead }
     {
         let run = &self.runs[number];
         &run.lead
@@ -153,7 +160,8 @@ impl RunText {
     /// The steps of a run's cycle, if it has one.
     pub fn cycle(&self, number: usize) -> Option<&Run>
         requires { number < length self.now.runs }
-        ensures { option_map (λ run. run.now.steps) result ≡ (slice_index_or self.now.runs number (record { lead = []; cycle = None })).cycle }
+        ensures { option_map (λ run. run.now.steps) result ≡
+            (slice_index_or self.now.runs number (record { lead = []; cycle = None })).cycle }
     {
         let run = &self.runs[number];
         match &run.cycle {

@@ -74,7 +74,8 @@ fn pin_after<'a>(line: &'a [u8]) -> PinAfter<'a>
 
 // The pin whose opening sign stands before this line.
 fn pin_within<'a>(line: &'a [u8]) -> PinAfter<'a>
-    ensures { IsPinAfter (length line.now) (with_token (PunctuationOf Open) (tokens_of line.now)) result }
+    ensures { IsPinAfter (length line.now)
+        (with_token (PunctuationOf Open) (tokens_of line.now)) result }
 {
     let Some((number, after)) = first_word(line) else {
         return PinAfter::Malformed;

@@ -14,7 +14,7 @@ pub(crate) enum Version {
     Two,
 }
 
-// The version that the tokens of a line are.
+// The format whose number the tokens of a line are.
 pub(crate) fn read_version(line: &[u8]) -> Result<Version, StatementFault>
     ensures { MatchResult result
         (λ version. by_tokens version_of (tokens_of line.now) ≡ Some version)

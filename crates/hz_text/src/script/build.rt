@@ -38,7 +38,8 @@ fn add_changes(
 ) -> Result<(), Memory>
     requires none { script.old.changes ≡ [] }
     requires few { length entries.now ≤ most_changes }
-    requires sound { All (λ entry. IsSound (length script.old.start) (resolution_of entry.held)) entries.now }
+    requires sound { All
+        (λ entry. IsSound (length script.old.start) (resolution_of entry.held)) entries.now }
     ensures start { OnOk result (script.new.start ≡ script.old.start) }
     ensures changes { OnOk result
         (map (map assignment_to) script.new.changes ≡ map (λ numbered. numbered.statement.assigned) (numbered_resolutions entries.now)) }

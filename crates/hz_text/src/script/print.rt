@@ -38,7 +38,8 @@ pub fn print_script(alloc: Global, circuit: &Circuit, script: &Script) -> Result
 fn write_script<K: Sink>(out: &mut K, circuit: &Circuit, script: &Script) -> Result<(), PutFault>
     requires { IsScriptFor circuit.now script.now }
     ensures circuit { IsCircuit circuit.now }
-    ensures wrote { Wrote K.output K.faults (script_text circuit.now script.now) out.old out.new result }
+    ensures wrote { Wrote K.output K.faults
+        (script_text circuit.now script.now) out.old out.new result }
 {
     let _nodes = circuit.nodes();
     let mut writer = Writer::new(out);

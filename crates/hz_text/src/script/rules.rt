@@ -28,7 +28,8 @@ pub(crate) fn least_missing(
     entries: &[Entry],
     primary_inputs: u32,
 ) -> Result<Option<u32>, Memory>
-    ensures { IfOk result (λ missing. missing ≡ least_missing primary_inputs (numbered_resolutions entries.now)) }
+    ensures { IfOk result
+        (λ missing. missing ≡ least_missing primary_inputs (numbered_resolutions entries.now)) }
 {
     let [first, ..] = entries else {
         return Ok(None);
