@@ -116,8 +116,7 @@ pub fn write_end<K: Sink>(writer: &mut Writer<'_, K>)
 
 // Gives the lines of the runs.
 fn write_all<K: Sink>(writer: &mut Writer<'_, K>, net: &Net, text: &RunText)
-    requires variables { All (λ flips. All (IsVariable net.now) flips)
-        (all_steps text.now.runs) }
+    requires variables { All (λ flips. All (IsVariable net.now) flips) (all_steps text.now.runs) }
     requires none_waits { NoneWaits writer.old }
     ensures gave { Writes K.output K.faults
         (flat_map (run_text net.now) text.now.runs) writer.old writer.new }
@@ -131,8 +130,7 @@ fn write_all<K: Sink>(writer: &mut Writer<'_, K>, net: &Net, text: &RunText)
 /// Gives the lines of a run: its lead, and its cycle, if it has one.
 #[tactic(auto, using(hz_write::proofs::Writers::writes_then), unfolding(crate::specs::RunPrinted::run_text))]
 pub fn write_run<K: Sink>(writer: &mut Writer<'_, K>, net: &Net, lead: &Run, cycle: Option<&Run>)
-    requires lead { All
-        (λ flips. All (IsVariable net.now) flips) lead.now.steps }
+    requires lead { All (λ flips. All (IsVariable net.now) flips) lead.now.steps }
     requires cycle { All (λ flips. All (IsVariable net.now) flips)
         (cycle_steps (option_map (λ run. run.now.steps) cycle)) }
     ensures gave { Writes K.output K.faults
@@ -164,8 +162,7 @@ fn write_cycle<K: Sink>(writer: &mut Writer<'_, K>, net: &Net, cycle: Option<&Ru
 // Gives a line for each step.
 #[tactic(auto, using(hz_write::proofs::Writers::writes_then, hz_write::proofs::Writers::writes_nothing))]
 fn write_steps<K: Sink>(writer: &mut Writer<'_, K>, net: &Net, run: &Run)
-    requires variables { All
-        (λ flips. All (IsVariable net.now) flips) run.now.steps }
+    requires variables { All (λ flips. All (IsVariable net.now) flips) run.now.steps }
     requires none_waits { NoneWaits writer.old }
     ensures gave { Writes K.output K.faults
         (flat_map (step_text net.now) run.now.steps) writer.old writer.new }
