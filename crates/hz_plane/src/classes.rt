@@ -27,9 +27,7 @@ pub(crate) fn place_by_class(
     ensures few { OnOk result
         (length order.new.items ≤ length order.old.items + length net.now.names) }
 {
-    let Ok(mut waits) = vec![in alloc; 0; net.len() as usize] else {
-        return Err(Memory);
-    };
+    let mut waits = vec![in alloc; 0; net.len() as usize]?;
     let mut ready = no_ready(alloc)?;
     let (waits, ready) = (waits.as_mut_slice(), ready.as_mut_slice());
     file_first(net, waits, ready)?;
@@ -80,9 +78,7 @@ fn no_ready(alloc: Global) -> Result<Vec<Vec<u32>>, Memory>
 {
     let mut ready = Vec::new(alloc);
     for _class in 0..CLASSES {
-        let Ok(()) = ready.push(Vec::new(alloc)) else {
-            return Err(Memory);
-        };
+        ready.push(Vec::new(alloc))?;
     }
     Ok(ready)
 }
@@ -167,9 +163,7 @@ fn file(net: &Net, gate: u32, ready: &mut [Vec<u32>]) -> Result<(), Memory>
     requires ready { length ready.old ≡ 24 }
 {
     let list = &mut ready[class_of(net, gate)];
-    let Ok(()) = list.push(gate) else {
-        return Err(Memory);
-    };
+    list.push(gate)?;
     Ok(())
 }
 

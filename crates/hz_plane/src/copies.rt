@@ -14,14 +14,10 @@ pub(crate) fn list_kinds(alloc: Global, net: &Net, order: &[u32]) -> Result<Vec<
     requires { All (IsGateNumber net.now) order.now }
     ensures { IfOk result (λ kinds. kinds.items ≡ kinds_at net.now order.now) }
 {
-    let Ok(mut kinds) = Vec::with_capacity(alloc, order.len()) else {
-        return Err(Memory);
-    };
+    let mut kinds = Vec::with_capacity(alloc, order.len())?;
     for place in 0..order.len() {
         let kind = net.circuit().kind(order[place]);
-        let Ok(()) = kinds.push(kind) else {
-            return Err(Memory);
-        };
+        kinds.push(kind)?;
     }
     Ok(kinds)
 }
@@ -41,14 +37,10 @@ fn all_pins(alloc: Global, net: &Net, order: &[u32]) -> Result<Vec<SmallVec<u32,
     ensures { IfOk result
         (λ lists. map (λ list. list.items) lists.items ≡ pins_at net.now order.now) }
 {
-    let Ok(mut lists) = Vec::with_capacity(alloc, order.len()) else {
-        return Err(Memory);
-    };
+    let mut lists = Vec::with_capacity(alloc, order.len())?;
     for place in 0..order.len() {
         let list = copy_of(alloc, net.circuit().sources(order[place]))?;
-        let Ok(()) = lists.push(list) else {
-            return Err(Memory);
-        };
+        lists.push(list)?;
     }
     Ok(lists)
 }
@@ -60,9 +52,7 @@ pub(crate) fn copy_of(alloc: Global, numbers: &[u32]) -> Result<SmallVec<u32, 4>
 {
     let mut list = SmallVec::new(alloc);
     for number in numbers {
-        let Ok(()) = list.push(*number) else {
-            return Err(Memory);
-        };
+        list.push(*number)?;
     }
     Ok(list)
 }

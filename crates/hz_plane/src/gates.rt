@@ -48,12 +48,8 @@ impl Gates {
                 kind: circuit.kind(gate),
                 pins: pins.len() as u32,
             };
-            let Ok(()) = shapes.push(shape) else {
-                return Err(Memory);
-            };
-            let Ok(()) = sources.extend_from_slice(pins) else {
-                return Err(Memory);
-            };
+            shapes.push(shape)?;
+            sources.extend_from_slice(pins)?;
         }
         Ok(Gates { shapes, sources })
     }

@@ -32,20 +32,14 @@ impl Lists {
     pub(crate) fn of(alloc: Global, lists: &[SmallVec<u32, 4>]) -> Result<Lists, Memory>
         ensures { IfOk result (λ made. made ≡ map (λ list. list.items) lists.now) }
     {
-        let Ok(mut ends) = Vec::with_capacity(alloc, lists.len()) else {
-            return Err(Memory);
-        };
+        let mut ends = Vec::with_capacity(alloc, lists.len())?;
         let mut numbers = Vec::new(alloc);
         for list in lists {
-            let Ok(()) = numbers.extend_from_slice(list.as_slice()) else {
-                return Err(Memory);
-            };
+            numbers.extend_from_slice(list.as_slice())?;
             if numbers.len() > u32::MAX as usize {
                 return Err(Memory);
             }
-            let Ok(()) = ends.push(numbers.len() as u32) else {
-                return Err(Memory);
-            };
+            ends.push(numbers.len() as u32)?;
         }
         Ok(Lists { ends, numbers })
     }

@@ -41,9 +41,7 @@ impl Loads {
             (λ loads. loads
             ≡ record { inputs = inputs; nodes = nodes; lanes = replicate 512 None }) }
     {
-        let Ok(planes) = vec![in alloc; [0; 8]; inputs as usize] else {
-            return Err(Memory);
-        };
+        let planes = vec![in alloc; [0; 8]; inputs as usize]?;
         Ok(Loads {
             loaded: [0; 8],
             inputs: planes,
@@ -240,13 +238,9 @@ fn no_listings(alloc: Global, nodes: u32) -> Result<Vec<Listing>, Memory>
     ensures { IfOk result
         (λ listings. (lane : ℕ) → lane_listed listings.items lane ≡ replicate nodes None) }
 {
-    let Ok(mut listings) = Vec::with_capacity(alloc, nodes as usize) else {
-        return Err(Memory);
-    };
+    let mut listings = Vec::with_capacity(alloc, nodes as usize)?;
     for _node in 0..nodes {
-        let Ok(()) = listings.push(Listing::none()) else {
-            return Err(Memory);
-        };
+        listings.push(Listing::none())?;
     }
     Ok(listings)
 }

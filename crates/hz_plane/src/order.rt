@@ -15,9 +15,7 @@ pub(crate) fn order_gates(alloc: Global, net: &Net) -> Result<Vec<u32>, Memory>
 {
     let circuit = net.circuit();
     let _variables = net.len();
-    let Ok(mut placed) = vec![in alloc; false; circuit.nodes() as usize] else {
-        return Err(Memory);
-    };
+    let mut placed = vec![in alloc; false; circuit.nodes() as usize]?;
     let mut order = Vec::new(alloc);
     place_by_class(alloc, net, placed.as_mut_slice(), &mut order)?;
     if order.len() < (circuit.nodes() - circuit.inputs()) as usize {
@@ -34,12 +32,8 @@ fn order_by_search(alloc: Global, net: &Net) -> Result<Vec<u32>, Memory>
 {
     let nodes = net.circuit().nodes() as usize;
     let _variables = net.len();
-    let Ok(mut seen) = vec![in alloc; false; nodes] else {
-        return Err(Memory);
-    };
-    let Ok(mut placed) = vec![in alloc; false; nodes] else {
-        return Err(Memory);
-    };
+    let mut seen = vec![in alloc; false; nodes]?;
+    let mut placed = vec![in alloc; false; nodes]?;
     let mut stack = Vec::new(alloc);
     let mut order = Vec::new(alloc);
     depth_first(
@@ -60,9 +54,7 @@ pub(crate) fn place(gate: u32, placed: &mut [bool], order: &mut Vec<u32>) -> Res
     ensures order { OnOk result (order.new.items ≡ order.old.items ++ gate ∷ []) }
 {
     placed[gate as usize] = true;
-    let Ok(()) = order.push(gate) else {
-        return Err(Memory);
-    };
+    order.push(gate)?;
     Ok(())
 }
 
@@ -131,9 +123,7 @@ fn open(gate: u32, seen: &mut [bool], stack: &mut Vec<(u32, u32)>) -> Result<(),
         return Ok(());
     }
     seen[gate as usize] = true;
-    let Ok(()) = stack.push((gate, 0)) else {
-        return Err(Memory);
-    };
+    stack.push((gate, 0))?;
     Ok(())
 }
 
@@ -160,9 +150,7 @@ fn turn(
     let sources = circuit.sources(gate);
     if (pin as usize) < sources.len() {
         let source = sources[pin as usize];
-        let Ok(()) = stack.push((gate, pin + 1)) else {
-            return Err(Memory);
-        };
+        stack.push((gate, pin + 1))?;
         if source >= circuit.inputs() {
             open(source, seen, stack)?;
         }

@@ -84,7 +84,8 @@ fn list_bits(count: usize, listings: &[Listing], values: &mut [Pair])
     requires values { count ≤ length values.old }
     ensures known { (node : ℕ) → node < count → IsKnownPair (pair_at values.new node) }
     ensures lanes { (node lane : ℕ) (bit : Bool) → node < count → lane < 512
-        → listed_in (slice_index_or listings.now node (record { zeros = []; ones = [] })) lane ≡ Some bit
+        → listed_in (slice_index_or listings.now node (record { zeros = []; ones = [] })) lane
+        ≡ Some bit
         → HasValue (pair_at values.new node) lane (tri_of bit) }
 {
     for node in 0..count {

@@ -79,12 +79,8 @@ impl Planes {
         let schedule = Schedule::of(alloc, net)?;
         let loads = Loads::new(alloc, circuit.inputs(), circuit.nodes())?;
         let values = unknown_values(alloc, circuit.nodes())?;
-        let Ok(marks) = vec![in alloc; 0; schedule.order.len() / 64 + 1] else {
-            return Err(Memory);
-        };
-        let Ok(faults) = vec![in alloc; None; 512] else {
-            return Err(Memory);
-        };
+        let marks = vec![in alloc; 0; schedule.order.len() / 64 + 1]?;
+        let faults = vec![in alloc; None; 512]?;
         Ok(Planes {
             stage: Stage::Loading,
             settles: 0,
@@ -266,11 +262,15 @@ impl Planes {
     /// The values of a variable in all lanes at once: in each lane that is loaded what `get` says of it.
     pub fn values(&self, var: u32) -> LaneValues
         requires { var < variables_of self.now }
-        ensures lane { (netlist : Netlist) (loaded : Loaded) (lane : ℕ) → IsCircuit netlist → IsWhole netlist
-            → AreOf netlist self.now → lane < 512 → slice_get self.now.lanes lane ≡ Some (Some loaded)
+        ensures lane { (netlist : Netlist) (loaded : Loaded) (lane : ℕ) → IsCircuit netlist
+            → IsWhole netlist
+            → AreOf netlist self.now → lane < 512 → slice_get self.now.lanes lane
+            ≡ Some (Some loaded)
             → IsLaneValue self.now.stage netlist loaded var (value_in result lane) }
-        ensures filled { (netlist : Netlist) (loaded : Loaded) (lane : ℕ) → IsCircuit netlist → IsWhole netlist
-            → AreOf netlist self.now → lane < 512 → slice_get self.now.lanes lane ≡ Some (Some loaded)
+        ensures filled { (netlist : Netlist) (loaded : Loaded) (lane : ℕ) → IsCircuit netlist
+            → IsWhole netlist
+            → AreOf netlist self.now → lane < 512 → slice_get self.now.lanes lane
+            ≡ Some (Some loaded)
             → IsFilledValue self.now.stage netlist loaded var (value_in result lane) }
         ensures loading { self.now.stage ≡ Loading
             → (lane : ℕ) → lane < 512 → value_in result lane ≡ Unknown }
@@ -318,12 +318,18 @@ impl Planes {
     #[inline(always)]
     fn node_values(&self, var: u32) -> LaneValues
         requires var { var < variables_of self.now }
-        ensures lane { (netlist : Netlist) (loaded : Loaded) (lane : ℕ) → IsCircuit netlist → IsWhole netlist
-            → AreOf netlist self.now → lane < 512 → slice_get self.now.lanes lane ≡ Some (Some loaded)
-            → self.now.stage ≢ Loading → IsLaneValue self.now.stage netlist loaded var (value_in result lane) }
-        ensures filled { (netlist : Netlist) (loaded : Loaded) (lane : ℕ) → IsCircuit netlist → IsWhole netlist
-            → AreOf netlist self.now → lane < 512 → slice_get self.now.lanes lane ≡ Some (Some loaded)
-            → self.now.stage ≢ Loading → IsFilledValue self.now.stage netlist loaded var (value_in result lane) }
+        ensures lane { (netlist : Netlist) (loaded : Loaded) (lane : ℕ) → IsCircuit netlist
+            → IsWhole netlist
+            → AreOf netlist self.now → lane < 512 → slice_get self.now.lanes lane
+            ≡ Some (Some loaded)
+            → self.now.stage ≢ Loading
+            → IsLaneValue self.now.stage netlist loaded var (value_in result lane) }
+        ensures filled { (netlist : Netlist) (loaded : Loaded) (lane : ℕ) → IsCircuit netlist
+            → IsWhole netlist
+            → AreOf netlist self.now → lane < 512 → slice_get self.now.lanes lane
+            ≡ Some (Some loaded)
+            → self.now.stage ≢ Loading
+            → IsFilledValue self.now.stage netlist loaded var (value_in result lane) }
     {
         let pair = &self.values[self.node_of(var) as usize];
         LaneValues {
@@ -361,13 +367,9 @@ fn unknown_values(alloc: Global, nodes: u32) -> Result<Vec<Pair>, Memory>
         one: u64x8::splat(u64::MAX),
     };
     unknown.are_planes();
-    let Ok(mut values) = Vec::with_capacity(alloc, nodes as usize) else {
-        return Err(Memory);
-    };
+    let mut values = Vec::with_capacity(alloc, nodes as usize)?;
     for _node in 0..nodes {
-        let Ok(()) = values.push(unknown) else {
-            return Err(Memory);
-        };
+        values.push(unknown)?;
     }
     Ok(values)
 }

@@ -29,13 +29,9 @@ pub(crate) fn list_by_node(alloc: Global, net: &Net, order: &[u32]) -> Result<Li
 fn empty_lists(alloc: Global, count: u32) -> Result<Vec<List>, Memory>
     ensures { IfOk result (λ lists. map (λ list. list.items) lists.items ≡ replicate count []) }
 {
-    let Ok(mut lists) = Vec::with_capacity(alloc, count as usize) else {
-        return Err(Memory);
-    };
+    let mut lists = Vec::with_capacity(alloc, count as usize)?;
     for _list in 0..count {
-        let Ok(()) = lists.push(SmallVec::new(alloc)) else {
-            return Err(Memory);
-        };
+        lists.push(SmallVec::new(alloc))?;
     }
     Ok(lists)
 }
@@ -85,9 +81,7 @@ fn file(lists: &mut [List], node: u32, place: u32) -> Result<(), Memory>
         (readers_at (map (λ list. list.items) lists.old) node ++ place ∷ [])) }
 {
     let list = &mut lists[node as usize];
-    let Ok(()) = list.push(place) else {
-        return Err(Memory);
-    };
+    list.push(place)?;
     Ok(())
 }
 
@@ -117,14 +111,10 @@ fn all_readers(
         (λ lists. IsOrder net.now order.now (map (λ list. list.items) lists.items)) }
 {
     let _circuit = net.circuit();
-    let Ok(mut lists) = Vec::with_capacity(alloc, order.len()) else {
-        return Err(Memory);
-    };
+    let mut lists = Vec::with_capacity(alloc, order.len())?;
     for place in 0..order.len() {
         let list = copy_of(alloc, by_node.at(order[place] as usize))?;
-        let Ok(()) = lists.push(list) else {
-            return Err(Memory);
-        };
+        lists.push(list)?;
     }
     Ok(lists)
 }
@@ -150,14 +140,10 @@ fn all_back(alloc: Global, net: &Net, order: &[u32], readers: &Lists) -> Result<
         (λ lists. IsBack net.now order.now (map (λ list. list.items) lists.items)) }
 {
     let _circuit = net.circuit();
-    let Ok(mut lists) = Vec::with_capacity(alloc, order.len()) else {
-        return Err(Memory);
-    };
+    let mut lists = Vec::with_capacity(alloc, order.len())?;
     for place in 0..order.len() {
         let list = places_up_to(alloc, place, readers.at(order[place] as usize))?;
-        let Ok(()) = lists.push(list) else {
-            return Err(Memory);
-        };
+        lists.push(list)?;
     }
     Ok(lists)
 }
@@ -174,9 +160,7 @@ fn places_up_to(alloc: Global, place: usize, places: &[u32]) -> Result<List, Mem
     let mut list = SmallVec::new(alloc);
     for reader in places {
         if *reader as usize <= place {
-            let Ok(()) = list.push(*reader) else {
-                return Err(Memory);
-            };
+            list.push(*reader)?;
         }
     }
     Ok(list)

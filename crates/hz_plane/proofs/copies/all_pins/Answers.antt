@@ -12,7 +12,7 @@ loop-place-preserved c =
     let gate = get_or order place 0 in
     let list = c.in_ok-list.list in
     let is : list.items ≡ (gate_at net gate).sources = c.in_ok-list.ensures ∙ (c.sources.ensures.sources ∙ ap (λ (n : Netlist). (gate_at n gate).sources) c.circuit.ensures.same) in
-    ap (map (λ (part : SmallVec ℕ). part.items)) c.in-Ok-push.ensures.items
+    ap (map (λ (part : SmallVec ℕ). part.items)) c.in_ok-push.ensures.items
     ∙ (map-append (λ (part : SmallVec ℕ). part.items) c.loop-place.lists.items (list ∷ [])
     ∙ (ap (λ (lists : List (List ℕ)). lists ++ list.items ∷ []) c.loop-place.invariant
     ∙ (ap (λ (part : List ℕ). map (λ (g : ℕ). (gate_at net g).sources) (take place order) ++ part ∷ []) is

@@ -11,7 +11,7 @@ loop-place-preserved c =
     let place = c.loop-place.place in
     let gate = get_or order place 0 in
     let is : c.kind-kind.result ≡ (gate_at net gate).kind = c.kind-kind.ensures.kind ∙ ap (λ (n : Netlist). (gate_at n gate).kind) c.circuit.ensures.same in
-    c.in-Ok-push.ensures.items
+    c.in_ok-push.ensures.items
     ∙ (ap (λ (kinds : List Kind). kinds ++ c.kind-kind.result ∷ []) c.loop-place.invariant
     ∙ (ap (λ (kind : Kind). map (λ (g : ℕ). (gate_at net g).kind) (take place order) ++ kind ∷ []) is
     ∙ sym (map_more (λ (g : ℕ). (gate_at net g).kind) order place 0 c.loop-place-test.true)))

@@ -17,11 +17,11 @@ loop-place-preserved c =
     let lists : List (List ℕ) = map (λ (list : SmallVec ℕ). list.items) c.loop-place.lists.items in
     let list = c.in_ok-list.list.items in
     let pushed : map (λ (list : SmallVec ℕ). list.items) c.push.new.self.items ≡ lists ++ list ∷ [] =
-    ap (map (λ (list : SmallVec ℕ). list.items)) c.in-Ok-push.ensures.items ∙ map-append (λ (list : SmallVec ℕ). list.items) c.loop-place.lists.items (c.in_ok-list.list ∷ []) in
+    ap (map (λ (list : SmallVec ℕ). list.items)) c.in_ok-push.ensures.items ∙ map-append (λ (list : SmallVec ℕ). list.items) c.loop-place.lists.items (c.in_ok-list.list ∷ []) in
     let are : c.at.result.now ≡ readers_at readers node = c.at.ensures in
     let long : length lists ≡ now = length-map c.loop-place.lists.items (λ (list : SmallVec ℕ). list.items) ∙ c.loop-place.invariant.long in
     record {
-      long = ap (length {A = SmallVec ℕ}) c.in-Ok-push.ensures.items ∙ omega (arith, length-append c.loop-place.lists.items (c.in_ok-list.list ∷ []), c.loop-place.invariant.long);
+      long = ap (length {A = SmallVec ℕ}) c.in_ok-push.ensures.items ∙ omega (arith, length-append c.loop-place.lists.items (c.in_ok-list.list ∷ []), c.loop-place.invariant.long);
       inside = λ place. subst (λ (all : List (List ℕ)). All (λ (reader : ℕ). reader < length order) (readers_at all place)) (sym pushed)
           (pushed-all lists list (λ (reader : ℕ). reader < length order) c.loop-place.invariant.inside (c.in_ok-list.ensures.inside (length order) (subst (All (λ (reader : ℕ). reader < length order)) (sym are) (c.requires.order.inside node))) place);
       reads = λ place reader below up there. subst (λ (all : List (List ℕ)). Contains (readers_at all place) reader) (sym pushed)

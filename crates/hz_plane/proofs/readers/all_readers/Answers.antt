@@ -12,7 +12,7 @@ loop-place-preserved c =
     let list = c.in_ok-list.list in
     let by_node : List (List ℕ) = c.args.by_node.now in
     let is : list.items ≡ readers_at by_node (get_or order place 0) = c.in_ok-list.ensures ∙ c.at.ensures in
-    ap (map (λ (part : SmallVec ℕ). part.items)) c.in-Ok-push.ensures.items
+    ap (map (λ (part : SmallVec ℕ). part.items)) c.in_ok-push.ensures.items
     ∙ (map-append (λ (part : SmallVec ℕ). part.items) c.loop-place.lists.items (list ∷ [])
     ∙ (ap (λ (lists : List (List ℕ)). lists ++ list.items ∷ []) c.loop-place.invariant
     ∙ (ap (λ (part : List ℕ). map (readers_at by_node) (take place order) ++ part ∷ []) is

@@ -17,7 +17,7 @@ loop-gate-preserved c =
     let pins : gate.sources ≡ c.sources-pins.result.now = sym (c.sources-pins.ensures.sources ∙ ap (λ (n : Netlist). (gate_at n number).sources) c.circuit-circuit.ensures.same) in
     let at : gate ≡ get_or netlist.gates k gate = get_or_same netlist.gates k (record { kind = And; sources = [] }) gate inside in
     record {
-      copied = copied-next c.loop-gate.shapes.items c.push.new.self.items c.loop-gate.sources.items c.extend_from_slice.new.self.items c.sources-pins.result.now _ netlist.gates gate k (number + 1 - netlist.inputs) c.in-Ok.ensures.items c.in-Ok-extend_from_slice.ensures.items refl c.loop-gate.invariant.counted
+      copied = copied-next c.loop-gate.shapes.items c.push.new.self.items c.loop-gate.sources.items c.extend_from_slice.new.self.items c.sources-pins.result.now _ netlist.gates gate k (number + 1 - netlist.inputs) c.in_ok-push.ensures.items c.in_ok-extend_from_slice.ensures.items refl c.loop-gate.invariant.counted
           c.loop-gate.invariant.copied inside at kind pins (omega (arith, from));
-      counted = counted-next c.loop-gate.shapes.items c.push.new.self.items c.loop-gate.sources.items c.extend_from_slice.new.self.items c.sources-pins.result.now _ netlist.gates gate k (number + 1 - netlist.inputs) c.in-Ok.ensures.items c.in-Ok-extend_from_slice.ensures.items refl c.loop-gate.invariant.counted;
+      counted = counted-next c.loop-gate.shapes.items c.push.new.self.items c.loop-gate.sources.items c.extend_from_slice.new.self.items c.sources-pins.result.now _ netlist.gates gate k (number + 1 - netlist.inputs) c.in_ok-push.ensures.items c.in_ok-extend_from_slice.ensures.items refl c.loop-gate.invariant.counted;
     }

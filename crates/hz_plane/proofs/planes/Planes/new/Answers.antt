@@ -20,8 +20,8 @@ invariant_of-result c =
       nodes = omega (arith, inputs, nodes, circuit.nodes, ap (length {A = Gate}) gates);
       small = omega (arith, nodes, circuit.variables);
       values_count = c.in_ok-values.ensures.count ∙ (c.nodes-2.ensures.nodes ∙ (ap (λ (n : Netlist). length n.names) same ∙ sym nodes));
-      marks = sym c.in-Ok.marks.ok.0 ∙ (c.in-Ok.ensures.len ∙ ap (λ (n : ℕ). n / 64 + 1) (c.len.ensures ∙ c.in_ok-schedule.schedule.order.ok.0));
-      faults_count = search (rules, c.in-Ok-vec.ensures.len);
+      marks = sym c.in_ok-marks.marks.ok.0 ∙ (c.in_ok-marks.ensures.len ∙ ap (λ (n : ℕ). n / 64 + 1) (c.len.ensures ∙ c.in_ok-schedule.schedule.order.ok.0));
+      faults_count = search (rules, c.in_ok-faults.ensures.len);
       values_planes = c.in_ok-values.ensures.planes;
       sources = λ pin inside. omega (arith, nodes, sources-inside (length netlist.names) netlist.gates circuit.gates pin (omega (arith, inside, ap (λ (list : List Gate). length (pin_sources list)) gates)), ap (λ (list : List Gate). get_or (pin_sources list) pin 0) gates);
       schedule = λ other of. record {
