@@ -436,12 +436,14 @@ def runs_of_chain(n):
 
 
 def runs_and_size(n):
-    """As many short runs as there are gates."""
-    return chain(n)[0], "runs 1\nstart" + "".join(f" g{k}=0" for k in range(n + 1)) + "\ninput g0=1\n" + "run\nstep g0\ncycle\nstep g1(1)\n" * n + "end\n"
+    """As many runs with a cycle as there are gates that stand still."""
+    made = "INPUT(e)\ny=NAND(e,y)\n" + lines(n, lambda k: f"g{k}=NOT(e)\n")
+    cycle = "run\ncycle\nstep y\nstep y(2)\nstep y\nstep y(2)\n"
+    return made, "runs 1\nstart e=1 y=1" + lines(n, lambda k: f" g{k}=0") + "\ninput e=1\n" + cycle * n + "end\n"
 
 
 def cycles_and_size(n):
-    """As many cycles as there are gates, each refused at its end but the last; the first is refused."""
+    """As many cycles without a step as there are gates."""
     return chain(n)[0], "runs 1\nstart" + "".join(f" g{k}=0" for k in range(n + 1)) + "\ninput g0=0\n" + "run\ncycle\n" * n + "end\n"
 
 
@@ -614,84 +616,189 @@ def patterns_open(n):
 def reading():
     """The texts of netlists, by `analyse`."""
     for name, make, least, status in (
-            ("lines OUTPUT of one node", outputs, 180_000, 0), ("outputs of their own", own_outputs, 12_000, 0), ("comments", comments, 500_000, 0),
-            ("one comment", long_comment, 2_000_000, 0), ("blanks", blanks, 2_000_000, 0), ("line feeds", line_feeds, 2_000_000, 0),
-            ("one name", long_name, 2_000_000, 3), ("a gate of many pins", long_line, 600_000, 3), ("a line of words", line_of_words, 1_000_000, 3),
-            ("a gate that is not closed", unclosed, 1_000_000, 3), ("a gate of undefined names", undefined_sources, 200_000, 3),
-            ("too many gates", many_gates, 130_000, 3), ("too many gates that wait", waiting_gates, 130_000, 3), ("too many gates in no order", shuffled_gates, 130_000, 3),
-            ("names chosen to collide", colliding_gates, 12_000, 0), ("too many names chosen to collide", colliding_gates, 48_000, 3), ("one name defined again and again", twice, 200_000, 3), ("each name defined twice", all_twice, 60_000, 3),
-            ("last line: form", last_form, 180_000, 3), ("last line: undefined", last_undefined, 12_000, 3), ("last line: undefined, too many", last_undefined, 120_000, 3),
-            ("last line: kind", last_kind, 120_000, 3), ("last line: twice", last_twice, 120_000, 3), ("last line: name", last_name, 120_000, 3), ("last line: pins", last_pins, 120_000, 3)):
+            ("lines OUTPUT of one node", outputs, 180_000, 0),
+            ("outputs of their own", own_outputs, 12_000, 0),
+            ("comments", comments, 500_000, 0),
+            ("one comment", long_comment, 2_000_000, 0),
+            ("blanks", blanks, 2_000_000, 0),
+            ("line feeds", line_feeds, 2_000_000, 0),
+            ("one name", long_name, 2_000_000, 3),
+            ("a gate of many pins", long_line, 600_000, 3),
+            ("a line of words", line_of_words, 1_000_000, 3),
+            ("a gate that is not closed", unclosed, 1_000_000, 3),
+            ("a gate of undefined names", undefined_sources, 200_000, 3),
+            ("too many gates", many_gates, 130_000, 3),
+            ("too many gates that wait", waiting_gates, 130_000, 3),
+            ("too many gates in no order", shuffled_gates, 130_000, 3),
+            ("names chosen to collide", colliding_gates, 12_000, 0),
+            ("too many names chosen to collide", colliding_gates, 48_000, 3),
+            ("one name defined again and again", twice, 200_000, 3),
+            ("each name defined twice", all_twice, 60_000, 3),
+            ("last line: form", last_form, 180_000, 3),
+            ("last line: undefined", last_undefined, 12_000, 3),
+            ("last line: undefined, too many", last_undefined, 120_000, 3),
+            ("last line: kind", last_kind, 120_000, 3),
+            ("last line: twice", last_twice, 120_000, 3),
+            ("last line: name", last_name, 120_000, 3),
+            ("last line: pins", last_pins, 120_000, 3)):
         yield Case("analyse", "bench: " + name, make, least, status)
     for name, make, least, status in (
-            ("names of inputs", blif_inputs, 24_000, 4), ("too many names of inputs", blif_inputs, 250_000, 3), ("names chosen to collide", blif_colliding, 24_000, 4), ("too many names chosen to collide", blif_colliding, 48_000, 3), ("rows of one cover", blif_rows, 400_000, 3),
-            ("constant covers", blif_constants, 120_000, 0), ("a constant that is used", blif_used_constant, 120_000, 3), ("covers of two rows", blif_covers, 1_400, 0),
-            ("a chain of covers", blif_chain, 12_000, 0), ("covers of 128 pins", blif_wide, 50, 0), ("covers of 64 rows, too many", blif_inverted, 800, 3),
-            ("joined lines", blif_joined, 1_000_000, 0), ("words on joined lines", blif_joined_words, 600_000, 3), ("a line of words", blif_line, 1_000_000, 3), ("one name", blif_name, 2_000_000, 3),
-            ("one name defined again and again", blif_twice, 900_000, 3), ("last line: form", blif_last_form, 80_000, 3), ("last line: construct", blif_last_construct, 80_000, 3),
-            ("last line: undefined", blif_last_undefined, 80_000, 3), ("last line: cover", blif_last_cover, 80_000, 3)):
+            ("names of inputs", blif_inputs, 24_000, 4),
+            ("too many names of inputs", blif_inputs, 250_000, 3),
+            ("names chosen to collide", blif_colliding, 24_000, 4),
+            ("too many names chosen to collide", blif_colliding, 48_000, 3),
+            ("rows of one cover", blif_rows, 400_000, 3),
+            ("constant covers", blif_constants, 120_000, 0),
+            ("a constant that is used", blif_used_constant, 120_000, 3),
+            ("covers of two rows", blif_covers, 1_400, 0),
+            ("a chain of covers", blif_chain, 12_000, 0),
+            ("covers of 128 pins", blif_wide, 50, 0),
+            ("covers of 64 rows, too many", blif_inverted, 800, 3),
+            ("joined lines", blif_joined, 1_000_000, 0),
+            ("words on joined lines", blif_joined_words, 600_000, 3),
+            ("a line of words", blif_line, 1_000_000, 3),
+            ("one name", blif_name, 2_000_000, 3),
+            ("one name defined again and again", blif_twice, 900_000, 3),
+            ("last line: form", blif_last_form, 80_000, 3),
+            ("last line: construct", blif_last_construct, 80_000, 3),
+            ("last line: undefined", blif_last_undefined, 80_000, 3),
+            ("last line: cover", blif_last_cover, 80_000, 3)):
         yield Case("analyse", "blif: " + name, make, least, status, True)
 
 
 CIRCUITS = (
-    ("chain", chain, 12_000), ("chain against the order", reversed_chain, 12_000), ("one input read by all", star, 12_000), ("gates of 256 gates", collected, 8_000), ("gates of 256 pins", wide, 90),
-    ("layers of 256 pins", wide_layers, 12), ("reconvergent chain", reconvergent, 6_000), ("ladder", ladder, 4_000), ("ladder against the order", reversed_ladder, 4_000), ("grid", grid, 8_000),
-    ("random gates", random_gates, 8_000), ("random gates with feedback", random_feedback, 5_000), ("random gates that all read each other", random_nands, 5_000), ("gates that oscillate", oscillators, 8_000), ("ring that never settles", ring, 12_000), ("ring against the order", reversed_ring, 12_000),
-    ("ring that settles", settled_ring, 12_000), ("all gates in one loop", both_ways, 8_000), ("all in one loop against the order", both_ways_reversed, 8_000), ("latches, critical", latches, 4_000),
-    ("latches that settle", settled_latches, 4_000), ("latches in a row", latches_in_row, 4_000), ("NAND that drives buffers", driving_nand, 12_000), ("flip-flops in a row", flip_flops, 24_000),
-    ("flip-flops of one node", flip_flops_of_one, 20_000), ("counter", counter, 3_000), ("inputs", inputs, 24_000), ("gates of two inputs", pairs, 5_000), ("names chosen to collide", colliding_listed, 10_000))
+    ("chain", chain, 12_000),
+            ("chain against the order", reversed_chain, 12_000),
+            ("one input read by all", star, 12_000),
+            ("gates of 256 gates", collected, 8_000),
+            ("gates of 256 pins", wide, 90),
+    ("layers of 256 pins", wide_layers, 12),
+            ("reconvergent chain", reconvergent, 6_000),
+            ("ladder", ladder, 4_000),
+            ("ladder against the order", reversed_ladder, 4_000),
+            ("grid", grid, 8_000),
+    ("random gates", random_gates, 8_000),
+            ("random gates with feedback", random_feedback, 5_000),
+            ("random gates that all read each other", random_nands, 5_000),
+            ("gates that oscillate", oscillators, 8_000),
+            ("ring that never settles", ring, 12_000),
+            ("ring against the order", reversed_ring, 12_000),
+    ("ring that settles", settled_ring, 12_000),
+            ("all gates in one loop", both_ways, 8_000),
+            ("all in one loop against the order", both_ways_reversed, 8_000),
+            ("latches, critical", latches, 4_000),
+    ("latches that settle", settled_latches, 4_000),
+            ("latches in a row", latches_in_row, 4_000),
+            ("NAND that drives buffers", driving_nand, 12_000), ("flip-flops in a row", flip_flops, 24_000),
+    ("flip-flops of one node", flip_flops_of_one, 20_000),
+            ("counter", counter, 3_000),
+            ("inputs", inputs, 24_000),
+            ("gates of two inputs", pairs, 5_000),
+            ("names chosen to collide", colliding_listed, 10_000))
 
 
 def analyses():
     """The circuits and the scripts, by `analyse`."""
     for name, make, least in CIRCUITS:
         yield Case("analyse", name, make, least)
-    for name, make, least in (("ladder", ladder, 4_000), ("reconvergent chain", reconvergent, 6_000)):
+    for name, make, least in (("ladder", ladder, 4_000),
+            ("reconvergent chain", reconvergent, 6_000)):
         yield Case("analyse", name + ", all, cap 1000000", make, least, options=["--show", "all", "--cap", "1000000"])
     for name, make, least, status in (
-            ("changes", changes, 1_250, 0), ("changes of a hundred latches", changes_of_many, 250, 0), ("changes after one that does not settle", changes_stopped, 1_250, 0), ("one name assigned again and again", same_assigned, 400_000, 4),
-            ("names that are unknown", unknown_assigned, 150_000, 4), ("marks", marks, 2_000_000, 4), ("one word", script_word, 2_000_000, 4), ("comments", script_comments, 500_000, 0), ("last line: form", script_last_form, 1_250, 4),
-            ("last line: bit", script_last_bit, 1_250, 4), ("last line: name", script_last_name, 1_250, 4), ("too many changes", script_too_many, 180_000, 4), ("an input without value", missing_input, 24_000, 4), ("a gate that is open", script_feedback_open, 12_000, 5)):
+            ("changes", changes, 1_250, 0),
+            ("changes of a hundred latches", changes_of_many, 250, 0),
+            ("changes after one that does not settle", changes_stopped, 1_250, 0),
+            ("one name assigned again and again", same_assigned, 400_000, 4),
+            ("names that are unknown", unknown_assigned, 150_000, 4),
+            ("marks", marks, 2_000_000, 4),
+            ("one word", script_word, 2_000_000, 4),
+            ("comments", script_comments, 500_000, 0),
+            ("last line: form", script_last_form, 1_250, 4),
+            ("last line: bit", script_last_bit, 1_250, 4),
+            ("last line: name", script_last_name, 1_250, 4),
+            ("too many changes", script_too_many, 180_000, 4),
+            ("an input without value", missing_input, 24_000, 4),
+            ("a gate that is open", script_feedback_open, 12_000, 5)):
         yield Case("analyse", "script: " + name, make, least, status)
 
 
 def replays():
     """Run texts, by `replay`, `convert` and `vcd`."""
     texts = (
-        ("one long run", ring_steps, 60_000, 0), ("one long cycle", ring_cycle, 30_000, 0), ("short runs of 2,000 variables", runs_of_chain, 100_000, 0), ("as many runs as gates", runs_and_size, 6_000, 1),
-        ("cycles without a step", cycles_and_size, 6_000, 0), ("empty runs", empty_runs, 500_000, 0), ("one step of all", one_step, 12_000, 0), ("a step for each gate", steps_of_star, 12_000, 0),
-        ("NAND that drives buffers", steps_of_nand, 3_000, 0), ("pins of wide gates", steps_of_wide, 60, 0), ("a start of all", runs_start, 12_000, 0), ("names chosen to collide", runs_colliding, 8_000, 0))
+        ("one long run", ring_steps, 60_000, 0),
+            ("one long cycle", ring_cycle, 30_000, 0),
+            ("short runs of 2,000 variables", runs_of_chain, 100_000, 0),
+            ("as many runs as gates", runs_and_size, 6_000, 0),
+        ("cycles without a step", cycles_and_size, 6_000, 0),
+            ("empty runs", empty_runs, 500_000, 0),
+            ("one step of all", one_step, 12_000, 0),
+            ("a step for each gate", steps_of_star, 12_000, 0),
+        ("NAND that drives buffers", steps_of_nand, 3_000, 0),
+            ("pins of wide gates", steps_of_wide, 60, 0),
+            ("a start of all", runs_start, 12_000, 0),
+            ("names chosen to collide", runs_colliding, 8_000, 0))
     for job in ("replay", "convert", "vcd"):
         for name, make, least, status in texts:
             yield Case(job, name, make, least, 0 if job == "convert" else status)
     yield Case("replay", "a step that repeats a variable", repeated_variable, 200_000, 1)
-    for name, last in (("form", "step (\n"), ("name", "step z\nend\n"), ("bit", "start e=2\nend\n"), ("order", "step y\n"), ("pin", "step y(3)\nend\n"), ("stable", "step e\nend\n")):
+    for name, last in (("form", "step (\n"),
+            ("name", "step z\nend\n"),
+            ("bit", "start e=2\nend\n"),
+            ("order", "step y\n"),
+            ("pin", "step y(3)\nend\n"),
+            ("stable", "step e\nend\n")):
         yield Case("replay", "last line: " + name, runs_last(last), 60_000, 1 if name == "stable" else 4)
 
 
 def pattern_cases():
     """Patterns, by `batch` and `reset`."""
     circuits = (
-        ("patterns", patterns, 8_000, 0), ("gates", patterns_of_many, 2_000, 0), ("inputs", patterns_of_inputs, 1_000, 0), ("outputs", patterns_and_outputs, 1_000, 0), ("latches", patterns_of_latches, 1_000, 0),
-        ("ring", patterns_of_ring, 2_000, 0), ("ring against the order", patterns_of_reversed_ring, 2_000, 0), ("all gates in one loop", patterns_both_ways, 2_000, 0), ("all in one loop against the order", patterns_both_ways_reversed, 2_000, 0),
-        ("held: all in one loop", held_both_ways, 2_000, 0), ("held: all in one loop against the order", held_both_ways_reversed, 2_000, 0), ("held: two chains against the order", held_two_chains, 2_000, 0),
-        ("held: chain against the order", held_reversed_chain, 2_000, 0), ("chain against the order", patterns_of_reversed_chain, 2_000, 0), ("gates of 256 pins", patterns_of_wide, 20, 0), ("random gates with feedback", patterns_of_feedback, 1_000, 0),
-        ("a hold of all gates", patterns_long_hold, 12_000, 0), ("a start that is open", patterns_open, 8_000, 0))
+        ("patterns", patterns, 8_000, 0),
+            ("gates", patterns_of_many, 2_000, 0),
+            ("inputs", patterns_of_inputs, 1_000, 0),
+            ("outputs", patterns_and_outputs, 1_000, 0),
+            ("latches", patterns_of_latches, 1_000, 0),
+        ("ring", patterns_of_ring, 2_000, 0),
+            ("ring against the order", patterns_of_reversed_ring, 2_000, 0),
+            ("all gates in one loop", patterns_both_ways, 2_000, 0),
+            ("all in one loop against the order", patterns_both_ways_reversed, 2_000, 0),
+        ("held: all in one loop", held_both_ways, 2_000, 0),
+            ("held: all in one loop against the order", held_both_ways_reversed, 2_000, 0),
+            ("held: two chains against the order", held_two_chains, 4_000, 0),
+        ("held: chain against the order", held_reversed_chain, 2_000, 0),
+            ("chain against the order", patterns_of_reversed_chain, 2_000, 0),
+            ("gates of 256 pins", patterns_of_wide, 20, 0),
+            ("random gates with feedback", patterns_of_feedback, 1_000, 0),
+        ("a hold of all gates", patterns_long_hold, 12_000, 0),
+            ("a start that is open", patterns_open, 8_000, 0))
     for job in ("batch", "reset"):
         for name, make, least, status in circuits:
             yield Case(job, name, make, least, status)
     for name, make, least, status in (
-            ("not as printed", patterns_spread, 8_000, 0), ("one word", patterns_word, 2_000_000, 4), ("comments", patterns_comments, 500_000, 0), ("hold: one name again and again", hold_twice, 400_000, 4),
-            ("hold: unknown names", hold_unknown, 150_000, 4), ("too many", patterns_last(""), 150_000, 4), ("last line: form", patterns_last("from 0 to"), 8_000, 4), ("last line: bit", patterns_last("from 0 to 2\n"), 8_000, 4),
-            ("last line: order", patterns_last("hold y=1\n"), 8_000, 4), ("last line: name", patterns_last("hold z=1\n"), 8_000, 4)):
+            ("not as printed", patterns_spread, 8_000, 0),
+            ("one word", patterns_word, 2_000_000, 4),
+            ("comments", patterns_comments, 500_000, 0),
+            ("hold: one name again and again", hold_twice, 400_000, 4),
+            ("hold: unknown names", hold_unknown, 150_000, 4),
+            ("too many", patterns_last(""), 150_000, 4),
+            ("last line: form", patterns_last("from 0 to"), 8_000, 4),
+            ("last line: bit", patterns_last("from 0 to 2\n"), 8_000, 4),
+            ("last line: order", patterns_last("hold y=1\n"), 8_000, 4),
+            ("last line: name", patterns_last("hold z=1\n"), 8_000, 4)):
         yield Case("batch", "text: " + name, make, least, status)
 
 
 def splits():
     """Circuits by `split`. The NAND takes a flip of each buffer in every other turn, so it is not linear: MEASURED says why."""
     for name, make, least in (
-            ("ring", ring, 500), ("ring against the order", reversed_ring, 500), ("latches, critical", latches, 4_000), ("latches that settle", settled_latches, 4_000), ("gates that oscillate", oscillators, 500),
-            ("random gates that all read each other", random_nands, 500), ("all gates in one loop, settled", both_ways, 4_000), ("NAND that drives buffers", driving_nand, 100)):
+            ("ring", ring, 500),
+            ("ring against the order", reversed_ring, 500),
+            ("latches, critical", latches, 4_000),
+            ("latches that settle", settled_latches, 4_000),
+            ("gates that oscillate", oscillators, 500),
+            ("random gates that all read each other", random_nands, 500),
+            ("all gates in one loop, settled", both_ways, 4_000),
+            ("NAND that drives buffers", driving_nand, 100)):
         yield Case("split", name, make, least)
 
 
