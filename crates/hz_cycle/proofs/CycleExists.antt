@@ -11,16 +11,17 @@ use Rattle.hz_gmw.specs.RunRecord.{flip_count, RunRecord}
 use Rattle.hz_gmw.specs.Cycles.{states_of}
 use Rattle.hz_gmw.proofs.CoverB.{length-end_of}
 use Rattle.hz_gmw.proofs.Paths.{end_of-append, IsRun-append, IsCut, cut-member}
-use Rattle.hz_reach.proofs.FlipCounts.{flips_per_unknown, steps_below_flips, flips_per_variable, not-not}
+use Rattle.hz_reach.proofs.FlipCounts.{flips_per_unknown, steps_below_flips, flips_per_variable}
+use Rattle.std.proofs.Math.Bool.{not-not}
 use Rattle.hz_net.specs.Reads.{IsWired}
 use Rattle.hz_reach.specs.Spread.{changes_in}
 use Rattle.hz_cycle.specs.Cycles.{IsCycleOf}
 use Rattle.hz_cycle.specs.Pass.{IsFixed, AreEnough, IsPass, HasRoom}
 use Rattle.hz_cycle.specs.Turned.{IsTurned}
-use Rattle.hz_cycle.proofs.SettledVariables.{either-value, known-stable, no-input, wire-source, source-gate, admits-unknown}
+use Rattle.hz_cycle.proofs.SettledVariables.{refines-unchanged, known-stable, no-input, wire-source, source-gate}
 use Rattle.hz_cycle.proofs.StepLemmas.{changes-append, unchanged-end, contains-end, contains-front, contains-begin}
-use Rattle.hz_reach.proofs.GateTurn.{same-or-differ, other-bit, not-itself}
-use Rattle.hz_reach.proofs.ListPlaces.{no-element}
+use Rattle.hz_reach.proofs.GateTurn.{same-or-differ, other-bit, not-itself, either-value}
+use Rattle.std.proofs.lemmas.List.{nil_from_length}
 use Rattle.hz_cycle.proofs.TurnedStates.{same-turned}
 use Rattle.std.specs.Prelude.{sum_by}
 use Rattle.std.proofs.lemmas.List.Sums.{sum_by-cons}
@@ -47,16 +48,6 @@ all-contains : (P : List Bool → Type 0) (states : List (List Bool)) (member : 
 all-contains P [] member all there = absurd (omega (arith, there.1))
 all-contains P (state ∷ states) member all (zero, inside, e) = subst P e all.0
 all-contains P (state ∷ states) member all (suc k, inside, e) = all-contains P states member all.1 (k, omega (arith, inside), e)
-
--- a state after steps that change no settled variable refines the list as the first does
-pub refines-unchanged : (begun : List Bool) (steps : List (List ℕ)) (b : List Tri) → Refines begun b → ((i : ℕ) → IsKnown (value_at b i) → changes_in steps i ≡ 0) → Refines (end_of begun steps) b
-refines-unchanged begun steps b refined known =
-    Refines-get_or (end_of begun steps) b (length-end_of begun steps ∙ length-Refines begun b refined) (λ i inside.
-    elim (either-value (value_at b i)) [
-      | inl unknown ↦ admits-unknown (value_at b i) (bit_at (end_of begun steps) i) unknown
-      | inr settled ↦
-          subst (λ (bit : Bool). IsTrue (admits (value_at b i) bit)) (sym (unchanged-end begun steps i (known i settled))) (get_or-Refines begun b refined i)
-    ])
 
 module _ {net : List Driver} {input : List Bool} {ranks : List ℕ} {b : List Tri} (wired : IsWired net) (fixed : IsFixed net input b) where
   module _ {state middle last : List Bool} {first second : List (List ℕ)} (turned : IsTurned net ranks b state) (once : IsPass net input ranks b state first middle) (again : IsPass net input ranks b middle second last) where
@@ -147,12 +138,12 @@ module _ {net : List Driver} {input : List Bool} {ranks : List ℕ} {b : List Tr
             };
             lasts = λ waits. elim (either-value (value_at b waits.0)) [
               | inl unknown ↦ (
-                  let other = both waits.0 (not waits.2) unknown in
-                  let holds = all-contains (λ (now : List Bool). (bit_at now waits.0 ≡ waits.2) × IsUnstable net input now waits.0) (states_of state (first ++ second)) other.0 waits.3 other.1 in
-                  not-itself waits.2 (sym other.2 ∙ holds.0)
+                  let other = both waits.0 (not waits.2.0) unknown in
+                  let holds = all-contains (λ (now : List Bool). (bit_at now waits.0 ≡ waits.2.0) × IsUnstable net input now waits.0) (states_of state (first ++ second)) other.0 waits.2.1 other.1 in
+                  not-itself waits.2.0 (sym other.2 ∙ holds.0)
                   )
               | inr known ↦ (
-                  let holds = all-contains (λ (now : List Bool). (bit_at now waits.0 ≡ waits.2) × IsUnstable net input now waits.0) (states_of state (first ++ second)) state waits.3 (contains-begin state (first ++ second)) in
+                  let holds = all-contains (λ (now : List Bool). (bit_at now waits.0 ≡ waits.2.0) × IsUnstable net input now waits.0) (states_of state (first ++ second)) state waits.2.1 (contains-begin state (first ++ second)) in
                   holds.1 (known-stable fixed state waits.0 turned.settled waits.1 known)
                   )
             ];
@@ -162,7 +153,7 @@ module _ {net : List Driver} {input : List Bool} {ranks : List ℕ} {b : List Tr
           stable = λ member there i inside known. known-stable fixed member i (member-refines member there) inside known;
           flips = flips;
           none = λ zero_unknown.
-              no-element (first ++ second) (omega (arith, steps_below_flips net input state (first ++ second) whole-run, flips, ap (λ (n : ℕ). 4 * n) zero_unknown));
+              nil_from_length (first ++ second) (omega (arith, steps_below_flips net input state (first ++ second) whole-run, flips, ap (λ (n : ℕ). 4 * n) zero_unknown));
         }
       where
         alone : (member : List Bool) → Contains (state ∷ []) member → state ≡ member

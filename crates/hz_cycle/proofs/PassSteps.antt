@@ -9,19 +9,20 @@ use Rattle.hz_core.specs.Ternary.{is_unknown}
 use Rattle.hz_core.specs.Pattern.{IsPattern}
 use Rattle.hz_net.specs.Network.{Driver, Function, Source, driver_at, bit_at, value_at, External}
 use Rattle.hz_net.specs.Passes.{IsKnown, IsUnknown}
-use Rattle.hz_gmw.specs.Runs.{is_listed, IsRun, state_after, end_of}
+use Rattle.hz_lists.specs.Listed.{is_listed}
+use Rattle.hz_gmw.specs.Runs.{IsRun, state_after, end_of}
 use Rattle.hz_gmw.specs.Cycles.{states_of}
 use Rattle.hz_reach.specs.Order.{IsEarlier}
 use Rattle.hz_reach.specs.Room.{with_step_if_any}
 use Rattle.hz_net.specs.Reads.{IsWireInto, IsWired}
 use Rattle.hz_reach.specs.Spread.{changes_in}
 use Rattle.hz_reach.proofs.Order.{not-earlier, not-both, also, also-itself, also-other, earlier-or-not}
-use Rattle.hz_reach.proofs.GateTurn.{turn_wires, turn_middle, IsFunction, IsTurnPin, IsWithFanOut, pin-into, pin-from, listed-pin, kept-other, gate-kept, turn-run, turn-end, same-or-differ, same-source}
+use Rattle.hz_reach.proofs.GateTurn.{turn_wires, turn_middle, IsFunction, IsTurnPin, IsWithFanOut, pin-into, pin-from, listed-pin, kept-other, gate-kept, turn-run, turn-end, same-or-differ, same-source, either-value}
 use Rattle.hz_cycle.specs.Pass.{MayBegin, IsFixed, AreEnough, IsPass}
 use Rattle.hz_cycle.proofs.PassInvariant.{IsInside}
 use Rattle.hz_cycle.proofs.StepLemmas.{changes-after, listed-none, unchanged-end, contains-after, contains-end}
 use Rattle.hz_cycle.proofs.Turn.{IsNext, IsAfterTurn, pass-may-turn, wires-unsettled, flips-unsettled, after-turn, settled-after, inside-after}
-use Rattle.hz_cycle.proofs.SettledVariables.{either-value, no-input, wire-source, source-gate}
+use Rattle.hz_cycle.proofs.SettledVariables.{no-input, wire-source, source-gate}
 use Rattle.hz_cycle.proofs.TurnedStates.{inside-turned}
 use Rattle.hz_reach.proofs.FlipCounts.{listed}
 

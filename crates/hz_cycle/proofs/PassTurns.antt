@@ -2,6 +2,7 @@
 -- a pass wherever one may begin.
 use Rattle.std.proofs.Common.{◌≡◌, ◌≢◌, ℕ, ◌+◌, ◌-◌, ◌<◌, ◌≤◌, Bool, true, false, not, List, [], ◌∷◌, length, get_or, refl, sym, ap, ◌∙◌, subst, arith, inl, inr, append-nil, IsTrue}
 use Rattle.std.specs.List.{range_with_len}
+use Rattle.std.specs.Prelude.{sum_by}
 use Rattle.std.proofs.lemmas.Bool.{cases_lt, both_ways, and_parts, and_from}
 use Rattle.std.proofs.lemmas.List.{length-map}
 use Rattle.std.proofs.lemmas.List.Sums.{sum_by-le-sum_by}
@@ -10,39 +11,35 @@ use Rattle.hz_core.specs.declared.kind.Kind.{Kind}
 use Rattle.hz_core.specs.Ternary.{is_unknown}
 use Rattle.hz_core.specs.Gate.{takes, gate_value}
 use Rattle.hz_core.specs.Netlist.{Netlist, IsCircuit, IsGateAmong, IsGateNumber, gate_at}
-use Rattle.hz_core.specs.Pattern.{IsCandidate}
+use Rattle.hz_core.specs.Pattern.{IsCandidate, IsPattern}
 use Rattle.hz_core.proofs.CircuitLemmas.{takes-from_bounds}
 use Rattle.hz_core.proofs.Refinements.{length-Refines}
 use Rattle.hz_net.specs.Network.{Driver, External, Function, Source, network_of, driver_at, bit_at, value_at}
 use Rattle.hz_net.specs.Variables.{first_wire, at_wires}
 use Rattle.hz_net.specs.Passes.{IsUnknown}
 use Rattle.hz_net.proofs.Places.{driver_at-gate}
-use Rattle.hz_net.proofs.PartLemmas.{length-part}
-use Rattle.hz_net.proofs.Wired.{is_gate_of, wired-network_of}
+use Rattle.hz_lists.proofs.PartLemmas.{length-part}
+use Rattle.hz_net.proofs.Wired.{wired-network_of}
 use Rattle.hz_gmw.specs.Runs.{state_after}
 use Rattle.hz_gmw.specs.RunRecord.{RunRecord}
 use Rattle.hz_reach.specs.Order.{key_at, IsInKeyOrder}
 use Rattle.hz_reach.specs.Room.{with_step_if_any, Spends, HasRoomFor}
 use Rattle.hz_reach.specs.ScratchState.{ScratchState}
 use Rattle.hz_reach.specs.Spread.{changes_in}
-use Rattle.hz_reach.specs.Turn.{is_gate_in, AreTurnWires, turn_flips, IsTurn}
+use Rattle.hz_reach.specs.Turn.{is_gate_in, changed_wires, turn_end, turn_steps}
 use Rattle.hz_reach.proofs.FanOut.{marks-with-fan_out}
 use Rattle.hz_reach.proofs.FlipCounts.{flips_are_changes}
-use Rattle.hz_reach.proofs.GateTurn.{IsFunction, pin-inside, unknown-is, is-unknown}
+use Rattle.hz_reach.proofs.GateTurn.{IsFunction, gate-number, pin-inside, unknown-is, is-unknown}
 use Rattle.hz_reach.proofs.Order.{had_before, also, IsNext, all-had, after-turns, order-found}
-use Rattle.hz_reach.proofs.TurnLoop.{IsAtPlace, at-begin, at-next, at-here, at-turn}
-use Rattle.hz_reach.proofs.ListPlaces.{key-inside, listed-at}
+use Rattle.hz_reach.proofs.TurnLoop.{AreTurnsThatKeep, IsAtPlace, at-begin}
+use Rattle.hz_reach.proofs.ListPlaces.{key-inside}
 use Rattle.hz_reach.proofs.Room.{flips-after, room-left, spends-none}
-use Rattle.hz_cycle.specs.Pass.{IsFixed, AreFixedAndRanked, MayBegin, HasRoom, IsPass, IsPassMade}
+use Rattle.hz_cycle.specs.Pass.{IsFixed, AreFixedAndRanked, MayBegin, AreEnough, HasRoom, IsPass, IsPassMade}
 use Rattle.hz_cycle.specs.Turns.{has_turn_in, unsettled_pins}
 use Rattle.hz_cycle.proofs.SettledVariables.{gate-possible}
 use Rattle.hz_cycle.proofs.PassSteps.{underway-few, underway-pass, IsUnderway, underway-after, underway-begin}
 use Rattle.hz_cycle.proofs.PatternExists.{pattern-found}
 use Rattle.hz_cycle.proofs.Turn.{next-gate}
-
--- an unsettled gate has a turn
-has-turn : (net : List Driver) (b : List Tri) (gate : ℕ) (kind : Kind) (start count : ℕ) → driver_at net gate ≡ Function kind start count → IsUnknown (value_at b gate) → has_turn_in net b gate ≡ true
-has-turn net b gate kind start count drives unknown = and_from _ _ (rw drives refl) (is-unknown (value_at b gate) unknown)
 
 -- A gate's turn, in a circuit and for values that one round of Algorithm B leaves as they are.
 module _ {netlist : Netlist} {input : List Bool} {ranks : List ℕ} {b : List Tri} (circuit : IsCircuit netlist) (fixed : IsFixed (network_of netlist) input b) (ranked : (i : ℕ) → IsUnknown (value_at b i) → key_at ranks i ≢ 0) where
@@ -63,11 +60,13 @@ module _ {netlist : Netlist} {input : List Bool} {ranks : List ℕ} {b : List Tr
         (unknown-is (value_at b gate) (and_parts _ _ next.turns).1) (pin-inside (wired-network_of netlist circuit) function)
 
     -- after it
-    pub underway-turned : {wires : List ℕ} → (are : AreTurnWires netlist gate (unsettled_pins netlist b gate) state wires) → IsUnderway (network_of netlist) input ranks b begun (also had gate) (with_step_if_any (with_step_if_any made wires) (turn_flips netlist gate true (state_after wires state))) (state_after (turn_flips netlist gate true (state_after wires state)) (state_after wires state))
-    underway-turned {wires} are =
-        subst (λ (list : List ℕ). IsUnderway (network_of netlist) input ranks b begun (also had gate) (with_step_if_any (with_step_if_any made list) (turn_flips netlist gate true (state_after list state))) (state_after (turn_flips netlist gate true (state_after list state)) (state_after list state)))
-        (sym are.marks)
-        (underway-after (wired-network_of netlist circuit) fixed underway (next-gate ranked next function) are.canonical (marks-with-fan_out netlist gate _ circuit is_gate.1))
+    pub underway-turned :
+        {pattern : List Bool} → IsPattern (gate_at netlist gate).kind (at_wires netlist gate state) (unsettled_pins netlist b gate) (not (bit_at state gate)) pattern →
+        IsUnderway (network_of netlist) input ranks b begun (also had gate)
+        (turn_steps netlist gate true (changed_wires (first_wire netlist gate) (at_wires netlist gate state) pattern) state made)
+        (turn_end netlist gate true (changed_wires (first_wire netlist gate) (at_wires netlist gate state) pattern) state)
+    underway-turned canonical =
+        underway-after (wired-network_of netlist circuit) fixed underway (next-gate ranked next function) canonical (marks-with-fan_out netlist gate _ circuit is_gate.1)
 
     -- There is a canonical pattern. The gate has a pin, since its pins may give it either bit.
     now-long : length (at_wires netlist gate state) ≡ pins
@@ -100,115 +99,79 @@ module _ {netlist : Netlist} {input : List Bool} {ranks : List ℕ} {b : List Tr
         subst (λ (count : ℕ). IsTrue (takes (gate_at netlist gate).kind count)) (sym now-long)
         (takes-from_bounds (gate_at netlist gate).kind pins some-pin among.pins)
 
-    pub wires-exist : (wires : List ℕ) × AreTurnWires netlist gate (unsettled_pins netlist b gate) state wires
-    wires-exist =
+    pub pattern-exists : (pattern : List Bool) × IsPattern (gate_at netlist gate).kind (at_wires netlist gate state) (unsettled_pins netlist b gate) (not (bit_at state gate)) pattern
+    pattern-exists =
         let candidate = turn-possible (not (bit_at state gate)) in
-        let found = pattern-found (gate_at netlist gate).kind (at_wires netlist gate state) (unsettled_pins netlist b gate) (not (bit_at state gate)) taken
-        (length-map (at_wires netlist gate b) is_unknown ∙ (values-long ∙ sym now-long)) candidate.0 candidate.1 in
-        (_, record { pattern = found.0; canonical = found.1; marks = refl })
+        pattern-found (gate_at netlist gate).kind (at_wires netlist gate state) (unsettled_pins netlist b gate) (not (bit_at state gate)) taken
+        (length-map (at_wires netlist gate b) is_unknown ∙ (values-long ∙ sym now-long)) candidate.0 candidate.1
+
+  -- where all have had their turn, the pass is made
+  all-turned :
+      {begun state : List Bool} {order : List ℕ} {place : ℕ} {made : List (List ℕ)} → IsInKeyOrder ranks order → length order ≤ place →
+      IsUnderway (network_of netlist) input ranks b begun (had_before (has_turn_in (network_of netlist) b) order place) made state →
+      IsPass (network_of netlist) input ranks b begun made state
+  all-turned {begun} {state} {order} {place} sorted end underway =
+      underway-pass (wired-network_of netlist circuit) fixed underway (λ gate kind start count drives unknown.
+      all-had sorted (has_turn_in (network_of netlist) b) place gate end (and_from _ _ (rw drives refl) (is-unknown (value_at b gate) unknown)) (ranked gate unknown))
 
   -- There is a pass wherever one may begin: the turns come in the order of the ranks.
-  module _ {begun : List Bool} (begins : MayBegin (network_of netlist) ranks b begun) where
-    abbrev Made : (ℕ → Bool) → Type 0
-    Made had = (made : List (List ℕ)) × (state : List Bool) × IsUnderway (network_of netlist) input ranks b begun had made state
+  pub pass-found : {begun : List Bool} → MayBegin (network_of netlist) ranks b begun → (made : List (List ℕ)) × ((state : List Bool) × IsPass (network_of netlist) input ranks b begun made state)
+  pass-found {begun} begins =
+      let order = order-found ranks in
+      let made = after-turns order.1 (has_turn_in (network_of netlist) b) Made ([], begun, underway-begin begins) turned (length order.0) (omega arith) in
+      (made.0, (made.1, all-turned order.1 (omega arith) made.2))
+    where
+      Made : (ℕ → Bool) → Type 0
+      Made had = (made : List (List ℕ)) × (state : List Bool) × IsUnderway (network_of netlist) input ranks b begun had made state
 
-    gate-turned : (had : ℕ → Bool) (gate : ℕ) → IsNext ranks (has_turn_in (network_of netlist) b) had gate → Made had → Made (also had gate)
-    gate-turned had gate next made = by_driver (driver_at (network_of netlist) gate) refl
-      where
-        none : is_gate_in (network_of netlist) gate ≡ false → Made (also had gate)
-        none is = absurd (both_ways _ is (and_parts _ _ next.turns).0)
+      turned : (had : ℕ → Bool) (gate : ℕ) → IsNext ranks (has_turn_in (network_of netlist) b) had gate → Made had → Made (also had gate)
+      turned had gate next made =
+          let is_gate = gate-number netlist circuit gate (and_parts _ _ next.turns).0 in
+          (_, _, underway-turned made.2 next is_gate (pattern-exists made.2 next is_gate).1)
 
-        by_driver : (driver : Driver) → driver_at (network_of netlist) gate ≡ driver → Made (also had gate)
-        by_driver (External place) e = none (rw e refl)
-        by_driver (Source source) e = none (rw e refl)
-        by_driver (Function kind start count) e =
-            let is_gate = (is_gate_of netlist circuit gate kind start count e).is_gate in
-            (_, _, underway-turned made.2 next is_gate (wires-exist made.2 next is_gate).1)
+-- What holds when the turn has come to a place of the order, whatever the input under which the values are fixed.
+abbrev pub IsUnderwayAnyhow : Netlist → List ℕ → List Tri → List Bool → (ℕ → Bool) → List (List ℕ) → List Bool → Type 0
+IsUnderwayAnyhow netlist ranks b begun had made state =
+    (input : List Bool) → IsFixed (network_of netlist) input b → IsUnderway (network_of netlist) input ranks b begun had made state
 
-    pub pass-found : (made : List (List ℕ)) × ((state : List Bool) × IsPass (network_of netlist) input ranks b begun made state)
-    pass-found =
-        let order = order-found ranks in
-        let made = after-turns order.1 (has_turn_in (network_of netlist) b) Made ([], begun, underway-begin begins) gate-turned (length order.0) (omega arith) in (
-          made.0,
-          (
-            made.1,
-            underway-pass (wired-network_of netlist circuit) fixed made.2 (λ gate kind start count drives unknown.
-                all-had order.1 (has_turn_in (network_of netlist) b) (length order.0) gate (omega arith) (has-turn (network_of netlist) b gate kind start count drives unknown) (ranked gate unknown)),
-          ),
-        )
+abbrev pub IsPassing : Netlist → List ℕ → List Tri → List Bool → RunRecord → ℕ → ScratchState → RunRecord → Type 0
+IsPassing netlist ranks b begun =
+    IsAtPlace netlist ranks (has_turn_in (network_of netlist) b) (unsettled_pins netlist b) true (IsUnderwayAnyhow netlist ranks b begun)
 
--- What a call of `make_pass` is given
-pub record IsPassAsked (netlist : Netlist) (ranks : List ℕ) (b : List Tri) (begun : List Bool) (first : RunRecord) : Type 0 where
-  pub circuit : IsCircuit netlist
-  pub given : AreFixedAndRanked (network_of netlist) ranks b
-  pub begins : MayBegin (network_of netlist) ranks b begun
-  pub room : HasRoom (network_of netlist) ranks b begun first
+module _ {netlist : Netlist} {ranks : List ℕ} {b : List Tri} {begun : List Bool} (circuit : IsCircuit netlist) (given : AreFixedAndRanked (network_of netlist) ranks b) where
+  -- Each turn may be taken, and keeps that.
+  pass-turns :
+      {most : ℕ → ℕ} → AreEnough (network_of netlist) ranks b begun most →
+      AreTurnsThatKeep netlist ranks (has_turn_in (network_of netlist) b) (unsettled_pins netlist b) true
+      (sum_by most (range_with_len 0 (length (network_of netlist)))) (IsUnderwayAnyhow netlist ranks b begun)
+  pass-turns {most} enough = record {
+    circuit = circuit;
+    keys_long = given.long;
+    long = λ had made state under. length-Refines state b (under given.input given.fixed).inside.settled ∙ given.fixed.long;
+    run = λ had made state under. (given.input, begun, (under given.input given.fixed).run);
+    few = λ had made state under.
+        omega (
+          arith,
+          flips_are_changes (network_of netlist) given.input begun made (under given.input given.fixed).run,
+          sum_by-le-sum_by (changes_in made) most (range_with_len 0 (length (network_of netlist)))
+              (underway-few (wired-network_of netlist circuit) given.fixed (under given.input given.fixed) most enough),
+        );
+    possible = λ had made state gate under next is_gate. turn-possible circuit given.fixed given.ranked (under given.input given.fixed) next is_gate (not (bit_at state gate));
+    kept = λ had made state gate pattern under next is_gate canonical input fixed. underway-turned circuit fixed given.ranked (under input fixed) next is_gate canonical;
+  }
 
--- after so many variables of the order, whatever the input under which the values are fixed
-pub record IsPassing (netlist : Netlist) (ranks : List ℕ) (b : List Tri) (begun : List Bool) (first : RunRecord) (place : ℕ) (scratch : ScratchState) (now : RunRecord) : Type 0 where
-  pub asked : IsPassAsked netlist ranks b begun first
-  pub at : IsAtPlace netlist ranks (has_turn_in (network_of netlist) b) (λ had made state. (input : List Bool) → IsFixed (network_of netlist) input b → IsUnderway (network_of netlist) input ranks b begun had made state) first place scratch now
+  pub passing-begin :
+      {first : RunRecord} {scratch : ScratchState} → MayBegin (network_of netlist) ranks b begun → HasRoom (network_of netlist) ranks b begun first →
+      IsInKeyOrder ranks scratch.sorted → scratch.marked ≡ [] → scratch.state ≡ begun → IsPassing netlist ranks b begun first 0 scratch first
+  passing-begin {first} begins room sorted marked state =
+      at-begin (pass-turns room.enough) room.room sorted marked [] (sym (append-nil first.steps)) (spends-none first)
+      (λ input fixed. subst (IsUnderway (network_of netlist) input ranks b begun (λ i. false) []) (sym state) (underway-begin begins))
 
-pub passing-begin : {netlist : Netlist} {ranks : List ℕ} {b : List Tri} {begun : List Bool} {first : RunRecord} {scratch : ScratchState} → IsPassAsked netlist ranks b begun first → IsInKeyOrder ranks scratch.sorted → scratch.marked ≡ [] → scratch.state ≡ begun → IsPassing netlist ranks b begun first 0 scratch first
-passing-begin {netlist} {ranks} {b} {begun} {first} {scratch} asked sorted marked state = record {
-  asked = asked;
-  at = at-begin netlist (has_turn_in (network_of netlist) b) (λ had made now. (input : List Bool) → IsFixed (network_of netlist) input b → IsUnderway (network_of netlist) input ranks b begun had made now) [] sorted marked
-      (sym (append-nil first.steps)) (spends-none first) (λ input fixed. subst (IsUnderway (network_of netlist) input ranks b begun (λ i. false) []) (sym state) (underway-begin asked.begins));
-}
-
-module _ {netlist : Netlist} {ranks : List ℕ} {b : List Tri} {begun : List Bool} {first : RunRecord} {place : ℕ} {scratch : ScratchState} {now : RunRecord} (passing : IsPassing netlist ranks b begun first place scratch now) where
-  under : IsUnderway (network_of netlist) passing.asked.given.input ranks b begun (had_before (has_turn_in (network_of netlist) b) scratch.sorted place) passing.at.made scratch.state
-  under = passing.at.holds passing.asked.given.input passing.asked.given.fixed
-
-  -- a state has a bit for each variable
-  pub passing-long : length scratch.state ≡ length (network_of netlist)
-  passing-long = length-Refines scratch.state b under.inside.settled ∙ passing.asked.given.fixed.long
-
-  module _ (inside : place < length scratch.sorted) where
-    abbrev var : ℕ
-    var = get_or scratch.sorted place 0
-
-    pub passing-inside : get_or scratch.sorted place 0 < length (network_of netlist)
-    passing-inside = omega (arith, key-inside ranks var ((passing.at.sorted.keyed var).0 (listed-at scratch.sorted place inside)), passing.asked.given.long)
-
-    -- a variable that is no unsettled gate has no turn
-    pub passing-skip : has_turn_in (network_of netlist) b (get_or scratch.sorted place 0) ≡ false → IsPassing netlist ranks b begun first (place + 1) scratch now
-    passing-skip none = record { asked = passing.asked; at = at-next passing.at inside none }
-
-    -- a gate's turn
-    module _ (turns : has_turn_in (network_of netlist) b (get_or scratch.sorted place 0) ≡ true) (is_gate : IsGateNumber netlist (get_or scratch.sorted place 0)) where
-      pub passing-possible : (list : List Bool) × IsCandidate (gate_at netlist (get_or scratch.sorted place 0)).kind (at_wires netlist (get_or scratch.sorted place 0) scratch.state) (unsettled_pins netlist b (get_or scratch.sorted place 0)) (not (bit_at scratch.state (get_or scratch.sorted place 0))) list
-      passing-possible = turn-possible passing.asked.circuit passing.asked.given.fixed passing.asked.given.ranked under (at-here passing.at inside turns) is_gate (not (bit_at scratch.state var))
-
-      -- its flips fit into the room
-      pub passing-room : (wires : List ℕ) → AreTurnWires netlist (get_or scratch.sorted place 0) (unsettled_pins netlist b (get_or scratch.sorted place 0)) scratch.state wires → HasRoomFor (length wires + length (turn_flips netlist (get_or scratch.sorted place 0) true (state_after wires scratch.state))) now
-      passing-room wires are =
-          let net = network_of netlist in
-          let flips = turn_flips netlist var true (state_after wires scratch.state) in
-          let later = with_step_if_any (with_step_if_any passing.at.made wires) flips in
-          let turned = underway-turned passing.asked.circuit passing.asked.given.fixed passing.asked.given.ranked under (at-here passing.at inside turns) is_gate are in
-          room-left net passing.asked.given.input begun passing.at.made (length wires + length flips) under.run passing.at.steps passing.at.spent passing.asked.room.room
-          (omega (
-            arith,
-            flips_are_changes net passing.asked.given.input begun later turned.run,
-            sum_by-le-sum_by (changes_in later) passing.asked.room.most (range_with_len 0 (length net))
-                (underway-few (wired-network_of netlist passing.asked.circuit) passing.asked.given.fixed turned passing.asked.room.most passing.asked.room.enough),
-            flips-after (with_step_if_any passing.at.made wires) flips,
-            flips-after passing.at.made wires,
-          ))
-
-      pub passing-turn : {last : ScratchState} {then : RunRecord} → IsTurn netlist (get_or scratch.sorted place 0) (unsettled_pins netlist b (get_or scratch.sorted place 0)) true scratch.state last.state now.steps then.steps → last.sorted ≡ scratch.sorted → last.marked ≡ [] → Spends now then → IsPassing netlist ranks b begun first (place + 1) last then
-      passing-turn turn order marked spent = record {
-        asked = passing.asked;
-        at = at-turn passing.at inside turns turn order marked spent (λ input fixed.
-            underway-turned passing.asked.circuit fixed passing.asked.given.ranked (passing.at.holds input fixed) (at-here passing.at inside turns) is_gate turn.are_wires);
-      }
-
-  pub passing-end : length scratch.sorted ≤ place → IsPassMade (network_of netlist) ranks b begun first.steps now.steps scratch.state
-  passing-end end = record {
-    made = passing.at.made;
-    whole = passing.at.steps;
-    pass = λ input fixed. underway-pass (wired-network_of netlist passing.asked.circuit) fixed (passing.at.holds input fixed)
-        (λ gate kind start count drives unknown.
-        all-had passing.at.sorted (has_turn_in (network_of netlist) b) place gate end (has-turn (network_of netlist) b gate kind start count drives unknown) (passing.asked.given.ranked gate unknown));
+  pub passing-end :
+      {first now : RunRecord} {place : ℕ} {scratch : ScratchState} → IsPassing netlist ranks b begun first place scratch now → length scratch.sorted ≤ place →
+      IsPassMade (network_of netlist) ranks b begun first.steps now.steps scratch.state
+  passing-end at end = record {
+    made = at.made;
+    whole = at.steps;
+    pass = λ input fixed. all-turned circuit fixed given.ranked at.sorted end (at.holds input fixed);
   }

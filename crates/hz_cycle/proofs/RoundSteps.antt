@@ -1,7 +1,7 @@
 -- A settling round is a step, and settles its variables; the rounds can be made one after the other.
 use Rattle.std.proofs.Common.{◌≡◌, ◌≢◌, ℕ, zero, suc, ◌+◌, ◌-◌, ◌<◌, ◌≤◌, ◌⊎◌, ◌&&◌, Bool, true, false, not, List, [], length, refl, sym, ap, ◌∙◌, subst, arith, inl, inr, eqb, IsTrue}
 use Rattle.std.specs.Prelude.{sum_by}
-use Rattle.std.proofs.lemmas.Bool.{cases_Bool, cases_lt, both_ways, and_parts, and_from, eqb-true, eq-eqb, false_from_ne_true}
+use Rattle.std.proofs.lemmas.Bool.{cases_Bool, cases_lt, both_ways, and_parts, and_from, eqb-true, eq-eqb, not-true, not_from_false, false_from_ne_true}
 use Rattle.std.proofs.lemmas.List.Sums.{get_or-le-sum_by}
 use Rattle.hz_core.specs.declared.tri.Tri.{Tri}
 use Rattle.hz_core.specs.declared.tri.Tri.TheVariants.{Zero, One, Unknown}
@@ -11,18 +11,19 @@ use Rattle.hz_net.specs.Network.{Driver, driver_at, bit_at, value_at, excitation
 use Rattle.hz_net.specs.Passes.{excitations, algorithm_b, IsKnown, IsUnknown, IsFirstRound, IsSettlingRound}
 use Rattle.hz_net.proofs.Excitations.{admits-driver_value, at-excitations}
 use Rattle.hz_net.proofs.Sequences.{length-algorithm_b, AllBelow-algorithm_b}
-use Rattle.hz_gmw.specs.Runs.{is_listed, IsRepeatFree, IsStep, IsRun, state_after, end_of}
+use Rattle.hz_lists.specs.Listed.{is_listed, IsRepeatFree}
+use Rattle.hz_gmw.specs.Runs.{IsStep, IsRun, state_after, end_of}
 use Rattle.hz_gmw.proofs.CoverB.{length-end_of}
 use Rattle.hz_reach.specs.FilteredRange.{filtered_range}
 use Rattle.hz_reach.specs.Order.{key_at}
 use Rattle.hz_reach.specs.Room.{with_step_if_any}
 use Rattle.hz_reach.specs.Spread.{changes_in}
 use Rattle.hz_reach.proofs.FilteredRangeLemmas.{filtered_range-is, is-filtered_range, filtered_range-once}
-use Rattle.hz_reach.proofs.GateTurn.{state_after-listed, state_after-unlisted}
+use Rattle.hz_reach.proofs.GateTurn.{state_after-listed, state_after-unlisted, either-value}
 use Rattle.hz_reach.proofs.ListPlaces.{key-inside}
 use Rattle.hz_reach.proofs.Room.{end_of-after, run-after}
 use Rattle.hz_cycle.specs.Rounds.{AreRoundsOf, IsSettlingRun}
-use Rattle.hz_cycle.proofs.SettledVariables.{either-value, admits-unknown}
+use Rattle.hz_cycle.proofs.SettledVariables.{admits-unknown}
 use Rattle.hz_cycle.proofs.StepLemmas.{changes-after, listed-none, unchanged-end}
 use Rattle.hz_reach.proofs.FlipCounts.{listed}
 
@@ -46,14 +47,6 @@ other-admitted One false out = refl
 other-admitted One true out = cc
 other-admitted Unknown false out = cc
 other-admitted Unknown true out = cc
-
-pub not-admits : (bit : Bool) → not bit ≡ true → bit ≡ false
-not-admits false e = refl
-not-admits true e = cc
-
-pub admits-not : (bit : Bool) → bit ≡ false → not bit ≡ true
-admits-not false e = refl
-admits-not true e = cc
 
 settling-first : (sequence : ℕ → List Tri) (i : ℕ) (first result : Tri) (round : ℕ) → IsSettlingRound sequence i first result round → round ≢ 0 → IsUnknown first × IsKnown result × IsFirstRound sequence i IsKnown round
 settling-first sequence i Zero result round is some = absurd (some is)
@@ -287,12 +280,12 @@ module _ {net : List Driver} {input : List Bool} {a : List Tri} {when : List ℕ
         filtered_range test 0 (length when),
         record {
           once = filtered_range-once test 0 (length when);
-          only = λ i there. let parts = and_parts _ _ (filtered_range-is test 0 (length when) i there).passes in (eqb-true (key_at when i) round parts.0, not-admits _ parts.1);
+          only = λ i there. let parts = and_parts _ _ (filtered_range-is test 0 (length when) i there).passes in (eqb-true (key_at when i) round parts.0, not-true _ parts.1);
           all = λ i here lacks.
               let inside = key-inside when i (λ none. some (sym here ∙ none)) in
               let zero_more : 0 + i ≡ i = omega arith in
               subst (λ (n : ℕ). is_listed (filtered_range test 0 (length when)) n ≡ true) zero_more
-              (is-filtered_range test 0 (length when) i inside (subst (λ (n : ℕ). test n ≡ true) (sym zero_more) (and_from _ _ (eq-eqb (key_at when i) round here) (admits-not _ lacks))));
+              (is-filtered_range test 0 (length when) i inside (subst (λ (n : ℕ). test n ≡ true) (sym zero_more) (and_from _ _ (eq-eqb (key_at when i) round here) (not_from_false _ lacks))));
         },
       )
 

@@ -1,25 +1,25 @@
 -- The loops over settling rounds: that a mark may be set, that each step has room, and what holds after it.
 use Rattle.std.proofs.Common.{◌≡◌, ◌≢◌, ℕ, suc, ◌+◌, ◌-◌, ◌<◌, ◌≤◌, Bool, true, false, not, cond, List, [], ◌∷◌, ◌++◌, length, get_or, take, drop, sym, ap, ◌∙◌, subst, arith, inl, inr, append-nil}
 use Rattle.std.specs.List.{slice_range}
-use Rattle.std.proofs.lemmas.Bool.{cases_lt}
+use Rattle.std.proofs.lemmas.Bool.{cases_lt, not-true, not_from_false}
 use Rattle.std.proofs.lemmas.List.{get_or-drop, get_or-take, length-take, length-drop, take_more}
 use Rattle.std.proofs.lemmas.List.Elements.{filter-append}
 use Rattle.hz_core.specs.declared.tri.Tri.{Tri}
 use Rattle.hz_core.specs.Ternary.{admits}
 use Rattle.hz_net.specs.Network.{Driver, bit_at, value_at}
-use Rattle.hz_gmw.specs.Runs.{is_listed, state_after}
+use Rattle.hz_lists.specs.Listed.{is_listed}
+use Rattle.hz_gmw.specs.Runs.{state_after}
 use Rattle.hz_gmw.specs.RunRecord.{RunRecord}
 use Rattle.hz_gmw.proofs.Flips.{length-state_after}
 use Rattle.hz_reach.specs.Order.{key_at, IsEarlier, IsInKeyOrder}
 use Rattle.hz_reach.specs.Room.{with_step_if_any, Spends, HasRoomFor, HasRoomForStep}
 use Rattle.hz_reach.specs.ScratchState.{ScratchState}
-use Rattle.hz_reach.proofs.ListPlaces.{listed-at, listed-place}
+use Rattle.hz_lists.proofs.ListedLemmas.{listed-at, listed-place, Ascends, ascends-once, ascends-filter, filtered-is, is-filtered}
 use Rattle.hz_cycle.specs.Rounds.{differing_variables, IsOneRound, AreRoundsOf, AreRoundsMade}
-use Rattle.hz_reach.proofs.DistinctLists.{Ascends, ascends-once, ascends-filter, filtered-is, is-filtered}
 use Rattle.hz_reach.proofs.FlipCounts.{flips_per_variable}
 use Rattle.hz_reach.proofs.ListPlaces.{key-inside}
 use Rattle.hz_reach.proofs.Room.{steps-after, flips-after, room-for-step, room-left, spends-none, spends-more}
-use Rattle.hz_cycle.proofs.RoundSteps.{not-admits, admits-not, IsSettledTo, AreRoundFlips, settled-begin, settled-skip, settled-after, settled-end}
+use Rattle.hz_cycle.proofs.RoundSteps.{IsSettledTo, AreRoundFlips, settled-begin, settled-skip, settled-after, settled-end}
 
 -- One round is marked
 
@@ -36,24 +36,38 @@ slice-more order from place above inside =
     ∙ (take_more (drop from order) (place - from) 0 (omega (arith, length-drop from order, above, inside))
     ∙ ap (λ (x : ℕ). take (place - from) (drop from order) ++ x ∷ []) (get_or-drop from order (place - from) 0 ∙ ap (λ (n : ℕ). get_or order n 0) here))
 
-pub differing-more : (b : List Tri) (state : List Bool) (list : List ℕ) (var : ℕ) → admits (value_at b var) (bit_at state var) ≡ false → differing_variables b state (list ++ var ∷ []) ≡ differing_variables b state list ++ var ∷ []
-differing-more b state list var lacks =
-    filter-append (λ v. not (admits (value_at b v) (bit_at state v))) list (var ∷ [])
-    ∙ ap (λ (bit : Bool). differing_variables b state list ++ cond (not bit) (var ∷ []) []) lacks
+pub differing-next : (b : List Tri) (state : List Bool) (list : List ℕ) (var : ℕ) → differing_variables b state (list ++ var ∷ []) ≡ differing_variables b state list ++ cond (not (admits (value_at b var) (bit_at state var))) (var ∷ []) []
+differing-next b state list var = filter-append (λ v. not (admits (value_at b v) (bit_at state v))) list (var ∷ [])
 
-pub differing-skip : (b : List Tri) (state : List Bool) (list : List ℕ) (var : ℕ) → admits (value_at b var) (bit_at state var) ≡ true → differing_variables b state (list ++ var ∷ []) ≡ differing_variables b state list
-differing-skip b state list var has =
-    filter-append (λ v. not (admits (value_at b v) (bit_at state v))) list (var ∷ [])
-    ∙ (ap (λ (bit : Bool). differing_variables b state list ++ cond (not bit) (var ∷ []) []) has ∙ append-nil (differing_variables b state list))
+-- A variable that is read at a place has the key of the round.
+pub record IsInRound (keys order : List ℕ) (from place : ℕ) : Type 0 where
+  pub inside : place < length order
+  pub same : (k : ℕ) → from ≤ k → k < place + 1 → key_at keys (get_or order k 0) ≡ key_at keys (get_or order from 0)
+
+pub in-round :
+    {keys order read first : List ℕ} {from place places : ℕ} → read ≡ order → first ≡ order → places ≡ length order → place < places →
+    ((k : ℕ) → from ≤ k → k < place → key_at keys (get_or order k 0) ≡ key_at keys (get_or order from 0)) →
+    key_at keys (get_or read place 0) ≡ key_at keys (get_or first from 0) → IsInRound keys order from place
+in-round {keys} {order} {read} {first} {from} {place} same again end less before here = record {
+  inside = omega (arith, less, end);
+  same = λ k above few. elim (cases_lt k place) [
+    | inl early ↦ before k above early
+    | inr late ↦ (
+        let is : k ≡ place = omega (arith, late, few) in
+        ap (λ (n : ℕ). key_at keys (get_or order n 0)) is
+        ∙ (ap (λ (list : List ℕ). key_at keys (get_or list place 0)) (sym same) ∙ (here ∙ ap (λ (list : List ℕ). key_at keys (get_or list from 0)) again))
+        )
+  ];
+}
 
 -- marks so far are less than the next variable of the round
-pub round-ascends : (keys order : List ℕ) (b : List Tri) (state : List Bool) (from place i : ℕ) → IsInKeyOrder keys order → place < length order → ((k : ℕ) → from ≤ k → k < place + 1 → key_at keys (get_or order k 0) ≡ key_at keys (get_or order from 0)) → is_listed (differing_variables b state (slice_range order from place)) i ≡ true → i < get_or order place 0
-round-ascends keys order b state from place i sorted inside same there =
+pub round-ascends : {keys order : List ℕ} {from place : ℕ} (b : List Tri) (state : List Bool) (i : ℕ) → IsInKeyOrder keys order → IsInRound keys order from place → is_listed (differing_variables b state (slice_range order from place)) i ≡ true → i < get_or order place 0
+round-ascends {keys} {order} {from} {place} b state i sorted round there =
     let listed = (filtered-is (λ v. not (admits (value_at b v) (bit_at state v))) (slice_range order from place) i there).1 in
     let at = listed-place (slice_range order from place) i listed in
     let few : at.0 < place - from = omega (arith, at.1, length-take (place - from) (drop from order)) in
     let here : get_or order (from + at.0) 0 ≡ i = sym (get_or-take (place - from) (drop from order) at.0 0 few ∙ get_or-drop from order at.0 0) ∙ at.2 in
-    number (sorted.ordered (from + at.0) place (omega (arith, few)) inside) (same (from + at.0) (omega arith) (omega (arith, few))) (same place (omega (arith, few)) (omega arith)) here
+    number (sorted.ordered (from + at.0) place (omega (arith, few)) round.inside) (round.same (from + at.0) (omega arith) (omega (arith, few))) (round.same place (omega (arith, few)) (omega arith)) here
   where
     number : {one : ℕ} → IsEarlier keys one (get_or order place 0) → key_at keys one ≡ key_at keys (get_or order from 0) → key_at keys (get_or order place 0) ≡ key_at keys (get_or order from 0) → one ≡ i → i < get_or order place 0
     number (inl less) first second here = absurd (omega (arith, less, first, second))
@@ -191,8 +205,8 @@ module _ {when : List ℕ} {b : List Tri} {begun : List Bool} {first : RunRecord
     flips-are : AreRoundFlips when b scratch.state here flips
     flips-are = subst (AreRoundFlips when b scratch.state here) (sym marks) (record {
       once = ascends-once 0 (differing_variables b scratch.state group) (ascends-filter lacks 0 group group-ascends);
-      only = λ i there. let is = filtered-is lacks group i there in (group-round i is.1, not-admits _ is.0);
-      all = λ i is lacking. is-filtered lacks group i (round-group i is) (admits-not _ lacking);
+      only = λ i there. let is = filtered-is lacks group i there in (group-round i is.1, not-true _ is.0);
+      all = λ i is lacking. is-filtered lacks group i (round-group i is) (not_from_false _ lacking);
     })
 
     settled-next : (net : List Driver) (input : List Bool) (a : List Tri) → AreRoundsOf net input a when b begun → IsSettledTo net input when b begun (suc here) (with_step_if_any underway.made flips) (state_after flips scratch.state)

@@ -10,6 +10,7 @@ use Rattle.hz_gmw.specs.Runs.{IsRun, end_of}
 use Rattle.hz_gmw.specs.Cycles.{states_of, IsOutcome}
 use Rattle.hz_gmw.proofs.Paths.{IsRun-front, IsCut, cut-member}
 use Rattle.hz_reach.proofs.Exact.{joins-by}
+use Rattle.hz_reach.proofs.RanksOrderGates.{turns-of}
 use Rattle.hz_reach.specs.Existence.{ResultOfAExists, ResultOfBExists, RanksExist, SettlingRoundsExist, SparingRunExists}
 use Rattle.hz_cycle.specs.Exact.{RunsShowB, HasSettleRunAndCycle, SettleRunsExist, BIsExact, OutcomesExist}
 use Rattle.hz_cycle.proofs.CycleExists.{cycle-found}
@@ -21,7 +22,7 @@ use Rattle.hz_reach.specs.Spread.{IsSparingRun}
 use Rattle.hz_cycle.specs.Cycles.{IsCycleOf}
 use Rattle.hz_cycle.specs.Pass.{MayBegin, IsPass}
 use Rattle.hz_cycle.specs.Turned.{IsTurned}
-use Rattle.hz_cycle.proofs.Change.{IsChange, change-fixed, unsettled-ranked}
+use Rattle.hz_cycle.proofs.Change.{IsChange, change-fixed, fixed-and-ranked}
 use Rattle.hz_cycle.proofs.PassTurns.{pass-found}
 use Rattle.hz_cycle.proofs.RoundSteps.{rounds-found}
 use Rattle.hz_cycle.proofs.SettleRunExists.{IsBeforePass, rounds-may-begin, pass-may-begin, settle-found, settle-end}
@@ -68,7 +69,7 @@ runs_show_b covers net input start a b settle cycle i long a_result b_result is_
 
 module _ {netlist : Netlist} {input start : List Bool} {a : List Tri} {ranks : List ℕ} {b : List Tri} (circuit : IsCircuit netlist) (change : IsChange (network_of netlist) input start a ranks b) where
   pass : (begun : List Bool) → MayBegin (network_of netlist) ranks b begun → (made : List (List ℕ)) × ((state : List Bool) × IsPass (network_of netlist) input ranks b begun made state)
-  pass begun begins = pass-found circuit (change-fixed change) (unsettled-ranked change) begins
+  pass begun begins = pass-found circuit (change-fixed change) (fixed-and-ranked change).ranked begins
 
   -- the cycle of a turned state
   cycle : (state : List Bool) → IsTurned (network_of netlist) ranks b state → (steps : List (List ℕ)) × IsCycleOf (network_of netlist) input b state steps
@@ -105,7 +106,7 @@ settle_runs_exist ranks_exist rounds_exist sparing_exists netlist input start a 
     let ranks = ranks_exist (algorithm_a net input start) a a_result in
     let rounds = rounds_exist (algorithm_b net input a) a b b_result in
     let sparing = sparing_exists netlist input start a ranks.0 circuit begins a_result ranks.1 in
-    both circuit (record { long = begins.long; a_result = a_result; ranked = ranks.1; b_result = b_result }) begins rounds.1 sparing.1
+    both circuit (record { turns = turns-of circuit begins a_result ranks.1; a_result = a_result; b_result = b_result }) begins rounds.1 sparing.1
 
 pub b_is_exact : RunsShowB → SettleRunsExist → BIsExact
 b_is_exact shown exist netlist input start a b i circuit begins a_result b_result =

@@ -28,9 +28,9 @@ use Rattle.hz_net.proofs.Wired.{wired-network_of}
 use Rattle.hz_cycle.specs.Cycles.{IsSettleRun}
 use Rattle.hz_cycle.specs.Pass.{IsFixed, MayBegin, AreEnough, HasRoom, IsPass}
 use Rattle.hz_cycle.specs.Rounds.{AreRoundsOf, IsSettlingRun, AreRoundsMade}
-use Rattle.hz_cycle.proofs.SettledVariables.{known-stable, wire-source, unknown-inside}
-use Rattle.hz_cycle.proofs.Change.{IsChange, a-long, a-above, change-fixed, unsettled-unknown, unknown-within}
-use Rattle.hz_cycle.proofs.CycleExists.{refines-unchanged, twos}
+use Rattle.hz_cycle.proofs.SettledVariables.{refines-unchanged, known-stable, wire-source, unknown-inside}
+use Rattle.hz_cycle.proofs.Change.{IsChange, a-above, change-fixed, unsettled-unknown}
+use Rattle.hz_cycle.proofs.CycleExists.{twos}
 use Rattle.hz_cycle.proofs.StepLemmas.{changes-append, unchanged-end}
 
 -- a variable that is X in the result, or not in the first list, has no settling round
@@ -65,14 +65,14 @@ pub rounds-may-begin :
     IsChange net input start a ranks b → AreSettlingRounds (algorithm_b net input a) a b when → IsSparingRun net input start a ranks spread →
     state ≡ end_of start spread → AreRoundsOf net input a when b state
 rounds-may-begin {net} {input} {start} {a} {ranks} {when} {b} {spread} {state} change rounds sparing ends = record {
-  long = a-long change;
+  long = change.turns.long_a;
   above = a-above change;
   result = change.b_result;
   rounds = rounds;
   refined =
       subst (λ (s : List Bool). Refines s a) (sym ends)
       (refines-unchanged start spread a
-      (subst (Refines start) (sym change.a_result.2) (start-refines net input start change.long change.a_result.0)) sparing.known);
+      (subst (Refines start) (sym change.a_result.2) (start-refines net input start change.turns.long change.a_result.0)) sparing.known);
 }
 
 -- A run as it was before its first step: what it has made by now is spent of it.
@@ -92,7 +92,7 @@ rounds-room {net} {input} {start} {a} {ranks} {now} sparing room =
 
 module _ {netlist : Netlist} {input start : List Bool} {a : List Tri} {ranks when : List ℕ} {b : List Tri} {spread settle : List (List ℕ)} {spread_state state : List Bool} (before : IsBeforePass netlist input start a ranks when b spread spread_state settle state) where
   wired : IsWired (network_of netlist)
-  wired = wired-network_of netlist before.circuit
+  wired = before.change.turns.wired
 
   fixed : IsFixed (network_of netlist) input b
   fixed = change-fixed before.change
@@ -101,7 +101,7 @@ module _ {netlist : Netlist} {input start : List Bool} {a : List Tri} {ranks whe
   unsettled-round : (i : ℕ) → IsUnknown (value_at b i) → key_at when i ≡ 0
   unsettled-round i unknown =
       no-round (algorithm_b (network_of netlist) input a) i (value_at a i) (value_at b i) (key_at when i)
-      (before.rounds.each i (unknown-within before.change i (unsettled-unknown before.change i unknown))) (inl unknown)
+      (before.rounds.each i (omega (arith, unknown-inside fixed i unknown, before.change.turns.long_a))) (inl unknown)
 
   -- the bits after the spread run stay where a variable is unsettled
   unsettled-kept : (i : ℕ) → IsUnknown (value_at b i) → bit_at state i ≡ bit_at (end_of start spread) i
@@ -221,7 +221,7 @@ module _ {netlist : Netlist} {input start : List Bool} {a : List Tri} {ranks whe
         run = whole;
         values = subst (λ (s : List Bool). Refines s b) (sym ends) is_pass.turned.settled;
         stable = λ i inside known. subst (λ (s : List Bool). bit_at s i ≡ excitation net input s i) (sym ends) (known-stable fixed last i is_pass.turned.settled inside known);
-        flips = flips_per_unknown net input start ((spread ++ settle) ++ pass) a 2 whole (a-long before.change) (λ i known.
+        flips = flips_per_unknown net input start ((spread ++ settle) ++ pass) a 2 whole before.change.turns.long_a (λ i known.
             omega (
               arith,
               changes-append (spread ++ settle) pass i,

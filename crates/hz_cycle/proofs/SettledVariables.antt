@@ -1,8 +1,8 @@
 -- What the result of Algorithm B says of a state that refines it: settled variables are stable, and each pin of an
 -- unsettled gate that is not settled may take either bit.
-use Rattle.std.proofs.Common.{◌≡◌, ℕ, zero, suc, ◌+◌, ◌-◌, ◌<◌, ◌⊎◌, Bool, true, false, not, cond, List, length, map, get_or, refl, sym, ap, ◌∙◌, subst, arith, inl, inr, IsTrue, ◌≢◌}
+use Rattle.std.proofs.Common.{◌≡◌, ℕ, zero, suc, ◌+◌, ◌-◌, ◌<◌, ◌⊎◌, Bool, true, false, not, cond, List, [], ◌∷◌, length, map, get_or, refl, sym, ap, ◌∙◌, subst, arith, inl, inr, IsTrue, ◌≢◌}
 use Rattle.std.specs.Prelude.{slice_range}
-use Rattle.std.proofs.lemmas.Bool.{cases_lt}
+use Rattle.std.proofs.lemmas.Bool.{cases_lt, false_from_ne_true}
 use Rattle.std.proofs.lemmas.List.{get_or_past, get_or-map}
 use Rattle.hz_core.specs.declared.tri.Tri.{Tri}
 use Rattle.hz_core.specs.declared.tri.Tri.TheVariants.{Zero, One, Unknown}
@@ -15,13 +15,17 @@ use Rattle.hz_core.proofs.Patterns.{candidate-extension}
 use Rattle.hz_net.specs.Network.{Driver, External, Function, Source, driver_at, bit_at, value_at, driver_value3, excitation}
 use Rattle.hz_net.specs.Passes.{algorithm_b, IsKnown, IsUnknown, AreRounds}
 use Rattle.hz_net.proofs.Excitations.{admits-driver_value, at-excitations}
-use Rattle.hz_net.proofs.PartLemmas.{length-part}
+use Rattle.hz_lists.proofs.PartLemmas.{length-part}
 use Rattle.hz_net.proofs.Sequences.{length-algorithm_b}
-use Rattle.hz_gmw.specs.Runs.{is_listed, state_after}
-use Rattle.hz_gmw.proofs.Flips.{length-state_after, at-state_after}
+use Rattle.hz_lists.specs.Listed.{is_listed}
+use Rattle.hz_gmw.specs.Runs.{state_after, end_of}
+use Rattle.hz_gmw.proofs.CoverB.{length-end_of}
+use Rattle.hz_reach.specs.Spread.{changes_in}
+use Rattle.hz_reach.proofs.FlipCounts.{changes-more}
+use Rattle.hz_cycle.proofs.StepLemmas.{listed-none, unchanged-end}
 use Rattle.hz_net.specs.Reads.{IsWired}
 use Rattle.hz_reach.specs.Turn.{is_gate_in}
-use Rattle.hz_reach.proofs.GateTurn.{driver-inside}
+use Rattle.hz_reach.proofs.GateTurn.{driver-inside, either-value}
 use Rattle.hz_cycle.specs.Pass.{IsFixed}
 
 -- Values
@@ -47,31 +51,30 @@ known-bit One false known there = cc
 known-bit One true known there = refl
 known-bit Unknown bit known there = cc
 
-pub bit-known : (bit : Bool) → tri_of bit ≢ Unknown
+bit-known : (bit : Bool) → tri_of bit ≢ Unknown
 bit-known false e = cc
 bit-known true e = cc
-
-pub either-value : (value : Tri) → IsUnknown value ⊎ IsKnown value
-either-value Zero = inr (λ e. cc)
-either-value One = inr (λ e. cc)
-either-value Unknown = inl refl
 
 -- two states that refine a list agree where it is known
 pub same-known : (state other : List Bool) (b : List Tri) (i : ℕ) → Refines state b → Refines other b → IsKnown (value_at b i) → bit_at state i ≡ bit_at other i
 same-known state other b i here there known =
     same-admitted (value_at b i) (bit_at state i) (bit_at other i) known (get_or-Refines state b here i) (get_or-Refines other b there i)
 
--- where only unknown variables change, a state refines a list as before
+-- a state after steps that change no settled variable refines the list as the first does
+pub refines-unchanged : (begun : List Bool) (steps : List (List ℕ)) (b : List Tri) → Refines begun b → ((i : ℕ) → IsKnown (value_at b i) → changes_in steps i ≡ 0) → Refines (end_of begun steps) b
+refines-unchanged begun steps b refined known =
+    Refines-get_or (end_of begun steps) b (length-end_of begun steps ∙ length-Refines begun b refined) (λ i inside.
+    elim (either-value (value_at b i)) [
+      | inl unknown ↦ admits-unknown (value_at b i) (bit_at (end_of begun steps) i) unknown
+      | inr settled ↦
+          subst (λ (bit : Bool). IsTrue (admits (value_at b i) bit)) (sym (unchanged-end begun steps i (known i settled))) (get_or-Refines begun b refined i)
+    ])
+
+-- and after one step
 pub refines-state_after : (state : List Bool) (b : List Tri) (flips : List ℕ) → Refines state b → ((i : ℕ) → is_listed flips i ≡ true → IsUnknown (value_at b i)) → Refines (state_after flips state) b
 refines-state_after state b flips refined only =
-    Refines-get_or (state_after flips state) b (length-state_after flips state ∙ length-Refines state b refined) (λ i inside.
-    let within : i < length state = subst (λ (n : ℕ). i < n) (length-state_after flips state) inside in
-    subst (λ (bit : Bool). IsTrue (admits (value_at b i) bit)) (sym (at-state_after flips state i within))
-    (by_case i (is_listed flips i) (only i)))
-  where
-    by_case : (i : ℕ) (listed : Bool) → (listed ≡ true → IsUnknown (value_at b i)) → IsTrue (admits (value_at b i) (cond listed (not (bit_at state i)) (bit_at state i)))
-    by_case i true unknown = admits-unknown (value_at b i) (not (bit_at state i)) (unknown refl)
-    by_case i false unknown = get_or-Refines state b refined i
+    refines-unchanged state (flips ∷ []) b refined (λ i known.
+    omega (arith, changes-more flips [] i, listed-none flips i (false_from_ne_true _ (λ there. known (only i there)))))
 
 -- the result of Algorithm B is one
 pub fixed-result : (net : List Driver) (input : List Bool) (first : List Tri) (rounds : ℕ) → length first ≡ length net → AreRounds (algorithm_b net input first) rounds → IsFixed net input (algorithm_b net input first rounds)

@@ -13,8 +13,9 @@ use Rattle.hz_core.proofs.Refinements.{length-Refines}
 use Rattle.hz_net.specs.Network.{Driver, Function, Source, driver_at, bit_at, value_at, External}
 use Rattle.hz_net.specs.Passes.{IsUnknown, IsKnown}
 use Rattle.hz_net.specs.Reads.{IsWired, IsWireInto}
-use Rattle.hz_net.proofs.PartLemmas.{length-part, at-part}
-use Rattle.hz_gmw.specs.Runs.{is_listed, state_after}
+use Rattle.hz_lists.proofs.PartLemmas.{length-part, at-part}
+use Rattle.hz_lists.specs.Listed.{is_listed}
+use Rattle.hz_gmw.specs.Runs.{state_after}
 use Rattle.hz_gmw.proofs.Flips.{length-state_after}
 use Rattle.hz_reach.specs.Order.{key_at, IsEarlier}
 use Rattle.hz_reach.specs.Turn.{is_gate_in}
@@ -24,7 +25,7 @@ use Rattle.hz_cycle.specs.Pass.{IsFixed}
 use Rattle.hz_cycle.specs.Turns.{has_turn_in}
 use Rattle.hz_cycle.proofs.SettledVariables.{refines-state_after, unknown-inside, wire-source, source-is_gate, same-known, no-input}
 use Rattle.hz_cycle.proofs.PassInvariant.{IsInside, HasPatternInside}
-use Rattle.hz_reach.proofs.FlipCounts.{not-not}
+use Rattle.std.proofs.Math.Bool.{not-not}
 
 -- What a gate's turn makes of a state: the gate has the complement of its bit, the wires of its fan-out have the bit that it
 -- had, its other pins have the pattern's bits, and everything else stays.

@@ -15,8 +15,8 @@ use Rattle.hz_net.specs.Reads.{IsWireInto, IsWired}
 use Rattle.hz_cycle.specs.Pass.{IsFixed, MayBegin}
 use Rattle.hz_cycle.specs.Turned.{IsShown, HasPattern, IsTurned}
 use Rattle.hz_reach.proofs.Order.{earlier-or-not}
-use Rattle.hz_reach.proofs.GateTurn.{other-bit}
-use Rattle.hz_cycle.proofs.SettledVariables.{either-value, same-known, no-input, wire-source, source-gate}
+use Rattle.hz_reach.proofs.GateTurn.{other-bit, either-value}
+use Rattle.hz_cycle.proofs.SettledVariables.{same-known, no-input, wire-source, source-gate}
 use Rattle.hz_cycle.proofs.PassInvariant.{IsInside}
 
 pub turned-may-begin : {net : List Driver} {ranks : List ℕ} {b : List Tri} {state : List Bool} → IsTurned net ranks b state → MayBegin net ranks b state

@@ -11,16 +11,16 @@ use Rattle.hz_gmw.specs.Cycles.{states_of, IsNontransient}
 use Rattle.hz_reach.specs.Given.{AreResultsOfA}
 
 -- What both algorithms give for a change: their results, the ranks and the settling rounds.
-pub record AreResultsOfBoth (netlist : Netlist) (input start : List Bool) (a : List Tri) (ranks when : List ℕ) (b : List Tri) : Type 0 where
-  pub of_a : AreResultsOfA netlist input start a ranks
+pub record AreResultsOfBoth (netlist : Netlist) (start input : List Bool) (a : List Tri) (ranks : List ℕ) (b : List Tri) (when : List ℕ) : Type 0 where
+  pub of_a : AreResultsOfA netlist start input a ranks
   pub b_result : IsResult (algorithm_b (network_of netlist) input a) b
   pub settling : AreSettlingRounds (algorithm_b (network_of netlist) input a) a b when
 
--- The result of Algorithm B and the ranks of Algorithm A are those of some change: of a stable start under this input.
-pub record AreOfChange (netlist : Netlist) (input : List Bool) (ranks : List ℕ) (b : List Tri) : Type 0 where
+-- The ranks of Algorithm A and the result of Algorithm B come from a change: from a stable start to this input.
+pub record ComeFromAChange (netlist : Netlist) (input : List Bool) (ranks : List ℕ) (b : List Tri) : Type 0 where
   pub start : List Bool
   pub a : List Tri
-  pub of_a : AreResultsOfA netlist input start a ranks
+  pub of_a : AreResultsOfA netlist start input a ranks
   pub b_result : IsResult (algorithm_b (network_of netlist) input a) b
 
 -- The settle run: a run from the start in whose last state each variable that is not X in the result of Algorithm B has

@@ -1,8 +1,8 @@
 -- Words, with their arguments, in the order in which one needs them. A variable is settled if it is not X in the result b of
 -- Algorithm B, else unsettled.
 --
--- AreResultsOfBoth netlist input start a ranks when b: a change, and what both algorithms give for it
--- AreOfChange netlist input ranks b: the result of Algorithm B and the ranks of Algorithm A are those of a change
+-- AreResultsOfBoth netlist start input a ranks b when: a change, and what both algorithms give for it
+-- ComeFromAChange netlist input ranks b: the ranks of Algorithm A and the result of Algorithm B come from a change
 -- IsTurned net ranks b state: a turned state: a pass may begin there and end there
 -- IsSettleRun net input start a b steps: a run to a turned state
 -- IsCycleOf net input b state steps: a nontransient cycle in which each unsettled variable takes both values

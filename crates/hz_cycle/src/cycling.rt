@@ -4,7 +4,7 @@ ghost use Rattle.hz_net.specs.Network.{network_of};
 ghost use Rattle.hz_reach.specs.Order.{IsInKeyOrder};
 ghost use Rattle.hz_reach.specs.Room.{Spends};
 ghost use Rattle.hz_reach.specs.Given.{IsEmptyRun};
-ghost use Rattle.hz_cycle.specs.Cycles.{AreOfChange, IsCycleOf};
+ghost use Rattle.hz_cycle.specs.Cycles.{ComeFromAChange, IsCycleOf};
 ghost use Rattle.hz_cycle.specs.Turned.{IsTurned};
 
 use crate::passing::make_pass;
@@ -26,7 +26,7 @@ pub fn cycle_run(
     scratch: &mut Scratch,
     run: &mut Run,
 )
-    requires change { AreOfChange net.now input.now rank.now b.now }
+    requires change { ComeFromAChange net.now input.now rank.now b.now }
     requires turned { IsTurned (network_of net.now) rank.now b.now scratch.old.state }
     requires none_marked { scratch.old.marked ≡ [] }
     requires run { IsEmptyRun (4 * length (network_of net.now)) run.old }
@@ -48,7 +48,7 @@ pub fn cycle_in_order(
     scratch: &mut Scratch,
     run: &mut Run,
 )
-    requires change { AreOfChange net.now input.now rank.now b.now }
+    requires change { ComeFromAChange net.now input.now rank.now b.now }
     requires turned { IsTurned (network_of net.now) rank.now b.now scratch.old.state }
     requires none_marked { scratch.old.marked ≡ [] }
     requires sorted { IsInKeyOrder rank.now scratch.old.sorted }

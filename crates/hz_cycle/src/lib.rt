@@ -15,4 +15,4 @@ mod settling;
 
 pub use cycling::{cycle_in_order, cycle_run};
 pub use laws::{b_is_exact, runs_show_b, settle_runs_exist};
-pub use settling::{settle_from, settle_run};
+pub use settling::{Results, settle_from, settle_run};

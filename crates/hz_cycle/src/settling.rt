@@ -17,7 +17,20 @@ use crate::passing::make_pass;
 use hz_core::Tri;
 use hz_gmw::Run;
 use hz_net::Net;
-use hz_reach::{Scratch, sparing_in_order};
+use hz_reach::{Change, Scratch, sparing_in_order};
+
+/// What both algorithms give for a change: their results, the ranks and the settling rounds.
+#[derive(Clone, Copy)]
+pub struct Results<'a> {
+    /// The result of Algorithm A.
+    pub a: &'a [Tri],
+    /// The ranks of Algorithm A.
+    pub ranks: &'a [u32],
+    /// The result of Algorithm B.
+    pub b: &'a [Tri],
+    /// The settling rounds of Algorithm B.
+    pub when: &'a [u32],
+}
 
 /// The settle run: a run from a start that is stable under its own inputs, in whose last state each variable that is not X
 /// in the result of Algorithm B has its value there and is stable. That state is turned, so that a cycle may begin in it.
@@ -39,7 +52,7 @@ pub fn settle_run(
     scratch: &mut Scratch,
     run: &mut Run,
 )
-    requires change { AreResultsOfBoth net.now input.now start.now a.now rank.now when.now b.now }
+    requires change { AreResultsOfBoth net.now start.now input.now a.now rank.now b.now when.now }
     requires scratch { IsScratchFor net.now scratch.old }
     requires run { IsEmptyRun (2 * length (network_of net.now)) run.old }
     ensures run { IsSettleRun (network_of net.now) input.now start.now a.now b.now run.new.steps }
@@ -50,42 +63,43 @@ pub fn settle_run(
     ensures room { Spends run.old run.new }
 {
     scratch.sort(rank);
-    sparing_in_order(net, start, input, a, rank, scratch, run);
-    settle_from(net, start, input, a, rank, when, b, scratch, run);
+    let change = Change { net, start, input };
+    sparing_in_order(&change, a, rank, scratch, run);
+    let results = Results {
+        a,
+        ranks: rank,
+        b,
+        when,
+    };
+    settle_from(&change, &results, scratch, run);
 }
 
 /// The settle run, if the run has its beginning already, the spread run without the wires that it does not need, and `scratch`
 /// has the last state of that. The variables of `scratch` are sorted by rank, and stay so.
-pub fn settle_from(
-    net: &Net,
-    start: &[bool],
-    input: &[bool],
-    a: &[Tri],
-    rank: &[u32],
-    when: &[u32],
-    b: &[Tri],
-    scratch: &mut Scratch,
-    run: &mut Run,
-)
-    requires change { AreResultsOfBoth net.now input.now start.now a.now rank.now when.now b.now }
-    requires begun { IsSparingRun (network_of net.now) input.now start.now a.now rank.now run.old.steps }
-    requires state { scratch.old.state ≡ end_of start.now run.old.steps }
+pub fn settle_from(change: &Change, results: &Results, scratch: &mut Scratch, run: &mut Run)
+    requires change { AreResultsOfBoth change.now.net.now change.now.start.now change.now.input.now
+        results.now.a.now results.now.ranks.now results.now.b.now results.now.when.now }
+    requires begun { IsSparingRun (network_of change.now.net.now) change.now.input.now change.now.start.now
+        results.now.a.now results.now.ranks.now run.old.steps }
+    requires state { scratch.old.state ≡ end_of change.now.start.now run.old.steps }
     requires none_marked { scratch.old.marked ≡ [] }
-    requires sorted { IsInKeyOrder rank.now scratch.old.sorted }
-    requires room_for_flips { 2 * length (network_of net.now) ≤ run.old.spare_flips + flip_count run.old.steps }
-    requires room_for_steps { 2 * length (network_of net.now) ≤ run.old.spare_steps + length run.old.steps }
-    ensures run { IsSettleRun (network_of net.now) input.now start.now a.now b.now run.new.steps }
-    ensures turned { IsTurned (network_of net.now) rank.now b.now scratch.new.state }
-    ensures state { scratch.new.state ≡ end_of start.now run.new.steps }
+    requires sorted { IsInKeyOrder results.now.ranks.now scratch.old.sorted }
+    requires room_for_flips { 2 * length (network_of change.now.net.now) ≤ run.old.spare_flips + flip_count run.old.steps }
+    requires room_for_steps { 2 * length (network_of change.now.net.now) ≤ run.old.spare_steps + length run.old.steps }
+    ensures run { IsSettleRun (network_of change.now.net.now) change.now.input.now change.now.start.now
+        results.now.a.now results.now.b.now run.new.steps }
+    ensures turned { IsTurned (network_of change.now.net.now) results.now.ranks.now results.now.b.now
+        scratch.new.state }
+    ensures state { scratch.new.state ≡ end_of change.now.start.now run.new.steps }
     ensures marked { scratch.new.marked ≡ [] }
-    ensures sorted { IsInKeyOrder rank.now scratch.new.sorted }
+    ensures sorted { IsInKeyOrder results.now.ranks.now scratch.new.sorted }
     ensures goes_on { (made : List (List ℕ)) × (run.new.steps ≡ run.old.steps ++ made) }
     ensures room { Spends run.old run.new }
 {
     // A getter of the network says that its circuit is one.
-    let _variables = net.len();
-    settle_rounds(when, b, scratch, run);
-    make_pass(net, rank, b, scratch, run);
+    let _variables = change.net.len();
+    settle_rounds(results.when, results.b, scratch, run);
+    make_pass(change.net, results.ranks, results.b, scratch, run);
 }
 
 // Round by round, the variables that settle take their values.
@@ -128,9 +142,8 @@ fn mark_round(when: &[u32], b: &[Tri], from: usize, scratch: &mut Scratch) -> us
         if when[var as usize] != round {
             return place;
         }
-        if !b[var as usize].admits(scratch.state()[var as usize]) {
-            scratch.mark(var);
-        }
+        let has_its_value = b[var as usize].admits(scratch.state()[var as usize]);
+        scratch.mark_if(!has_its_value, var);
     }
     places
 }

@@ -1,6 +1,6 @@
 //! The three runs of a change.
 ghost use Rattle.std.specs.Prelude.{◌≡◌, ◌*◌, [], length};
-ghost use Rattle.hz_net.specs.Network.{network_of};
+ghost use Rattle.hz_net.specs.Network.{network_of, IsInput};
 ghost use Rattle.hz_net.specs.Starts.{IsStableStart};
 ghost use Rattle.hz_gmw.specs.Runs.{end_of};
 ghost use Rattle.hz_reach.specs.Given.{AreResultsOfA, IsScratchFor};
@@ -15,10 +15,10 @@ ghost use Rattle.hz_desk.specs.Room.{HasRunRoom};
 use crate::finding::Rows;
 use crate::passes::Passes;
 use hz_core::Tri;
-use hz_cycle::{cycle_in_order, settle_from};
+use hz_cycle::{Results, cycle_in_order, settle_from};
 use hz_gmw::Run;
 use hz_net::Net;
-use hz_reach::{Scratch, add_unused, run_counts, sparing_in_order, spread_flips};
+use hz_reach::{Change, Scratch, add_unused, run_counts, sparing_in_order, spread_flips};
 
 // Makes the three runs in place of those that were there, by what both passes gave. Returns how many steps the spread run and the
 // settle run have in common at their beginning.
@@ -34,7 +34,7 @@ pub(crate) fn make_runs(
     cycle: &mut Run,
 ) -> usize
     requires start { IsStableStart net.now start.now }
-    requires input { length input.now ≡ net.now.inputs }
+    requires input { IsInput net.now input.now }
     requires passed { HasPassResults net.now input.now start.now (values_a rows.now) (values_b rows.now) passes.now }
     requires scratch { IsScratchFor net.now scratch.old }
     requires spread { HasRunRoom (length (network_of net.now)) spread.old }
@@ -57,7 +57,9 @@ pub(crate) fn make_runs(
     let when = passes.when.as_slice();
     make_spread(net, start, input, a, ranks, scratch, spread, settle);
     let common = settle.steps();
-    settle_from(net, start, input, a, ranks, when, b, scratch, settle);
+    let change = Change { net, start, input };
+    let results = Results { a, ranks, b, when };
+    settle_from(&change, &results, scratch, settle);
     cycle.clear();
     cycle_in_order(net, input, ranks, b, scratch, cycle);
     common
@@ -75,7 +77,7 @@ fn make_spread(
     spread: &mut Run,
     settle: &mut Run,
 )
-    requires change { AreResultsOfA net.now input.now start.now a.now ranks.now }
+    requires change { AreResultsOfA net.now start.now input.now a.now ranks.now }
     requires scratch { IsScratchFor net.now scratch.old }
     requires spread_room { HasRunRoom (length (network_of net.now)) spread.old }
     requires settle_room { HasRunRoom (2 * length (network_of net.now)) settle.old }
@@ -92,7 +94,8 @@ fn make_spread(
     run_counts();
     spread.clear();
     scratch.sort(ranks);
-    sparing_in_order(net, start, input, a, ranks, scratch, spread);
+    let change = Change { net, start, input };
+    sparing_in_order(&change, a, ranks, scratch, spread);
     settle.copy_from(spread);
     add_unused(net, start, a, scratch, spread);
 }

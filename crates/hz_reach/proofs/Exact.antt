@@ -11,12 +11,12 @@ use Rattle.hz_net.specs.Network.{Driver, network_of, bit_at, value_at, IsStable}
 use Rattle.hz_net.specs.Passes.{algorithm_a, AreRounds}
 use Rattle.hz_net.proofs.Wired.{wired-network_of}
 use Rattle.hz_gmw.specs.Runs.{end_of, IsReachable, JoinsTo}
-use Rattle.hz_reach.specs.Existence.{SpreadRunExists, SparingRunExists}
+use Rattle.hz_reach.specs.Existence.{AIsExact, SpreadRunExists, SparingRunExists}
 use Rattle.hz_reach.specs.Spread.{IsSpreadRun}
 use Rattle.hz_reach.proofs.RanksOrderGates.{AreTurns, ranked-turns, turns-of}
 use Rattle.hz_reach.proofs.SpreadSteps.{turns-made, sparing-run, whole-run}
 use Rattle.hz_reach.proofs.FlipCounts.{ends_by_changes}
-use Rattle.hz_reach.proofs.RestRounds.{ranks_of, ranks-exist, ranks_of_result}
+use Rattle.hz_reach.proofs.RestRounds.{ranks-exist, ranks_of_result}
 
 pub sparing_run_exists : SparingRunExists
 sparing_run_exists netlist input start a ranks circuit begins result ranked =
@@ -47,11 +47,11 @@ Covers =
     IsReachable net input start state → Refines state (algorithm_a net input start rounds)
 
 -- Algorithm A is exact, since it covers
-pub exact : Covers → (netlist : Netlist) (input old start : List Bool) (rounds i : ℕ) → IsCircuit netlist → length start ≡ length (network_of netlist) → IsStable (network_of netlist) old start → AreRounds (algorithm_a (network_of netlist) input start) rounds → JoinsTo (IsReachable (network_of netlist) input start) i (value_at (algorithm_a (network_of netlist) input start rounds) i)
+pub exact : Covers → AIsExact
 exact covers netlist input old start rounds i circuit long stable are =
     let net = network_of netlist in
-    let ranks = ranks_of (algorithm_a net input start) rounds in
-    let turns = ranked-turns net input old start rounds ranks (wired-network_of netlist circuit) long stable are (ranks-exist (algorithm_a net input start) rounds) in
+    let ranks = ranks-exist (algorithm_a net input start) rounds in
+    let turns = ranked-turns net input old start rounds ranks.0 (wired-network_of netlist circuit) long stable are ranks.1 in
     let spread = spread-of circuit turns in
     joins-by (λ bit. (state : List Bool) × IsReachable net input start state × (bit_at state i ≡ bit)) (value_at (algorithm_a net input start rounds) i) (bit_at start i)
     (start, ([], tt, refl), refl)

@@ -9,10 +9,10 @@ use Rattle.hz_net.specs.Network.{Wire, wires_of, network_of, bit_at}
 use Rattle.hz_net.specs.Variables.{readers_from, fan_out_of}
 use Rattle.hz_net.proofs.Places.{length-network_of}
 use Rattle.hz_net.proofs.Wires.{IsWireFrom, IsWireFrom-fan_out_of}
-use Rattle.hz_gmw.specs.Runs.{is_listed}
+use Rattle.hz_lists.specs.Listed.{is_listed}
 use Rattle.hz_gmw.proofs.DriverLemmas.{fan-driver, driver-fan}
 use Rattle.hz_reach.specs.Turn.{turn_flips}
-use Rattle.hz_reach.proofs.DistinctLists.{Ascends, ascends-lower, ascends-filter, listed-above, ascends-once, at-least, listed-before, filtered-is, is-filtered}
+use Rattle.hz_lists.proofs.ListedLemmas.{Ascends, ascends-lower, ascends-filter, listed-above, ascends-once, at-least, listed-before, filtered-is, is-filtered}
 use Rattle.hz_reach.proofs.FilteredRangeLemmas.{differs-true, true-differs}
 use Rattle.hz_reach.proofs.GateTurn.{IsWithFanOut}
 

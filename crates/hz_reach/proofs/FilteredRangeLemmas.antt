@@ -5,11 +5,9 @@ use Rattle.std.proofs.lemmas.List.Elements.{filter-append}
 use Rattle.std.proofs.lemmas.List.FromFn.{length-range_with_len, get_or-range_with_len}
 use Rattle.std.proofs.lemmas.Bool.{or_cases, eqb-true, eq-eqb, or_left, false_from_ne_true}
 use Rattle.hz_core.specs.Pattern.{differs}
-use Rattle.hz_gmw.specs.Runs.{is_listed, IsRepeatFree}
-use Rattle.hz_gmw.proofs.DriverLemmas.{Contains-listed}
-use Rattle.hz_gmw.proofs.LeastLemmas.{listed-Contains}
+use Rattle.hz_lists.specs.Listed.{is_listed, IsRepeatFree}
+use Rattle.hz_lists.proofs.ListedLemmas.{Contains-listed, listed-Contains, listed-cases, is_repeat_free-append, is_repeat_free-bound, Ascends, ascends-lower, ascends-filter, ascends-once, filtered-is, is-filtered}
 use Rattle.hz_reach.specs.FilteredRange.{filtered_range}
-use Rattle.hz_reach.proofs.DistinctLists.{listed-cases, is_repeat_free-append, is_repeat_free-bound, Ascends, ascends-lower, ascends-filter, ascends-once, filtered-is, is-filtered}
 
 -- a list of one
 pub only-one : (x i : ℕ) → i ≡ x → is_listed (x ∷ []) i ≡ true
@@ -96,14 +94,7 @@ filtered_range-below test first count var i next there =
     omega (arith, next, is.is, is.few)
 
 -- the next number is picked, or not
-pub filtered_range-more : (test : ℕ → Bool) (first count var : ℕ) → var ≡ first + count → test var ≡ true → filtered_range test first count ++ var ∷ [] ≡ filtered_range test first (count + 1)
-filtered_range-more test first count var next passes =
-    let here : test (first + count) ≡ true = subst (λ (n : ℕ). test n ≡ true) next passes in
-    ap (λ (n : ℕ). filtered_range test first count ++ n ∷ []) next
-    ∙ (sym (ap (λ (b : Bool). filtered_range test first count ++ cond b ((first + count) ∷ []) []) here) ∙ (sym (filtered_range-last test first count) ∙ ap (filtered_range test first) (sym (add-one count))))
-
-pub filtered_range-skip : (test : ℕ → Bool) (first count var : ℕ) → var ≡ first + count → test var ≡ false → filtered_range test first count ≡ filtered_range test first (count + 1)
-filtered_range-skip test first count var next fails =
-    let here : test (first + count) ≡ false = subst (λ (n : ℕ). test n ≡ false) next fails in
-    sym (append-nil (filtered_range test first count))
-    ∙ (sym (ap (λ (b : Bool). filtered_range test first count ++ cond b ((first + count) ∷ []) []) here) ∙ (sym (filtered_range-last test first count) ∙ ap (filtered_range test first) (sym (add-one count))))
+pub filtered_range-next : (test : ℕ → Bool) (first count var : ℕ) → var ≡ first + count → filtered_range test first count ++ cond (test var) (var ∷ []) [] ≡ filtered_range test first (count + 1)
+filtered_range-next test first count var next =
+    ap (λ (n : ℕ). filtered_range test first count ++ cond (test n) (n ∷ []) []) next
+    ∙ (sym (filtered_range-last test first count) ∙ ap (filtered_range test first) (sym (add-one count)))

@@ -7,18 +7,20 @@ use Rattle.std.proofs.lemmas.List.Sums.{sum_by-cons, sum_by-le, sum_by-le-sum_by
 use Rattle.std.proofs.lemmas.List.{ext_get_or, length-map, get_or-map}
 use Rattle.std.proofs.lemmas.List.FromFn.{length-range_with_len, length-map-range_with_len, get_or-map-range_with_len}
 use Rattle.std.proofs.lemmas.Grind.{get_or_default_zero}
+use Rattle.std.proofs.Math.Bool.{not-not}
 use Rattle.std.proofs.Math.Nat.{mul-add, mul_comm, mul-suc, mul-zero}
 use Rattle.hz_core.specs.declared.tri.Tri.{Tri}
 use Rattle.hz_core.specs.declared.tri.Tri.TheVariants.{Zero, One, Unknown}
 use Rattle.hz_core.specs.Ternary.{is_unknown, unknown_count}
 use Rattle.hz_net.specs.Network.{bit_at, value_at}
 use Rattle.hz_net.specs.Passes.{IsKnown, IsUnknown}
-use Rattle.hz_gmw.specs.Runs.{is_listed, IsRepeatFree, state_after}
+use Rattle.hz_lists.specs.Listed.{is_listed, IsRepeatFree}
+use Rattle.hz_gmw.specs.Runs.{state_after}
 use Rattle.hz_gmw.proofs.Counting.{list-same, list-turned, range-listed}
 use Rattle.hz_gmw.proofs.Counts.{nothing, zeros}
 use Rattle.hz_gmw.proofs.Flips.{length-state_after, at-state_after}
 use Rattle.hz_reach.specs.Spread.{changes_in}
-use Rattle.hz_reach.proofs.ListPlaces.{listed-at}
+use Rattle.hz_lists.proofs.ListedLemmas.{listed-at}
 use Rattle.hz_reach.specs.Counts.{FlipsAreChanges, StepsAreNoMoreThanFlips, FlipsPerVariable, FlipsPerUnknown, FlipsOfSpreadRun, EndsByChanges}
 
 -- Sums
@@ -147,10 +149,6 @@ flips_of_spread_run net input start a steps long spread =
     )
 
 -- The end of a run
-
-pub not-not : (bit : Bool) → not (not bit) ≡ bit
-not-not false = refl
-not-not true = refl
 
 -- one change more
 turn-odd : (here : Bool) (changes : ℕ) (bit : Bool) →

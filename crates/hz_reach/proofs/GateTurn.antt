@@ -4,7 +4,7 @@ use Rattle.std.specs.Prelude.{slice_range}
 use Rattle.std.proofs.lemmas.Bool.{cases_lt, both_ways, false_from_ne_true}
 use Rattle.std.proofs.lemmas.List.{get_or_past, ext_get_or}
 use Rattle.hz_net.specs.Network.{Driver, External, Source, driver_at, bit_at, Function, driver_value, excitation, network_of, IsUnstable}
-use Rattle.hz_net.proofs.PartLemmas.{length-part, at-part}
+use Rattle.hz_lists.proofs.PartLemmas.{length-part, at-part}
 use Rattle.hz_core.specs.declared.kind.Kind.{Kind}
 use Rattle.hz_core.specs.Gate.{gate_value}
 use Rattle.hz_core.specs.Netlist.{Netlist, IsCircuit, IsGateNumber}
@@ -12,7 +12,9 @@ use Rattle.hz_core.specs.Pattern.{differs, IsCandidate}
 use Rattle.hz_core.proofs.Patterns.{free-changed}
 use Rattle.hz_net.proofs.Places.{length-network_of, driver_at-input, driver_at-gate, driver_at-wire}
 use Rattle.hz_net.specs.Reads.{IsWireInto, IsWired}
-use Rattle.hz_gmw.specs.Runs.{is_listed, IsRepeatFree, IsStep, IsRun, state_after, end_of}
+use Rattle.hz_net.proofs.Wired.{is_gate_of}
+use Rattle.hz_lists.specs.Listed.{is_listed, IsRepeatFree}
+use Rattle.hz_gmw.specs.Runs.{IsStep, IsRun, state_after, end_of}
 use Rattle.hz_gmw.proofs.Flips.{length-state_after, at-state_after}
 use Rattle.hz_reach.specs.Room.{with_step_if_any}
 use Rattle.hz_reach.specs.Turn.{is_gate_in, changed_wires}
@@ -21,7 +23,7 @@ use Rattle.hz_reach.proofs.Room.{end_of-after, run-after}
 use Rattle.hz_core.specs.declared.tri.Tri.{Tri}
 use Rattle.hz_core.specs.declared.tri.Tri.TheVariants.{Zero, One, Unknown}
 use Rattle.hz_core.specs.Ternary.{is_unknown}
-use Rattle.hz_net.specs.Passes.{IsUnknown}
+use Rattle.hz_net.specs.Passes.{IsKnown, IsUnknown}
 
 -- what is driven by a node is a variable
 pub driver-inside : (net : List Driver) (i source : ℕ) → driver_at net i ≡ Source source → i < length net
@@ -43,6 +45,14 @@ same-part state bits first count long inside each =
 module _ (netlist : Netlist) (circuit : IsCircuit netlist) (var : ℕ) where
   pub gate-is : IsGateNumber netlist var → is_gate_in (network_of netlist) var ≡ true
   gate-is is_gate = rw (driver_at-gate netlist var circuit is_gate) refl
+
+  pub gate-number : is_gate_in (network_of netlist) var ≡ true → IsGateNumber netlist var
+  gate-number is = by_driver (driver_at (network_of netlist) var) refl
+    where
+      by_driver : (driver : Driver) → driver_at (network_of netlist) var ≡ driver → IsGateNumber netlist var
+      by_driver (External place) e = (let none : is_gate_in (network_of netlist) var ≡ false = rw e refl in absurd (both_ways _ none is))
+      by_driver (Source source) e = (let none : is_gate_in (network_of netlist) var ≡ false = rw e refl in absurd (both_ways _ none is))
+      by_driver (Function kind first pins) e = (is_gate_of netlist circuit var kind first pins e).is_gate
 
   pub input-is : var < netlist.inputs → is_gate_in (network_of netlist) var ≡ false
   input-is few = rw (driver_at-input netlist var circuit few) refl
@@ -80,6 +90,11 @@ unknown-is Unknown e = refl
 
 pub is-unknown : (value : Tri) → IsUnknown value → is_unknown value ≡ true
 is-unknown value unknown = rw unknown refl
+
+pub either-value : (value : Tri) → IsUnknown value ⊎ IsKnown value
+either-value Zero = inr (λ e. cc)
+either-value One = inr (λ e. cc)
+either-value Unknown = inl refl
 
 -- the bit of a listed variable, and of one that is not listed
 pub state_after-listed : (flips : List ℕ) (state : List Bool) (i : ℕ) → i < length state → is_listed flips i ≡ true → bit_at (state_after flips state) i ≡ not (bit_at state i)

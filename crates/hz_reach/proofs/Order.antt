@@ -6,11 +6,12 @@ use Rattle.std.proofs.lemmas.Bool.{cases_eq, cases_lt, cases_order, both_ways, a
 use Rattle.std.proofs.lemmas.List.{take_all, length-take, get_or-take}
 use Rattle.std.proofs.lemmas.List.Folds.{list_any_more}
 use Rattle.std.proofs.lemmas.List.Sums.{get_or-le-sum_by}
-use Rattle.hz_gmw.specs.Runs.{is_listed}
+use Rattle.hz_lists.specs.Listed.{is_listed}
 use Rattle.hz_reach.specs.Order.{key_at, IsEarlier, IsInKeyOrder}
 use Rattle.hz_reach.specs.Linked.{AreBefore}
 use Rattle.hz_reach.proofs.Links.{before-more}
-use Rattle.hz_reach.proofs.ListPlaces.{key-inside, listed-at, listed-place}
+use Rattle.hz_lists.proofs.ListedLemmas.{listed-at, listed-place}
+use Rattle.hz_reach.proofs.ListPlaces.{key-inside}
 
 -- The order by a key and then by number
 

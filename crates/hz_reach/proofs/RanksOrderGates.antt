@@ -7,6 +7,8 @@ use Rattle.hz_core.specs.Gate.{gate_value}
 use Rattle.hz_net.specs.Network.{Driver, External, Function, Source, driver_at, bit_at, value_at, driver_value, driver_value3, IsStable, network_of}
 use Rattle.hz_net.specs.Reads.{IsWired, IsWireInto}
 use Rattle.hz_net.specs.Passes.{IsUnknown, algorithm_a, AreRounds, IsFirstRound, IsResult, IsRank, AreRanks}
+use Rattle.hz_net.specs.Starts.{IsStableStart}
+use Rattle.hz_reach.specs.Given.{AreResultsOfA}
 use Rattle.hz_reach.specs.Order.{key_at}
 use Rattle.std.specs.Prelude.{slice_range}
 use Rattle.std.proofs.lemmas.Bool.{cases_lt}
@@ -17,9 +19,8 @@ use Rattle.hz_core.specs.Ternary.{tri_of, admits, join_of, IsJoinOf}
 use Rattle.hz_core.specs.Extension.{extension, IsValueOver}
 use Rattle.hz_core.proofs.Refinements.{known-admits, length-Refines, get_or-Refines}
 use Rattle.hz_core.proofs.Extensions.{IsExtension-extension}
-use Rattle.hz_net.specs.Starts.{IsStableStart}
 use Rattle.hz_net.proofs.Wired.{wired-network_of}
-use Rattle.hz_net.proofs.PartLemmas.{length-part, at-part}
+use Rattle.hz_lists.proofs.PartLemmas.{length-part, at-part}
 use Rattle.hz_net.proofs.Sequences.{length-algorithm_a}
 use Rattle.hz_net.proofs.Ranks.{unknown-later, unknown-or-start, one-round, at-tri_of, turns-before-rank}
 use Rattle.hz_reach.proofs.GateTurn.{driver-inside, not-itself}
@@ -214,3 +215,11 @@ turns-of {netlist} {input} {start} {a} {ranks} circuit begins result ranked =
     subst (λ (values : List Tri). AreTurns (network_of netlist) input start values ranks) (sym result.2)
     (ranked-turns (network_of netlist) input (take netlist.inputs start) start result.0 ranks (wired-network_of netlist circuit) begins.long begins.stable result.1
     (subst (λ (values : List Tri). AreRanks (algorithm_a (network_of netlist) input start) values ranks) result.2 ranked))
+
+-- there are as many values and ranks as variables
+module _ {netlist : Netlist} {input start : List Bool} {a : List Tri} {ranks : List ℕ} (change : AreResultsOfA netlist start input a ranks) where
+  pub a-long : length a ≡ length (network_of netlist)
+  a-long = ap (length {A = Tri}) change.a_result.2 ∙ length-algorithm_a (network_of netlist) input start change.begins.long change.a_result.0
+
+  pub ranks-long : length ranks ≡ length (network_of netlist)
+  ranks-long = change.ranked.long ∙ a-long

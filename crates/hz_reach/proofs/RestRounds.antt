@@ -1,16 +1,16 @@
 -- Where the sequences of the passes come to rest, and their ranks and settling rounds.
-use Rattle.std.proofs.Common.{◌≡◌, ◌≢◌, ℕ, zero, suc, ◌+◌, ◌-◌, ◌<◌, ◌≤◌, ◌⊎◌, Bool, true, false, not, cond, List, length, map, refl, sym, ap, ◌∙◌, subst, arith, inl, inr}
+use Rattle.std.proofs.Common.{◌≡◌, ◌≢◌, ℕ, zero, suc, ◌+◌, ◌-◌, ◌<◌, ◌≤◌, ◌⊎◌, Bool, List, length, get_or, map, refl, sym, ap, ◌∙◌, subst, arith, inl, inr}
 use Rattle.std.specs.List.{range_with_len}
-use Rattle.std.proofs.lemmas.Bool.{cases_Bool, cases_eq, both_ways}
+use Rattle.std.proofs.lemmas.Bool.{cases_eq}
 use Rattle.std.proofs.lemmas.List.FromFn.{length-map-range_with_len, get_or-map-range_with_len}
 use Rattle.hz_core.specs.declared.tri.Tri.{Tri}
 use Rattle.hz_core.specs.declared.tri.Tri.TheVariants.{Zero, One, Unknown}
-use Rattle.hz_core.specs.Ternary.{is_unknown, unknown_count, AllBelow}
+use Rattle.hz_core.specs.Ternary.{unknown_count, AllBelow}
 use Rattle.hz_net.specs.Network.{Driver, value_at}
-use Rattle.hz_net.specs.Passes.{excitations, algorithm_a, algorithm_b, IsKnown, AreRounds, IsResult, IsFirstRound, IsRank, AreRanks, IsSettlingRound}
+use Rattle.hz_net.specs.Passes.{excitations, algorithm_a, algorithm_b, IsKnown, IsUnknown, AreRounds, IsResult, IsFirstRound, IsRank, AreRanks, IsSettlingRound}
 use Rattle.hz_net.proofs.Sequences.{unknown_count-le-length, same-or-more, length-algorithm_a, AllBelow-algorithm_a, AllBelow-closed, closed-result, AllBelow-algorithm_b}
 use Rattle.hz_reach.specs.Existence.{ResultOfAExists, ResultOfBExists, RoundsOfAAreFew, RoundsOfBAreFew, RanksExist, SettlingRoundsExist}
-use Rattle.hz_reach.proofs.GateTurn.{unknown-is, is-unknown}
+use Rattle.hz_reach.proofs.GateTurn.{either-value}
 
 -- Rounds
 
@@ -102,112 +102,65 @@ rounds_of_b net input start a rounds long result are =
       length-algorithm_a net input start long result.0,
     )
 
--- Ranks of a sequence
+-- Ranks and settling rounds of a sequence
 
--- the first number, up to a limit, that passes a test
-first_passing : (ℕ → Bool) → ℕ → ℕ
-first_passing test zero = 0
-first_passing test (suc limit) = cond (test 0) 0 (suc (first_passing (λ n. test (suc n)) limit))
-
-first_passing-there : (test : ℕ → Bool) (limit : ℕ) → test limit ≡ true → test (first_passing test limit) ≡ true
-unfolding first_passing
-first_passing-there test zero there = there
-first_passing-there test (suc limit) there =
-    elim (cases_Bool (test 0)) [
-      | inl now ↦ rw now now
-      | inr later ↦ rw later (first_passing-there (λ n. test (suc n)) limit there)
-    ]
-
-first_passing-least : (test : ℕ → Bool) (limit n : ℕ) → n < first_passing test limit → test n ≡ false
-unfolding first_passing
-first_passing-least test zero n less = absurd (omega (arith, less))
-first_passing-least test (suc limit) zero less =
-    elim (cases_Bool (test 0)) [
-      | inl now ↦ (let none : 0 < 0 = rw now at less in absurd (omega (arith, none)))
-      | inr later ↦ later
-    ]
-first_passing-least test (suc limit) (suc n) less =
-    elim (cases_Bool (test 0)) [
-      | inl now ↦ (let none : suc n < 0 = rw now at less in absurd (omega (arith, none)))
-      | inr later ↦ (
-          let more : suc n < suc (first_passing (λ m. test (suc m)) limit) = rw later at less in
-          first_passing-least (λ m. test (suc m)) limit n (omega (arith, more))
+-- the first round in which a value has a property, if it has it in some round
+first-round :
+    (sequence : ℕ → List Tri) (i limit : ℕ) (has : Tri → Type 0) → ((value : Tri) → has value ⊎ (has value → ⊥)) →
+    has (value_at (sequence limit) i) → (first : ℕ) × IsFirstRound sequence i has first
+first-round sequence i zero has decide there = (0, record { there = there; least = λ round less is. omega (arith, less) })
+first-round sequence i (suc limit) has decide there =
+    elim (decide (value_at (sequence 0) i)) [
+      | inl now ↦ (0, record { there = now; least = λ round less is. omega (arith, less) })
+      | inr never ↦ (
+          let rest = first-round (λ round. sequence (suc round)) i limit has decide there in
+          (suc rest.0, record { there = rest.1.there; least = later never rest.1.least })
           )
     ]
+  where
+    later : {first : ℕ} → (has (value_at (sequence 0) i) → ⊥) → ((round : ℕ) → round < first → has (value_at (sequence (suc round)) i) → ⊥) → (round : ℕ) → round < suc first → has (value_at (sequence round) i) → ⊥
+    later never least zero less is = never is
+    later never least (suc round) less is = least round (omega (arith, less)) is
 
-rank_of : (ℕ → List Tri) → ℕ → ℕ → ℕ
-rank_of sequence rounds i =
-    cond (is_unknown (value_at (sequence rounds) i)) (first_passing (λ round. is_unknown (value_at (sequence round) i)) rounds) 0
+-- a number for each of so many places
+each-found : (P : ℕ → ℕ → Type 0) (count : ℕ) → ((i : ℕ) → (n : ℕ) × P i n) → (list : List ℕ) × (length list ≡ count) × ((i : ℕ) → i < count → P i (get_or list i 0))
+each-found P count found =
+    let number : ℕ → ℕ = λ i. (found i).0 in (
+      map number (range_with_len 0 count),
+      length-map-range_with_len number 0 count,
+      λ i inside. subst (P i) (sym (get_or-map-range_with_len number 0 count i i 0 inside (omega arith))) (found i).1,
+    )
 
-rank_of-is : (sequence : ℕ → List Tri) (rounds i : ℕ) (value : Tri) → value_at (sequence rounds) i ≡ value → IsRank sequence i value (rank_of sequence rounds i)
-unfolding rank_of
-rank_of-is sequence rounds i Zero e = rw e refl
-rank_of-is sequence rounds i One e = rw e refl
-rank_of-is sequence rounds i Unknown e = record {
-  there = unknown-is _ (rw e (first_passing-there (λ round. is_unknown (value_at (sequence round) i)) rounds (is-unknown _ e)));
-  least = λ round less is. both_ways _ (first_passing-least (λ round. is_unknown (value_at (sequence round) i)) rounds round (rw e at less)) (is-unknown _ is);
-}
-
-pub ranks_of : (ℕ → List Tri) → ℕ → List ℕ
-ranks_of sequence rounds = map (rank_of sequence rounds) (range_with_len 0 (length (sequence rounds)))
+rank-found : (sequence : ℕ → List Tri) (rounds i : ℕ) (value : Tri) → value_at (sequence rounds) i ≡ value → (rank : ℕ) × IsRank sequence i value rank
+rank-found sequence rounds i Zero e = (0, refl)
+rank-found sequence rounds i One e = (0, refl)
+rank-found sequence rounds i Unknown e = first-round sequence i rounds IsUnknown either-value e
 
 -- every sequence has ranks
-pub ranks-exist : (sequence : ℕ → List Tri) (rounds : ℕ) → AreRanks sequence (sequence rounds) (ranks_of sequence rounds)
-unfolding ranks_of
-ranks-exist sequence rounds = record {
-  long = length-map-range_with_len (rank_of sequence rounds) 0 (length (sequence rounds));
-  each = λ i inside. subst (IsRank sequence i (value_at (sequence rounds) i)) (sym (get_or-map-range_with_len (rank_of sequence rounds) 0 (length (sequence rounds)) i i 0 inside (omega arith))) (rank_of-is sequence rounds i (value_at (sequence rounds) i) refl);
-}
+pub ranks-exist : (sequence : ℕ → List Tri) (rounds : ℕ) → (ranks : List ℕ) × AreRanks sequence (sequence rounds) ranks
+ranks-exist sequence rounds =
+    let values = sequence rounds in
+    let found = each-found (λ i rank. IsRank sequence i (value_at values i) rank) (length values) (λ i. rank-found sequence rounds i (value_at values i) refl) in
+    (found.0, record { long = found.1; each = found.2 })
 
 -- and those of its result
 pub ranks_of_result : RanksExist
 ranks_of_result sequence result is =
-    (ranks_of sequence is.0, subst (λ (values : List Tri). AreRanks sequence values (ranks_of sequence is.0)) (sym is.2) (ranks-exist sequence is.0))
+    let ranks = ranks-exist sequence is.0 in
+    (ranks.0, subst (λ (values : List Tri). AreRanks sequence values ranks.0) (sym is.2) ranks.1)
 
--- Settling rounds of a sequence
+known-or-not : (value : Tri) → IsKnown value ⊎ (IsKnown value → ⊥)
+known-or-not value = elim (either-value value) [ inl unknown ↦ inr (λ known. known unknown) | inr known ↦ inl known ]
 
-known-is : (value : Tri) → not (is_unknown value) ≡ true → IsKnown value
-known-is Zero e = λ same. cc
-known-is One e = λ same. cc
-known-is Unknown e = cc
-
-is-known : (value : Tri) → IsKnown value → not (is_unknown value) ≡ true
-is-known Zero known = refl
-is-known One known = refl
-is-known Unknown known = absurd (known refl)
-
-first_known : (ℕ → List Tri) → ℕ → ℕ → ℕ
-first_known sequence rounds i = first_passing (λ round. not (is_unknown (value_at (sequence round) i))) rounds
-
-first_known-is : (sequence : ℕ → List Tri) (rounds i : ℕ) → IsKnown (value_at (sequence rounds) i) → IsFirstRound sequence i IsKnown (first_known sequence rounds i)
-unfolding first_known
-first_known-is sequence rounds i known = record {
-  there = known-is _ (first_passing-there (λ round. not (is_unknown (value_at (sequence round) i))) rounds (is-known _ known));
-  least = λ round less is. both_ways _ (first_passing-least (λ round. not (is_unknown (value_at (sequence round) i))) rounds round less) (is-known _ is);
-}
-
-settling_round_of : (ℕ → List Tri) → ℕ → ℕ → Tri → Tri → ℕ
-settling_round_of sequence rounds i Zero result = 0
-settling_round_of sequence rounds i One result = 0
-settling_round_of sequence rounds i Unknown Zero = first_known sequence rounds i
-settling_round_of sequence rounds i Unknown One = first_known sequence rounds i
-settling_round_of sequence rounds i Unknown Unknown = 0
-
-settling_round_of-is : (sequence : ℕ → List Tri) (rounds i : ℕ) (first result : Tri) → value_at (sequence rounds) i ≡ result → IsSettlingRound sequence i first result (settling_round_of sequence rounds i first result)
-unfolding settling_round_of
-settling_round_of-is sequence rounds i Zero result e = refl
-settling_round_of-is sequence rounds i One result e = refl
-settling_round_of-is sequence rounds i Unknown Zero e = first_known-is sequence rounds i (λ unknown. cc)
-settling_round_of-is sequence rounds i Unknown One e = first_known-is sequence rounds i (λ unknown. cc)
-settling_round_of-is sequence rounds i Unknown Unknown e = refl
+settling-found : (sequence : ℕ → List Tri) (rounds i : ℕ) (first result : Tri) → value_at (sequence rounds) i ≡ result → (round : ℕ) × IsSettlingRound sequence i first result round
+settling-found sequence rounds i Zero result e = (0, refl)
+settling-found sequence rounds i One result e = (0, refl)
+settling-found sequence rounds i Unknown Zero e = first-round sequence i rounds IsKnown known-or-not (λ unknown. cc)
+settling-found sequence rounds i Unknown One e = first-round sequence i rounds IsKnown known-or-not (λ unknown. cc)
+settling-found sequence rounds i Unknown Unknown e = (0, refl)
 
 pub settling_of_result : SettlingRoundsExist
 settling_of_result sequence first result is =
-    let round_of : ℕ → ℕ = λ i. settling_round_of sequence is.0 i (value_at first i) (value_at result i) in (
-      map round_of (range_with_len 0 (length first)),
-      record {
-        long = length-map-range_with_len round_of 0 (length first);
-        each = λ i inside. subst (IsSettlingRound sequence i (value_at first i) (value_at result i)) (sym (get_or-map-range_with_len round_of 0 (length first) i i 0 inside (omega arith)))
-            (settling_round_of-is sequence is.0 i (value_at first i) (value_at result i) (ap (λ (values : List Tri). value_at values i) (sym is.2)));
-      },
-    )
+    let found = each-found (λ i round. IsSettlingRound sequence i (value_at first i) (value_at result i) round) (length first)
+    (λ i. settling-found sequence is.0 i (value_at first i) (value_at result i) (ap (λ (values : List Tri). value_at values i) (sym is.2))) in
+    (found.0, record { long = found.1; each = found.2 })

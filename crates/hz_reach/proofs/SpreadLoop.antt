@@ -10,15 +10,16 @@ use Rattle.hz_core.specs.declared.kind.Kind.{Kind}
 use Rattle.hz_core.specs.Pattern.{IsCandidate}
 use Rattle.hz_net.specs.Network.{Driver, External, Function, Source, driver_at, bit_at, driver_value}
 use Rattle.hz_net.specs.Reads.{IsWireInto, IsNode}
-use Rattle.hz_net.proofs.PartLemmas.{length-part, at-part}
-use Rattle.hz_gmw.specs.Runs.{is_listed, IsRepeatFree, IsRun, state_after, end_of}
+use Rattle.hz_lists.proofs.PartLemmas.{length-part, at-part}
+use Rattle.hz_lists.specs.Listed.{is_listed, IsRepeatFree}
+use Rattle.hz_gmw.specs.Runs.{IsRun, state_after, end_of}
 use Rattle.hz_gmw.specs.RunRecord.{flip_count}
 use Rattle.hz_gmw.proofs.CoverB.{length-end_of}
 use Rattle.hz_reach.specs.Order.{key_at}
 use Rattle.hz_reach.specs.Room.{with_step_if_any}
 use Rattle.hz_reach.specs.Spread.{changes_in}
 use Rattle.hz_reach.specs.Turn.{is_gate_in, free_pins}
-use Rattle.hz_reach.proofs.DistinctLists.{listed-cases, listed-left, listed-right, unlisted-parts, is_repeat_free-append, is_repeat_free-right, is_repeat_free-apart}
+use Rattle.hz_lists.proofs.ListedLemmas.{listed-cases, listed-left, listed-right, unlisted-parts, is_repeat_free-append, is_repeat_free-right, is_repeat_free-apart}
 use Rattle.hz_reach.proofs.FlipCounts.{changes-more, flips_per_variable, ends_by_changes}
 use Rattle.hz_reach.proofs.FilteredRangeLemmas.{only-one, is-one}
 use Rattle.hz_reach.proofs.RanksOrderGates.{IsChangedAfter, AreTurns}

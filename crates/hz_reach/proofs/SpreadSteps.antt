@@ -10,7 +10,8 @@ use Rattle.hz_net.specs.Network.{Driver, External, Function, Source, driver_at, 
 use Rattle.hz_net.specs.Variables.{first_wire, at_wires}
 use Rattle.hz_net.proofs.Places.{length-network_of, driver_at-input, driver_at-gate, driver_at-wire}
 use Rattle.hz_net.proofs.Wires.{IsWireFrom-driver_at}
-use Rattle.hz_gmw.specs.Runs.{is_listed, IsRepeatFree, IsRun, state_after, end_of}
+use Rattle.hz_lists.specs.Listed.{is_listed, IsRepeatFree}
+use Rattle.hz_gmw.specs.Runs.{IsRun, state_after, end_of}
 use Rattle.hz_gmw.specs.RunRecord.{RunRecord, flip_count}
 use Rattle.hz_reach.specs.Given.{AreResultsOfA, IsEmptyRun}
 use Rattle.hz_reach.specs.Order.{key_at, IsInKeyOrder}
@@ -18,14 +19,13 @@ use Rattle.hz_reach.specs.Room.{with_step_if_any, Spends, HasRoomFor, HasRoomFor
 use Rattle.hz_reach.specs.ScratchState.{ScratchState}
 use Rattle.hz_reach.specs.Spread.{IsSpreadRun, IsSparingRun}
 use Rattle.hz_reach.specs.Turn.{is_gate_in, changed_inputs, earlier_pins, unchanged_wires, AreTurnWires, IsTurn}
-use Rattle.hz_reach.proofs.DistinctLists.{listed-cases, listed-left, listed-right, is_repeat_free-append}
+use Rattle.hz_lists.proofs.ListedLemmas.{listed-cases, listed-left, listed-right, is_repeat_free-append}
 use Rattle.hz_reach.proofs.FilteredRangeLemmas.{filtered_range-is, is-filtered_range, filtered_range-once, differs-true, true-differs}
 use Rattle.hz_reach.proofs.RanksOrderGates.{IsChangedAfter, AreTurns, turns-of}
 use Rattle.hz_reach.proofs.Order.{had_before, also, IsNext, all-had, after-turns, order-found}
-use Rattle.hz_reach.proofs.ListPlaces.{listed-at}
 use Rattle.hz_reach.proofs.Room.{end_of-after, run-after, flips-after, room-for-step, room-left}
-use Rattle.hz_reach.proofs.GateTurn.{IsFunction, unknown-is, same-or-differ}
-use Rattle.hz_reach.proofs.TurnLoop.{IsAtPlace, at-begin, at-next, at-here, at-turn}
+use Rattle.hz_reach.proofs.GateTurn.{IsFunction, gate-number, unknown-is, same-or-differ}
+use Rattle.hz_reach.proofs.TurnLoop.{AreTurnsThatKeep, IsAtPlace, at-begin}
 use Rattle.hz_reach.proofs.SpreadLoop.{changed, changed-after, changes-unlisted, changes-listed, changes-few, HadTurns, few-flips, changed-inputs, state-long, listed-same, unlisted-bit, node-changed, wire-differs, rank-possible, had-turn}
 
 same-differs : (here there : Bool) → differs here there ≡ false → here ≡ there
@@ -168,8 +168,8 @@ module _ {netlist : Netlist} (circuit : IsCircuit netlist) {input start : List B
     pub whole-flips : flip_count steps + length (unchanged_wires netlist a start state) ≤ length (network_of netlist)
     whole-flips = omega (arith, flips-after steps rest, few-flips (network_of netlist) input start (with_step_if_any steps rest) rest-run rest-changed)
 
-  abbrev Made : (ℕ → Bool) → Type 0
-  Made had = (steps : List (List ℕ)) × (state : List Bool) × HadTurns (network_of netlist) input start ranks had steps state
+  function : (gate : ℕ) → IsGateNumber netlist gate → IsFunction (network_of netlist) gate (gate_at netlist gate).kind (first_wire netlist gate) (length (gate_at netlist gate).sources)
+  function gate is_gate = record { drives = driver_at-gate netlist gate circuit is_gate }
 
   -- There is such a run: the turns come in the order of the ranks.
   pub turns-made : (had : ℕ → Bool) × (steps : List (List ℕ)) × (state : List Bool) × HadTurns (network_of netlist) input start ranks had steps state × ((i : ℕ) → is_gate_in (network_of netlist) i ≡ true → key_at ranks i ≢ 0 → had i ≡ true)
@@ -178,115 +178,75 @@ module _ {netlist : Netlist} (circuit : IsCircuit netlist) {input start : List B
       let made = after-turns order.1 (is_gate_in net) Made (_, _, inputs-changed) turn (length order.0) (omega arith) in
       (_, made.0, made.1, made.2, λ i is_gate some. all-had order.1 (is_gate_in net) (length order.0) i (omega arith) is_gate some)
     where
-      turn : (had : ℕ → Bool) (gate : ℕ) → IsNext ranks (is_gate_in (network_of netlist)) had gate → Made had → Made (also had gate)
-      turn had gate next made = by_driver (driver_at (network_of netlist) gate) refl
-        where
-          none : is_gate_in (network_of netlist) gate ≡ false → Made (also had gate)
-          none is = absurd (both_ways _ is next.turns)
+      Made : (ℕ → Bool) → Type 0
+      Made had = (steps : List (List ℕ)) × (state : List Bool) × HadTurns (network_of netlist) input start ranks had steps state
 
-          by_driver : (driver : Driver) → driver_at (network_of netlist) gate ≡ driver → Made (also had gate)
-          by_driver (External place) e = none (rw e refl)
-          by_driver (Source source) e = none (rw e refl)
-          by_driver (Function kind first pins) e = (_, _, had-turn turns made.2 next (record { drives = e }) (rank-possible turns made.2 next (record { drives = e })).1)
+      turn : (had : ℕ → Bool) (gate : ℕ) → IsNext ranks (is_gate_in (network_of netlist)) had gate → Made had → Made (also had gate)
+      turn had gate next made =
+          let is = function gate (gate-number netlist circuit gate next.turns) in
+          (_, _, had-turn turns made.2 next is (rank-possible turns made.2 next is).1)
+
+  -- Each turn may be taken, and keeps what holds while the run is made.
+  pub spread-turns : AreTurnsThatKeep netlist ranks (is_gate_in (network_of netlist)) (earlier_pins netlist ranks) false (length (network_of netlist)) (HadTurns (network_of netlist) input start ranks)
+  spread-turns = record {
+    circuit = circuit;
+    keys_long = turns.long_ranks;
+    long = λ had made state so_far. state-long turns so_far;
+    run = λ had made state so_far. (input, start, so_far.run);
+    few = λ had made state so_far. few-flips (network_of netlist) input start made so_far.run so_far.once;
+    possible = λ had made state gate so_far next is_gate. rank-possible turns so_far next (function gate is_gate);
+    kept = λ had made state gate pattern so_far next is_gate canonical. had-turn turns so_far next (function gate is_gate) canonical.candidate;
+  }
 
 -- What holds when the turn has come to a place of the order.
-pub record IsUnderway (netlist : Netlist) (input start : List Bool) (a : List Tri) (ranks : List ℕ) (place : ℕ) (scratch : ScratchState) (first now : RunRecord) : Type 0 where
-  pub circuit : IsCircuit netlist
-  pub turns : AreTurns (network_of netlist) input start a ranks
-  pub empty : IsEmptyRun (length (network_of netlist)) first
-  pub at : IsAtPlace netlist ranks (is_gate_in (network_of netlist)) (HadTurns (network_of netlist) input start ranks) first place scratch now
+abbrev pub IsSpreading : Netlist → List Bool → List Bool → List ℕ → RunRecord → ℕ → ScratchState → RunRecord → Type 0
+IsSpreading netlist input start ranks =
+    IsAtPlace netlist ranks (is_gate_in (network_of netlist)) (earlier_pins netlist ranks) false (HadTurns (network_of netlist) input start ranks)
 
-module _ {netlist : Netlist} {input start : List Bool} {a : List Tri} {ranks : List ℕ} (circuit : IsCircuit netlist) (change : AreResultsOfA netlist input start a ranks) {first : RunRecord} (empty : IsEmptyRun (length (network_of netlist)) first) where
-  begun : HadTurns (network_of netlist) input start ranks (λ i. false) (with_step_if_any [] (changed_inputs netlist start input)) (end_of start (with_step_if_any [] (changed_inputs netlist start input)))
-  begun = inputs-changed circuit (turns-of circuit change.begins change.a_result change.ranked)
+-- The spread run when the turns have come to the end.
+pub record IsSpreadMade (netlist : Netlist) (input start : List Bool) (a : List Tri) (ranks : List ℕ) (state : List Bool) (now : RunRecord) : Type 0 where
+  pub sparing : IsSparingRun (network_of netlist) input start a ranks now.steps
+  pub whole : IsSpreadRun (network_of netlist) input start a (with_step_if_any now.steps (unchanged_wires netlist a start state))
+  pub room_for_unused : HasRoomForStep (unchanged_wires netlist a start state) now
+  pub ends : state ≡ end_of start now.steps
+
+module _ {netlist : Netlist} {input start : List Bool} {a : List Tri} {ranks : List ℕ} (circuit : IsCircuit netlist) (change : AreResultsOfA netlist start input a ranks) {first : RunRecord} (empty : IsEmptyRun (length (network_of netlist)) first) where
+  turns : AreTurns (network_of netlist) input start a ranks
+  turns = turns-of circuit change.begins change.a_result change.ranked
+
+  room : HasRoomFor (length (network_of netlist)) first
+  room = record { flips = empty.flips; steps = empty.steps }
 
   pub inputs-room : HasRoomForStep (changed_inputs netlist start input) first
   inputs-room =
       let flips = changed_inputs netlist start input in
+      let begun = inputs-changed circuit turns in
       let few = few-flips (network_of netlist) input start (with_step_if_any [] flips) begun.run begun.once in
       room-for-step flips first (record { flips = omega (arith, flips-after [] flips, few, empty.flips); steps = omega (arith, flips-after [] flips, few, empty.steps) })
 
-  pub underway-begin : {scratch : ScratchState} {now : RunRecord} → IsInKeyOrder ranks scratch.sorted → scratch.marked ≡ [] → scratch.state ≡ state_after (changed_inputs netlist start input) start → now.steps ≡ with_step_if_any first.steps (changed_inputs netlist start input) → Spends first now → IsUnderway netlist input start a ranks 0 scratch first now
-  underway-begin {scratch} {now} sorted marked state steps spent =
+  pub spreading-begin :
+      {scratch : ScratchState} {now : RunRecord} → IsInKeyOrder ranks scratch.sorted → scratch.marked ≡ [] →
+      scratch.state ≡ state_after (changed_inputs netlist start input) start → now.steps ≡ with_step_if_any first.steps (changed_inputs netlist start input) →
+      Spends first now → IsSpreading netlist input start ranks first 0 scratch now
+  spreading-begin {scratch} {now} sorted marked state steps spent =
       let flips = changed_inputs netlist start input in
+      at-begin (spread-turns circuit turns) room sorted marked (with_step_if_any [] flips)
+      (steps ∙ (ap (λ (list : List (List ℕ)). with_step_if_any list flips) empty.empty ∙ ap (λ (list : List (List ℕ)). list ++ with_step_if_any [] flips) (sym empty.empty)))
+      spent
+      (subst (HadTurns (network_of netlist) input start ranks (λ i. false) (with_step_if_any [] flips)) (end_of-after start [] flips ∙ sym state) (inputs-changed circuit turns))
+
+  pub spread-made : {place : ℕ} {scratch : ScratchState} {now : RunRecord} → IsSpreading netlist input start ranks first place scratch now → length scratch.sorted ≤ place → IsSpreadMade netlist input start a ranks scratch.state now
+  spread-made {place} {scratch} {now} at end =
+      let net = network_of netlist in
+      let rest = unchanged_wires netlist a start scratch.state in
+      let each : (i : ℕ) → is_gate_in net i ≡ true → key_at ranks i ≢ 0 → had_before (is_gate_in net) scratch.sorted place i ≡ true =
+      λ i is_gate some. all-had at.sorted (is_gate_in net) place i end is_gate some in
+      let made : at.made ≡ now.steps = sym (at.steps ∙ ap (λ (list : List (List ℕ)). list ++ at.made) empty.empty) in
       record {
-        circuit = circuit;
-        turns = turns-of circuit change.begins change.a_result change.ranked;
-        empty = empty;
-        at = at-begin netlist (is_gate_in (network_of netlist)) (HadTurns (network_of netlist) input start ranks) (with_step_if_any [] flips) sorted marked
-            (steps ∙ (ap (λ (list : List (List ℕ)). with_step_if_any list flips) empty.empty ∙ ap (λ (list : List (List ℕ)). list ++ with_step_if_any [] flips) (sym empty.empty)))
-            spent
-            (subst (HadTurns (network_of netlist) input start ranks (λ i. false) (with_step_if_any [] flips)) (end_of-after start [] flips ∙ sym state) begun);
+        sparing = subst (IsSparingRun net input start a ranks) made (sparing-run circuit turns at.holds each);
+        whole = subst (λ (steps : List (List ℕ)). IsSpreadRun net input start a (with_step_if_any steps rest)) made (whole-run circuit turns at.holds each);
+        room_for_unused =
+            room-for-step rest now
+            (room-left net input start at.made (length rest) at.holds.run at.steps at.spent room (whole-flips circuit turns at.holds each));
+        ends = sym at.holds.ends ∙ ap (end_of start) made;
       }
-
-module _ {netlist : Netlist} {input start : List Bool} {a : List Tri} {ranks : List ℕ} {place : ℕ} {scratch : ScratchState} {first now : RunRecord} (underway : IsUnderway netlist input start a ranks place scratch first now) where
-  pub underway-long : length scratch.state ≡ length (network_of netlist)
-  underway-long = state-long underway.turns underway.at.holds
-
-  -- the run began empty
-  all-made : underway.at.made ≡ now.steps
-  all-made = sym (underway.at.steps ∙ ap (λ (list : List (List ℕ)). list ++ underway.at.made) underway.empty.empty)
-
-  left : (more : ℕ) → flip_count underway.at.made + more ≤ length (network_of netlist) → HasRoomFor more now
-  left more few =
-      room-left (network_of netlist) input start underway.at.made more underway.at.holds.run underway.at.steps underway.at.spent
-      (record { flips = underway.empty.flips; steps = underway.empty.steps }) few
-
-  module _ (inside : place < length scratch.sorted) where
-    pub place-inside : get_or scratch.sorted place 0 < length (network_of netlist)
-    place-inside = underway.turns.inside (get_or scratch.sorted place 0) ((underway.at.sorted.keyed (get_or scratch.sorted place 0)).0 (listed-at scratch.sorted place inside))
-
-    -- a variable that is no gate has no turn
-    pub underway-next : is_gate_in (network_of netlist) (get_or scratch.sorted place 0) ≡ false → IsUnderway netlist input start a ranks (place + 1) scratch first now
-    underway-next none = record { circuit = underway.circuit; turns = underway.turns; empty = underway.empty; at = at-next underway.at inside none }
-
-    -- a gate's turn
-    module _ (turns : is_gate_in (network_of netlist) (get_or scratch.sorted place 0) ≡ true) (is_gate : IsGateNumber netlist (get_or scratch.sorted place 0)) where
-      abbrev gate : ℕ
-      gate = get_or scratch.sorted place 0
-
-      function : IsFunction (network_of netlist) gate (gate_at netlist gate).kind (first_wire netlist gate) (length (gate_at netlist gate).sources)
-      function = record { drives = driver_at-gate netlist gate underway.circuit is_gate }
-
-      pub turn-possible : (list : List Bool) × IsCandidate (gate_at netlist (get_or scratch.sorted place 0)).kind (at_wires netlist (get_or scratch.sorted place 0) scratch.state) (earlier_pins netlist ranks (get_or scratch.sorted place 0)) (not (bit_at scratch.state (get_or scratch.sorted place 0))) list
-      turn-possible = rank-possible underway.turns underway.at.holds (at-here underway.at inside turns) function
-
-      turned : {wires : List ℕ} → (are : AreTurnWires netlist (get_or scratch.sorted place 0) (earlier_pins netlist ranks (get_or scratch.sorted place 0)) scratch.state wires) → HadTurns (network_of netlist) input start ranks (also (had_before (is_gate_in (network_of netlist)) scratch.sorted place) gate) (with_step_if_any (with_step_if_any underway.at.made wires) (gate ∷ [])) (state_after (gate ∷ []) (state_after wires scratch.state))
-      turned {wires} are =
-          subst (λ (list : List ℕ). HadTurns (network_of netlist) input start ranks (also (had_before (is_gate_in (network_of netlist)) scratch.sorted place) gate) (with_step_if_any (with_step_if_any underway.at.made list) (gate ∷ [])) (state_after (gate ∷ []) (state_after list scratch.state))) (sym are.marks)
-          (had-turn underway.turns underway.at.holds (at-here underway.at inside turns) function are.canonical.candidate)
-
-      pub turn-room : (wires : List ℕ) → AreTurnWires netlist (get_or scratch.sorted place 0) (earlier_pins netlist ranks (get_or scratch.sorted place 0)) scratch.state wires → HasRoomFor (length wires + 1) now
-      turn-room wires are =
-          let then = turned are in
-          left (length wires + 1)
-          (omega (arith, few-flips (network_of netlist) input start (with_step_if_any (with_step_if_any underway.at.made wires) (gate ∷ [])) then.run then.once, flips-after (with_step_if_any underway.at.made wires) (gate ∷ []), flips-after underway.at.made wires))
-
-      pub underway-turn : {last : ScratchState} {then : RunRecord} → IsTurn netlist (get_or scratch.sorted place 0) (earlier_pins netlist ranks (get_or scratch.sorted place 0)) false scratch.state last.state now.steps then.steps → last.sorted ≡ scratch.sorted → last.marked ≡ [] → Spends now then → IsUnderway netlist input start a ranks (place + 1) last first then
-      underway-turn turn order marked spent = record {
-        circuit = underway.circuit;
-        turns = underway.turns;
-        empty = underway.empty;
-        at = at-turn underway.at inside turns turn order marked spent (turned turn.are_wires);
-      }
-
-  -- The end.
-  module _ (end : length scratch.sorted ≤ place) where
-    each : (i : ℕ) → is_gate_in (network_of netlist) i ≡ true → key_at ranks i ≢ 0 → had_before (is_gate_in (network_of netlist)) scratch.sorted place i ≡ true
-    each i is_gate some = all-had underway.at.sorted (is_gate_in (network_of netlist)) place i end is_gate some
-
-    pub underway-sparing : IsSparingRun (network_of netlist) input start a ranks now.steps
-    underway-sparing = subst (IsSparingRun (network_of netlist) input start a ranks) all-made (sparing-run underway.circuit underway.turns underway.at.holds each)
-
-    pub underway-whole : IsSpreadRun (network_of netlist) input start a (with_step_if_any now.steps (unchanged_wires netlist a start scratch.state))
-    underway-whole =
-        subst (λ (steps : List (List ℕ)). IsSpreadRun (network_of netlist) input start a (with_step_if_any steps (unchanged_wires netlist a start scratch.state))) all-made
-        (whole-run underway.circuit underway.turns underway.at.holds each)
-
-    pub underway-room : HasRoomForStep (unchanged_wires netlist a start scratch.state) now
-    underway-room =
-        room-for-step (unchanged_wires netlist a start scratch.state) now
-        (left (length (unchanged_wires netlist a start scratch.state)) (whole-flips underway.circuit underway.turns underway.at.holds each))
-
-    pub underway-ends : scratch.state ≡ end_of start now.steps
-    underway-ends = sym underway.at.holds.ends ∙ ap (end_of start) all-made

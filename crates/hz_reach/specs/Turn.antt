@@ -38,12 +38,21 @@ abbrev pub turn_flips : Netlist → ℕ → Bool → List Bool → List ℕ
 turn_flips netlist gate with_fan_out state =
     gate ∷ (if with_fan_out then filter (λ wire. differs (bit_at state wire) (bit_at state gate)) (fan_out_of netlist gate) else [])
 
+-- the state after a turn, and the steps with its own
+abbrev pub turn_end : Netlist → ℕ → Bool → List ℕ → List Bool → List Bool
+turn_end netlist gate with_fan_out wires state =
+    state_after (turn_flips netlist gate with_fan_out (state_after wires state)) (state_after wires state)
+
+abbrev pub turn_steps : Netlist → ℕ → Bool → List ℕ → List Bool → List (List ℕ) → List (List ℕ)
+turn_steps netlist gate with_fan_out wires state steps =
+    with_step_if_any (with_step_if_any steps wires) (turn_flips netlist gate with_fan_out (state_after wires state))
+
 -- A gate's turn: the state and the steps of a run before it and after it.
 pub record IsTurn (netlist : Netlist) (gate : ℕ) (free : List Bool) (with_fan_out : Bool) (before after : List Bool) (steps more : List (List ℕ)) : Type 0 where
   pub wires : List ℕ
   pub are_wires : AreTurnWires netlist gate free before wires
-  pub ends : after ≡ state_after (turn_flips netlist gate with_fan_out (state_after wires before)) (state_after wires before)
-  pub made : more ≡ with_step_if_any (with_step_if_any steps wires) (turn_flips netlist gate with_fan_out (state_after wires before))
+  pub ends : after ≡ turn_end netlist gate with_fan_out wires before
+  pub made : more ≡ turn_steps netlist gate with_fan_out wires before steps
 
 -- the inputs that differ from the new input
 abbrev pub changed_inputs : Netlist → List Bool → List Bool → List ℕ

@@ -2,6 +2,7 @@
 //!
 //! | Module | What lives in it |
 //! |---|---|
+//! | `change` | [`Change`]: a stable start of a network, and the input that comes |
 //! | `spreading` | [`spread_run`]: a run that changes each X of Algorithm A once |
 //! | `turn` | [`take_turn`]: a gate's turn, two steps that turn it |
 //! | `scratch` | [`Scratch`]: the room to make a run in |
@@ -9,20 +10,18 @@
 //! | `counts` | laws on the length of runs |
 #![tactic(auto)]
 
-ghost use Rattle.std.specs.Prelude.{◌≡◌, ℕ, Bool, List, length};
-ghost use Rattle.hz_core.specs.Netlist.{Netlist, IsCircuit};
-ghost use Rattle.hz_net.specs.Network.{network_of, value_at, IsStable};
-ghost use Rattle.hz_net.specs.Passes.{algorithm_a, AreRounds};
-ghost use Rattle.hz_gmw.specs.Runs.{IsReachable, JoinsTo};
+ghost use Rattle.hz_reach.specs.Existence.{AIsExact};
 
 use hz_gmw::a_covers;
 
+mod change;
 mod counts;
 mod existence;
 mod scratch;
 mod spreading;
 mod turn;
 
+pub use change::Change;
 pub use counts::{run_counts, run_ends, spread_flips};
 pub use existence::{passes_end, spread_runs_exist};
 pub use scratch::Scratch;
@@ -33,7 +32,7 @@ pub use turn::{is_gate, take_turn};
 /// join of the values that the variable has in the reachable states. So if the result is X, one reachable state has 0
 /// there and another has 1.
 pub fn a_is_exact()
-    ensures { (netlist : Netlist) (input own start : List Bool) (rounds i : ℕ) → IsCircuit netlist → length start ≡ length (network_of netlist) → IsStable (network_of netlist) own start → AreRounds (algorithm_a (network_of netlist) input start) rounds → JoinsTo (IsReachable (network_of netlist) input start) i (value_at (algorithm_a (network_of netlist) input start rounds) i) }
+    ensures { AIsExact }
 {
     a_covers();
 }

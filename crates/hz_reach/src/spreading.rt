@@ -10,11 +10,11 @@
 //!
 //! What breaks if you add a change: a wire before its source, or a gate before its wires, is stable then, and the step is
 //! none. A second change of a variable falsifies `IsSpreadRun`, and the room. A new kind of gate needs its canonical pattern.
-ghost use Rattle.std.specs.Prelude.{◌≡◌, ℕ, ◌+◌, ◌<◌, ◌≤◌, Bool, true, false, not, ◌&&◌, List, [], length, MatchBool};
+ghost use Rattle.std.specs.Prelude.{◌≡◌, ℕ, ◌+◌, ◌≤◌, Bool, true, false, not, ◌&&◌, List, [], length, MatchBool};
 ghost use Rattle.hz_core.specs.Ternary.{is_unknown};
 ghost use Rattle.hz_core.specs.Netlist.{IsCircuit, IsGateNumber, gate_at};
 ghost use Rattle.hz_core.specs.Pattern.{differs, IsCandidate};
-ghost use Rattle.hz_net.specs.Network.{network_of, bit_at};
+ghost use Rattle.hz_net.specs.Network.{network_of, bit_at, IsState, AreByVariable, IsInput};
 ghost use Rattle.hz_net.specs.Variables.{at_wires};
 ghost use Rattle.hz_gmw.specs.Runs.{end_of};
 ghost use Rattle.hz_reach.specs.Order.{IsInKeyOrder};
@@ -23,8 +23,8 @@ ghost use Rattle.hz_reach.specs.Given.{AreResultsOfA, IsScratchFor, IsEmptyRun};
 ghost use Rattle.hz_reach.specs.Spread.{IsSpreadRun, IsSparingRun};
 ghost use Rattle.hz_reach.specs.Turn.{changed_inputs, free_pins, earlier_pins, AreTurnWires, IsTurn, unchanged_wires};
 
-use crate::Scratch;
 use crate::turn::{is_gate, take_turn};
+use crate::{Change, Scratch};
 use hz_core::{MAX_PINS, Tri};
 use hz_gmw::Run;
 use hz_net::Net;
@@ -49,7 +49,7 @@ pub fn spread_run(
     scratch: &mut Scratch,
     run: &mut Run,
 )
-    requires change { AreResultsOfA net.now input.now start.now a.now rank.now }
+    requires change { AreResultsOfA net.now start.now input.now a.now rank.now }
     requires scratch { IsScratchFor net.now scratch.old }
     requires run { IsEmptyRun (length (network_of net.now)) run.old }
     ensures run { MatchBool keep_unused
@@ -61,37 +61,38 @@ pub fn spread_run(
     ensures room { Spends run.old run.new }
 {
     scratch.sort(rank);
-    spread_in_order(net, start, input, a, rank, keep_unused, scratch, run);
+    let change = Change { net, start, input };
+    spread_in_order(&change, a, rank, keep_unused, scratch, run);
 }
 
 /// The spread run, if the variables of `scratch` are sorted by rank already. They stay so.
 pub fn spread_in_order(
-    net: &Net,
-    start: &[bool],
-    input: &[bool],
+    change: &Change,
     a: &[Tri],
     rank: &[u32],
     keep_unused: bool,
     scratch: &mut Scratch,
     run: &mut Run,
 )
-    requires change { AreResultsOfA net.now input.now start.now a.now rank.now }
-    requires scratch { IsScratchFor net.now scratch.old }
+    requires change { AreResultsOfA change.now.net.now change.now.start.now change.now.input.now a.now rank.now }
+    requires scratch { IsScratchFor change.now.net.now scratch.old }
     requires sorted { IsInKeyOrder rank.now scratch.old.sorted }
-    requires run { IsEmptyRun (length (network_of net.now)) run.old }
+    requires run { IsEmptyRun (length (network_of change.now.net.now)) run.old }
     ensures run { MatchBool keep_unused
-        (IsSparingRun (network_of net.now) input.now start.now a.now rank.now run.new.steps)
-        (IsSpreadRun (network_of net.now) input.now start.now a.now run.new.steps) }
-    ensures state { scratch.new.state ≡ end_of start.now run.new.steps }
+        (IsSparingRun (network_of change.now.net.now) change.now.input.now change.now.start.now
+        a.now rank.now run.new.steps)
+        (IsSpreadRun (network_of change.now.net.now) change.now.input.now change.now.start.now
+        a.now run.new.steps) }
+    ensures state { scratch.new.state ≡ end_of change.now.start.now run.new.steps }
     ensures marked { scratch.new.marked ≡ [] }
     ensures sorted { IsInKeyOrder rank.now scratch.new.sorted }
     ensures room { Spends run.old run.new }
 {
     // A getter of the network says that its circuit is one.
-    let _variables = net.len();
-    sparing_in_order(net, start, input, a, rank, scratch, run);
+    let _variables = change.net.len();
+    sparing_in_order(change, a, rank, scratch, run);
     if !keep_unused {
-        mark_unchanged(net, start, a, scratch);
+        mark_unchanged(change.net, change.start, a, scratch);
         scratch.step(run);
     }
 }
@@ -99,36 +100,37 @@ pub fn spread_in_order(
 /// The spread run without the wires that it does not need, if the variables of `scratch` are sorted by rank already. They stay
 /// so. With the wires that have not changed as one more step, it is the whole spread run: [`add_unused`] adds them.
 pub fn sparing_in_order(
-    net: &Net,
-    start: &[bool],
-    input: &[bool],
+    change: &Change,
     a: &[Tri],
     rank: &[u32],
     scratch: &mut Scratch,
     run: &mut Run,
 )
-    requires change { AreResultsOfA net.now input.now start.now a.now rank.now }
-    requires scratch { IsScratchFor net.now scratch.old }
+    requires change { AreResultsOfA change.now.net.now change.now.start.now change.now.input.now a.now rank.now }
+    requires scratch { IsScratchFor change.now.net.now scratch.old }
     requires sorted { IsInKeyOrder rank.now scratch.old.sorted }
-    requires run { IsEmptyRun (length (network_of net.now)) run.old }
-    ensures sparing { IsSparingRun (network_of net.now) input.now start.now a.now rank.now run.new.steps }
-    ensures whole { IsSpreadRun (network_of net.now) input.now start.now a.now
-        (with_step_if_any run.new.steps (unchanged_wires net.now a.now start.now scratch.new.state)) }
-    ensures room_for_unused { HasRoomForStep (unchanged_wires net.now a.now start.now scratch.new.state) run.new }
-    ensures state { scratch.new.state ≡ end_of start.now run.new.steps }
+    requires run { IsEmptyRun (length (network_of change.now.net.now)) run.old }
+    ensures sparing { IsSparingRun (network_of change.now.net.now) change.now.input.now change.now.start.now
+        a.now rank.now run.new.steps }
+    ensures whole { IsSpreadRun (network_of change.now.net.now) change.now.input.now change.now.start.now a.now
+        (with_step_if_any run.new.steps
+        (unchanged_wires change.now.net.now a.now change.now.start.now scratch.new.state)) }
+    ensures room_for_unused { HasRoomForStep
+        (unchanged_wires change.now.net.now a.now change.now.start.now scratch.new.state) run.new }
+    ensures state { scratch.new.state ≡ end_of change.now.start.now run.new.steps }
     ensures marked { scratch.new.marked ≡ [] }
     ensures sorted { IsInKeyOrder rank.now scratch.new.sorted }
     ensures room { Spends run.old run.new }
 {
     // A getter of the network says that its circuit is one.
-    let _variables = net.len();
-    scratch.begin(start);
-    mark_inputs(net, start, input, scratch);
+    let _variables = change.net.len();
+    scratch.begin(change.start);
+    mark_inputs(change.net, change.start, change.input, scratch);
     scratch.step(run);
     for place in 0..scratch.sorted().len() {
         let var = scratch.sorted()[place];
-        if is_gate(net, var) {
-            turn_by_rank(net, rank, var, scratch, run);
+        if is_gate(change.net, var) {
+            turn_by_rank(change.net, rank, var, scratch, run);
         }
     }
 }
@@ -136,11 +138,12 @@ pub fn sparing_in_order(
 /// Adds the last step of the spread run to the run of [`sparing_in_order`]: the wires that are X in the result of Algorithm A and
 /// have not changed. The scratch stays as it is, in the state before that step.
 pub fn add_unused(net: &Net, start: &[bool], a: &[Tri], scratch: &mut Scratch, run: &mut Run)
-    requires start { length start.now ≡ length (network_of net.now) }
-    requires a { length a.now ≡ length (network_of net.now) }
+    requires start { IsState net.now start.now }
+    requires a { IsState net.now a.now }
     requires scratch { IsScratchFor net.now scratch.old }
     requires room { HasRoomForStep (unchanged_wires net.now a.now start.now scratch.old.state) run.old }
-    ensures steps { run.new.steps ≡ with_step_if_any run.old.steps (unchanged_wires net.now a.now start.now scratch.old.state) }
+    ensures steps { run.new.steps ≡
+        with_step_if_any run.old.steps (unchanged_wires net.now a.now start.now scratch.old.state) }
     ensures room { Spends run.old run.new }
     ensures same { scratch.new ≡ scratch.old }
 {
@@ -153,24 +156,22 @@ pub fn add_unused(net: &Net, start: &[bool], a: &[Tri], scratch: &mut Scratch, r
 // Marks the inputs that differ from the new input.
 fn mark_inputs(net: &Net, start: &[bool], input: &[bool], scratch: &mut Scratch)
     requires circuit { IsCircuit net.now }
-    requires start { length start.now ≡ length (network_of net.now) }
-    requires input { length input.now ≡ net.now.inputs }
+    requires start { IsState net.now start.now }
+    requires input { IsInput net.now input.now }
     requires scratch { IsScratchFor net.now scratch.old }
     ensures marked { scratch.new.marked ≡ changed_inputs net.now start.now input.now }
     ensures state { scratch.new.state ≡ scratch.old.state }
     ensures sorted { scratch.new.sorted ≡ scratch.old.sorted }
 {
     for var in 0..net.circuit().inputs() {
-        if start[var as usize] != input[var as usize] {
-            scratch.mark(var);
-        }
+        scratch.mark_if(start[var as usize] != input[var as usize], var);
     }
 }
 
 // A gate's turn, in which those of its wires are free that become X before it. It changes alone.
 fn turn_by_rank(net: &Net, rank: &[u32], gate: u32, scratch: &mut Scratch, run: &mut Run)
     requires circuit { IsCircuit net.now }
-    requires rank { length rank.now ≡ length (network_of net.now) }
+    requires rank { AreByVariable net.now rank.now }
     requires gate { IsGateNumber net.now gate }
     requires possible { (list : List Bool) × IsCandidate (gate_at net.now gate).kind
         (at_wires net.now gate scratch.old.state) (earlier_pins net.now rank.now gate) (not (bit_at scratch.old.state gate)) list }
@@ -207,8 +208,8 @@ fn list_free(own: u32, ranks: &[u32], free: &mut [bool])
 // Marks the wires that are X in the result of Algorithm A and have not changed.
 fn mark_unchanged(net: &Net, start: &[bool], a: &[Tri], scratch: &mut Scratch)
     requires circuit { IsCircuit net.now }
-    requires start { length start.now ≡ length (network_of net.now) }
-    requires a { length a.now ≡ length (network_of net.now) }
+    requires start { IsState net.now start.now }
+    requires a { IsState net.now a.now }
     requires scratch { IsScratchFor net.now scratch.old }
     ensures marked { scratch.new.marked ≡ unchanged_wires net.now a.now start.now scratch.old.state }
     ensures state { scratch.new.state ≡ scratch.old.state }
@@ -218,9 +219,7 @@ fn mark_unchanged(net: &Net, start: &[bool], a: &[Tri], scratch: &mut Scratch)
     for wire in net.circuit().nodes()..net.len() {
         let place = wire as usize;
         let now = scratch.state()[place];
-        if has_yet_to_change(a[place], start[place], now) {
-            scratch.mark(wire);
-        }
+        scratch.mark_if(has_yet_to_change(a[place], start[place], now), wire);
     }
 }
 

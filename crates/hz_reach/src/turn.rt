@@ -6,12 +6,12 @@
 //!
 //! What must stay true: each free pin differs from its source, else its wire is stable and the first step is none. The gate is
 //! unstable only after its wires, so the two can't be one step.
-ghost use Rattle.std.specs.Prelude.{◌≡◌, ℕ, ◌+◌, ◌<◌, ◌≤◌, Bool, true, IsTrue, not, List, [], ◌∷◌, ◌++◌, length};
+ghost use Rattle.std.specs.Prelude.{◌≡◌, ℕ, ◌+◌, ◌≤◌, Bool, true, IsTrue, not, List, [], ◌∷◌, ◌++◌, length};
 ghost use Rattle.std.specs.List.{slice_range};
 ghost use Rattle.hz_core.specs.Netlist.{IsCircuit, IsGateNumber, gate_at};
 ghost use Rattle.hz_core.specs.Pattern.{IsCandidate};
 ghost use Rattle.hz_core.specs.Limits.{most_variables};
-ghost use Rattle.hz_net.specs.Network.{network_of, bit_at};
+ghost use Rattle.hz_net.specs.Network.{network_of, bit_at, IsVariable};
 ghost use Rattle.hz_net.specs.Variables.{at_wires};
 ghost use Rattle.hz_gmw.specs.Runs.{state_after};
 ghost use Rattle.hz_reach.specs.Given.{IsScratchFor};
@@ -25,7 +25,7 @@ use hz_net::Net;
 
 /// Whether a variable is a gate.
 pub fn is_gate(net: &Net, var: u32) -> bool
-    requires { var < length (network_of net.now) }
+    requires { IsVariable net.now var }
     ensures gate { result ≡ is_gate_in (network_of net.now) var }
     ensures number { IsTrue result → IsGateNumber net.now var }
 {
@@ -100,9 +100,8 @@ fn mark_changed(first: u32, pattern: &[bool], scratch: &mut Scratch)
 {
     for pin in 0..pattern.len() {
         let wire = first + pin as u32;
-        if scratch.state()[wire as usize] != pattern[pin] {
-            scratch.mark(wire);
-        }
+        let now = scratch.state()[wire as usize];
+        scratch.mark_if(now != pattern[pin], wire);
     }
 }
 
@@ -134,8 +133,7 @@ fn mark_with_fan_out(net: &Net, node: u32, scratch: &mut Scratch)
     let now = scratch.state()[node as usize];
     scratch.mark(node);
     for wire in net.fan_out(node) {
-        if scratch.state()[*wire as usize] != now {
-            scratch.mark(*wire);
-        }
+        let own = scratch.state()[*wire as usize];
+        scratch.mark_if(own != now, *wire);
     }
 }

@@ -11,7 +11,7 @@ use Rattle.hz_cycle.proofs.cycling.cycle_in_order.Goals as goal
 
 pub make_pass-requires : goal.make_pass-requires
 make_pass-requires c =
-    let change = of-change c.requires.change in
+    let change = of-change c.requires.change c.len-variables.ensures.circuit in
     record {
       given = fixed-and-ranked change;
       begins = turned-may-begin c.requires.turned;
@@ -23,7 +23,7 @@ make_pass-requires c =
 
 pub make_pass-requires-2 : goal.make_pass-requires-2
 make_pass-requires-2 c =
-    let change = of-change c.requires.change in
+    let change = of-change c.requires.change c.len-variables.ensures.circuit in
     let once = c.make_pass.ensures.pass.pass c.args.input.now (change-fixed change) in
     record {
       given = fixed-and-ranked change;
@@ -35,7 +35,7 @@ make_pass-requires-2 c =
 
 pub returns-clause-cycle : goal.returns-clause-cycle
 returns-clause-cycle c =
-    let fixed = change-fixed (of-change c.requires.change) in
+    let fixed = change-fixed (of-change c.requires.change c.len-variables.ensures.circuit) in
     let once = c.make_pass.ensures.pass in
     let again = c.make_pass-2.ensures.pass in
     let whole : c.make_pass-2.new.run.steps ≡ once.made ++ again.made =
@@ -45,6 +45,6 @@ returns-clause-cycle c =
 
 pub returns-clause-state : goal.returns-clause-state
 returns-clause-state c =
-    let fixed = change-fixed (of-change c.requires.change) in
+    let fixed = change-fixed (of-change c.requires.change c.len-variables.ensures.circuit) in
     returned (wired-network_of c.args.net.now c.len-variables.ensures.circuit) fixed c.requires.turned
     (c.make_pass.ensures.pass.pass c.args.input.now fixed) (c.make_pass-2.ensures.pass.pass c.args.input.now fixed)

@@ -6,6 +6,6 @@ use Rattle.hz_cycle.proofs.passing.make_pass.Given as goal
 abbrev pub invariant-loop-place : goal.invariant-loop-place
 invariant-loop-place l =
     record {
-      passing : IsPassing l.net l.rank l.b l.fn.scratch.state l.fn.run l.place l.scratch l.run;
+      at : IsPassing l.net l.rank l.b l.fn.scratch.state l.fn.run l.place l.scratch l.run;
       end : l.place-end ≡ length l.scratch.sorted;
     }

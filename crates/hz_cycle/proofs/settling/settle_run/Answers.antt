@@ -1,12 +1,7 @@
-use Rattle.std.proofs.Common.{◌∙◌, sym, ap, length}
-use Rattle.hz_core.specs.declared.tri.Tri.{Tri}
-use Rattle.hz_net.specs.Network.{network_of}
-use Rattle.hz_net.proofs.Sequences.{length-algorithm_a}
+use Rattle.std.proofs.Common.{◌∙◌, sym}
+use Rattle.hz_reach.proofs.RanksOrderGates.{ranks-long}
 use Rattle.hz_cycle.proofs.settling.settle_run.Goals as goal
 
 -- there are as many ranks as variables
 pub sort-requires : goal.sort-requires
-sort-requires c =
-    c.requires.change.of_a.ranked.long
-    ∙ (ap (length {A = Tri}) c.requires.change.of_a.a_result.2
-    ∙ (length-algorithm_a (network_of c.args.net.now) c.args.input.now c.args.start.now c.requires.change.of_a.begins.long c.requires.change.of_a.a_result.0 ∙ sym c.requires.scratch.long))
+sort-requires c = ranks-long c.requires.change.of_a ∙ sym c.requires.scratch.long

@@ -1,28 +1,26 @@
-use Rattle.std.proofs.Common.{◌≡◌, ◌∙◌, ◌-◌, ◌+◌, ◌<◌, ◌∷◌, ◌++◌, [], ℕ, Bool, List, true, false, length, refl, sym, ap, arith}
+use Rattle.std.proofs.Common.{◌≡◌, ◌∙◌, ◌-◌, ◌+◌, ◌<◌, ◌∷◌, ◌++◌, [], ℕ, Bool, List, false, cond, length, refl, sym, ap, arith}
 use Rattle.std.specs.List.{slice_range}
 use Rattle.hz_core.specs.Pattern.{differs}
 use Rattle.hz_net.specs.Network.{bit_at}
-use Rattle.hz_net.proofs.PartLemmas.{length-part, at-part}
+use Rattle.hz_lists.proofs.PartLemmas.{length-part, at-part}
 use Rattle.hz_reach.specs.FilteredRange.{filtered_range}
-use Rattle.hz_reach.proofs.FilteredRangeLemmas.{filtered_range-below, filtered_range-more, filtered_range-skip}
+use Rattle.hz_reach.proofs.FilteredRangeLemmas.{filtered_range-below, filtered_range-next}
 use Rattle.hz_reach.proofs.turn.mark_changed.Goals as goal
-use Rattle.hz_reach.proofs.turn.mark_changed.Goals.{then-state-wire, else-state-wire}
 
 -- the test of a wire, at a pin
 test : (state : List Bool) (first : ℕ) (pattern : List Bool) → ℕ → Bool
 test state first pattern i = differs (bit_at (slice_range state first (first + length pattern)) (i - first)) (bit_at pattern (i - first))
 
-test-at : (state now : List Bool) (first : ℕ) (pattern : List Bool) (pin : ℕ) (bit : Bool) → now ≡ state → pin < length pattern → differs (bit_at now (first + pin)) (bit_at pattern pin) ≡ bit → test state first pattern (first + pin) ≡ bit
+test-at : (state : List Bool) (first : ℕ) (pattern : List Bool) (pin : ℕ) → pin < length pattern → test state first pattern (first + pin) ≡ differs (bit_at state (first + pin)) (bit_at pattern pin)
 unfolding test
-test-at state now first pattern pin bit same few is =
+test-at state first pattern pin few =
     let place : first + pin - first ≡ pin = omega arith in
     ap (λ (n : ℕ). differs (bit_at (slice_range state first (first + length pattern)) n) (bit_at pattern n)) place
-    ∙ (ap (λ (b : Bool). differs b (bit_at pattern pin)) (at-part state first (length pattern) pin false few)
-    ∙ (ap (λ (s : List Bool). differs (bit_at s (first + pin)) (bit_at pattern pin)) (sym same) ∙ is))
+    ∙ ap (λ (b : Bool). differs b (bit_at pattern pin)) (at-part state first (length pattern) pin false few)
 
-pub mark-requires-clause-ascending : goal.mark-requires-clause-ascending
+pub mark_if-requires-clause-ascending : goal.mark_if-requires-clause-ascending
 unfolding test
-mark-requires-clause-ascending c =
+mark_if-requires-clause-ascending c =
     rw c.loop-pin.invariant.0 (λ i. filtered_range-below (test c.args.scratch.now.state c.args.first c.args.pattern.now) c.args.first c.loop-pin.pin (c.args.first + c.loop-pin.pin) i refl)
 
 pub loop-pin-preserved : goal.loop-pin-preserved
@@ -30,22 +28,12 @@ unfolding test
 loop-pin-preserved c =
     let first = c.args.first in
     let pin = c.loop-pin.pin in
-    let holds = test c.args.scratch.now.state first c.args.pattern.now in
-    let at = test-at c.args.scratch.now.state c.state.result.now first c.args.pattern.now pin in
-    elim c.if-state-wire.branch [
-      | then-state-wire w ↦ rw w.scratch-is (
-        w.mark.ensures.marked
-            ∙ (ap (λ (list : List ℕ). list ++ (first + pin) ∷ []) c.loop-pin.invariant.0
-            ∙ filtered_range-more holds first pin (first + pin) refl (at true (c.state.ensures ∙ c.loop-pin.invariant.1) c.loop-pin-test.true w.if-state-wire.true)),
-        w.mark.ensures.state ∙ c.loop-pin.invariant.1,
-        w.mark.ensures.sorted ∙ c.loop-pin.invariant.2,
-      )
-      | else-state-wire w ↦ rw w.scratch-is (
-        c.loop-pin.invariant.0 ∙ filtered_range-skip holds first pin (first + pin) refl (at false (c.state.ensures ∙ c.loop-pin.invariant.1) c.loop-pin-test.true w.if-state-wire.false),
-        c.loop-pin.invariant.1,
-        c.loop-pin.invariant.2,
-      )
-    ]
+    let is = test-at c.args.scratch.now.state first c.args.pattern.now pin c.loop-pin-test.true in (
+      rw (c.mark_if.ensures.marked, c.loop-pin.invariant.0, c.state.ensures, c.loop-pin.invariant.1, ← is)
+          (filtered_range-next (test c.args.scratch.now.state first c.args.pattern.now) first pin (first + pin) refl),
+      c.mark_if.ensures.state ∙ c.loop-pin.invariant.1,
+      c.mark_if.ensures.sorted ∙ c.loop-pin.invariant.2,
+    )
 
 pub returns-clause-marked : goal.returns-clause-marked
 returns-clause-marked c =

@@ -22,16 +22,16 @@ bounds-state-wire c =
     ap (λ (list : List ℕ). get_or list c.loop-wire.wire-index 0) c.fan_out-wire-items.ensures in
     omega (arith, below, here, c.requires.scratch.long, ap (length {A = Bool}) (c.state-in-loop-wire.ensures ∙ c.loop-wire.invariant.1))
 
-pub mark-requires-then-state-wire-clause-inside : goal.mark-requires-then-state-wire-clause-inside
-mark-requires-then-state-wire-clause-inside c =
+pub mark_if-requires-clause-inside : goal.mark_if-requires-clause-inside
+mark_if-requires-clause-inside c =
     let inside : c.loop-wire.wire-index < length (fan_out_of c.args.net.now c.args.node) = rw c.fan_out-wire-items.ensures at c.loop-wire-test.true in
     let below = fan_out-inside c.args.net.now c.args.node c.loop-wire.wire-index c.requires.circuit inside in
     let here : get_or c.fan_out-wire-items.result.now c.loop-wire.wire-index 0 ≡ get_or (fan_out_of c.args.net.now c.args.node) c.loop-wire.wire-index 0 =
     ap (λ (list : List ℕ). get_or list c.loop-wire.wire-index 0) c.fan_out-wire-items.ensures in
     omega (arith, below, here, c.requires.scratch.long, ap (length {A = Bool}) c.loop-wire.invariant.1)
 
-pub mark-requires-then-state-wire-clause-ascending : goal.mark-requires-then-state-wire-clause-ascending
-mark-requires-then-state-wire-clause-ascending c =
+pub mark_if-requires-clause-ascending : goal.mark_if-requires-clause-ascending
+mark_if-requires-clause-ascending c =
     let test : ℕ → Bool = λ wire. differs (bit_at c.args.scratch.now.state wire) (bit_at c.args.scratch.now.state c.args.node) in
     let inside : c.loop-wire.wire-index < length (fan_out_of c.args.net.now c.args.node) = rw c.fan_out-wire-items.ensures at c.loop-wire-test.true in
     rw (c.loop-wire.invariant.0, c.fan_out-wire-items.ensures)
