@@ -129,6 +129,10 @@ fn tell_unread(rt: &HostRuntime, words: &[String], first: &[u8]) {
     let Some(name) = file_name(rt.alloc(), words, place_in(first)) else {
         return;
     };
+    if name.is_empty() {
+        say(rt, "hazard: the name of a file is empty");
+        return;
+    }
     let Ok(shown) = visible(rt.alloc(), name.as_bytes()) else {
         return;
     };

@@ -1,4 +1,4 @@
-//! The job `convert`: a run text, written in version 2. Its runs are not replayed.
+//! The job `convert`: a run text, written in format 2. Its runs are not replayed.
 
 use hz_net::Net;
 use hz_outside::Sink;

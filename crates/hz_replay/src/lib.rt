@@ -4,7 +4,7 @@
 //! |---|---|
 //! | `replaying` | the job `replay`: the runs of a run text, step by step |
 //! | `verdict` | the line that `replay` writes |
-//! | `converting` | the job `convert`: a run text, written in version 2 |
+//! | `converting` | the job `convert`: a run text, written in format 2 |
 //! | `dumping` | the job `vcd`: the last run of a run text as a value change dump |
 //! | `reading_back` | a law on the runs that are printed: they replay |
 #![tactic(auto)]

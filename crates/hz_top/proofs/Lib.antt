@@ -6,7 +6,5 @@ pub mod JobOutcomes
 pub mod TextEnds
 -- How a job ends in which nothing is to be refused but a step or a cycle, where memory does not run out and the output is taken
 pub mod FaultlessEndings
--- What patterns bring about where nobody knows the start is right
-pub mod RightResets
 -- The headline, from the answer of a call
 pub mod Headlines

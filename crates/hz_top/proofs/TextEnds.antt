@@ -17,9 +17,9 @@ use Rattle.hz_words.specs.declared.job.Task.{Task}
 use Rattle.hz_words.specs.declared.job.Task.TheVariants.{Analyse, Split, Replay, Convert, Vcd, Batch, Reset}
 use Rattle.hz_refusal.specs.declared.status.Status.{Status}
 use Rattle.hz_refusal.specs.declared.status.Status.TheVariants as status
-use Rattle.hz_top.specs.Batches.{IsBatchOutcome}
+use Rattle.hz_patterns.specs.Batches.{IsBatchOutcome}
 use Rattle.hz_changes.specs.Reports.{Reports}
-use Rattle.hz_top.specs.Resets.{IsResetOutcome}
+use Rattle.hz_patterns.specs.Resets.{IsResetOutcome}
 use Rattle.hz_replay.specs.RunTexts.{IsConvertOutcome, EndsReplay}
 use Rattle.hz_changes.specs.Splits.{SplitsChanges}
 use Rattle.hz_refusal.specs.Second.{IsTextOutcome, Started, IsGoodText}

@@ -5,8 +5,6 @@
 -- LeavesFiles told job: what a call leaves of the counts, however it ends
 -- IsFilesOutcome, IsFirstTextOutcome, IsSecondFileOutcome: the outcomes of its two files, one after the other
 -- comes_of options task netlist text status line: the outcomes of the second text, by the task
--- IsBatchOutcome netlist patterns status text: the text of patterns
--- IsResetOutcome netlist patterns status text: the text of what they bring about, and that each value is right
 -- good_of task netlist text status: nothing is to be refused of the second text, and the task ends with this status
 -- IsFaultlessJob told job status: nothing is to be refused in the job, which ends with this status
 -- Headline written faults told asked was now status: the headline of a call
@@ -14,8 +12,6 @@
 -- IsStoppedBy analyses number var: why a change is stopped
 -- IsExact netlist input start finding: the headline of one change
 
-pub mod Batches
-pub mod Resets
 pub mod Tasks
 pub mod Outcome
 pub mod LeftFiles

@@ -9,13 +9,12 @@ ghost use Rattle.hz_line.specs.Line.{most_text_bytes};
 ghost use Rattle.hz_top.specs.Outcome.{observation_of, IsFilesOutcome, IsSecondFileOutcome};
 ghost use Rattle.hz_top.specs.Tasks.{comes_of};
 
-use crate::batching::Batches;
-use crate::resetting::Resets;
 use hz_changes::{Analyses, Splits};
 use hz_line::MAX_TEXT;
 use hz_net::Net;
 use hz_options::Options;
 use hz_outside::{Files, Place, Sink};
+use hz_patterns::{Batches, Resets};
 use hz_refusal::{
     Status, on_patterns, on_runs, on_script, read_netlist, refuse_load, refuse_netlist,
 };

@@ -10,10 +10,10 @@ use std::alloc::Global;
 
 /// The job `batch`.
 #[derive(Drop)]
-pub(crate) struct Batches;
+pub struct Batches;
 
 impl OnPatterns for Batches {
-    ghost use Rattle.hz_top.specs.Batches.{IsBatchOutcome};
+    ghost use Rattle.hz_patterns.specs.Batches.{IsBatchOutcome};
 
     ghost judges = { λ _. IsBatchOutcome };
 

@@ -1,7 +1,7 @@
 -- The sink failed: a prefix of the text was written.
 use Rattle.std.proofs.Common.{refl, inr}
 use Rattle.hz_refusal.specs.declared.status.Status.TheVariants as status
-use Rattle.hz_top.proofs.batching.BatchesOnPatterns.with_patterns.Goals as goal
+use Rattle.hz_patterns.proofs.batching.BatchesOnPatterns.with_patterns.Goals as goal
 
 pub returns-in-Err-Sink : goal.returns-in-Err-Sink
 returns-in-Err-Sink g c =

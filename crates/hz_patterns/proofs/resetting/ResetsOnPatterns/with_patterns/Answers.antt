@@ -1,8 +1,8 @@
 -- The text was written, or a prefix of it, and each value in it is right.
 use Rattle.std.proofs.Common.{refl, inr}
 use Rattle.hz_refusal.specs.declared.status.Status.TheVariants as status
-use Rattle.hz_top.proofs.RightResets.{reset-outcome}
-use Rattle.hz_top.proofs.resetting.ResetsOnPatterns.with_patterns.Goals as goal
+use Rattle.hz_patterns.proofs.RightResets.{reset-outcome}
+use Rattle.hz_patterns.proofs.resetting.ResetsOnPatterns.with_patterns.Goals as goal
 
 pub returns-in-Ok-reset : goal.returns-in-Ok-reset
 returns-in-Ok-reset g c =

@@ -11,10 +11,10 @@ use std::alloc::Global;
 
 /// The job `reset`.
 #[derive(Drop)]
-pub(crate) struct Resets;
+pub struct Resets;
 
 impl OnPatterns for Resets {
-    ghost use Rattle.hz_top.specs.Resets.{IsResetOutcome};
+    ghost use Rattle.hz_patterns.specs.Resets.{IsResetOutcome};
 
     ghost judges = { λ _. IsResetOutcome };
 
