@@ -2,7 +2,7 @@
 use Rattle.std.specs.Prelude.{◌≡◌, ℕ, ◌⊎◌, Bool, true, false, not, ◌&&◌, ◌||◌, List, length, map}
 use Rattle.std.specs.List.{range_with_len}
 use Rattle.hz_core.specs.Netlist.{Netlist}
-use Rattle.hz_net.specs.Network.{Driver, External, Function, Source, driver_at, bit_at, AreByVariable}
+use Rattle.hz_net.specs.Network.{Driver, External, Function, Source, driver_at, bit_at, network_of, AreByVariable}
 use Rattle.hz_net.specs.Reads.{IsWireInto}
 use Rattle.hz_lists.specs.Listed.{is_listed}
 use Rattle.hz_gmw.specs.Instability.{is_unstable}
