@@ -1,3 +1,5 @@
+-- The names that most proofs cite, passed on from one place
+pub mod Words
 -- Lists of variables that name none twice, and those that ascend
 pub mod DistinctLists
 -- The variables that pass a test: which they are, that none comes twice, and how they are marked one after the other

@@ -1,9 +1,7 @@
 -- Variables in a list, by their places.
 use Rattle.std.proofs.Common.{◌≡◌, ◌≢◌, ℕ, zero, suc, ◌<◌, true, false, List, [], ◌∷◌, length, get_or, refl, sym, arith, inl, inr, eqb}
-use Rattle.std.proofs.lemmas.Bool.{both_ways, or_cases, or_left, or_right, eqb-true, eq-eqb, cases_lt}
-use Rattle.std.proofs.lemmas.List.{get_or_past}
-use Rattle.hz_gmw.specs.Runs.{is_listed}
-use Rattle.hz_reach.specs.Order.{key_at}
+use Rattle.std.proofs.lemmas.Bool.{eqb-true, eq-eqb}
+use Rattle.hz_reach.proofs.Words.{both_ways, or_cases, or_left, or_right, cases_lt, get_or_past, is_listed, key_at}
 
 -- what stands in a list is listed
 pub listed-at : (list : List ℕ) (k : ℕ) → k < length list → is_listed list (get_or list k 0) ≡ true

@@ -1,18 +1,15 @@
 -- A loop over the places of an order: what holds at a place, and that a gate's turn, or none, leads to the next one.
 use Rattle.std.proofs.Common.{◌≡◌, ◌≢◌, ℕ, ◌+◌, ◌<◌, ◌≤◌, Bool, true, false, not, List, [], ◌++◌, length, get_or, sym, ap, ◌∙◌, subst, arith}
-use Rattle.hz_core.specs.Netlist.{Netlist, IsCircuit, IsGateNumber, gate_at}
-use Rattle.hz_core.specs.Pattern.{IsCandidate, IsPattern}
-use Rattle.hz_net.specs.Network.{bit_at, network_of}
-use Rattle.hz_net.specs.Variables.{first_wire, at_wires}
-use Rattle.hz_gmw.specs.Runs.{IsRun, state_after}
-use Rattle.hz_gmw.specs.RunRecord.{RunRecord, flip_count}
-use Rattle.hz_reach.specs.Order.{IsInKeyOrder}
-use Rattle.hz_reach.specs.Room.{with_step_if_any, Spends, HasRoomFor}
-use Rattle.hz_reach.specs.ScratchState.{ScratchState}
-use Rattle.hz_reach.specs.Turn.{AreTurnWires, changed_wires, turn_flips, turn_end, turn_steps, IsTurn}
+use Rattle.hz_reach.proofs.Words.{Netlist, IsCircuit, IsGateNumber, gate_at, IsCandidate, IsPattern, bit_at, network_of, first_wire, at_wires, IsRun}
+use Rattle.hz_reach.proofs.Words.{state_after, RunRecord, flip_count, IsInKeyOrder, with_step_if_any, Spends, HasRoomFor, ScratchState, AreTurnWires}
+use Rattle.hz_reach.proofs.Words.{changed_wires, turn_flips, turn_end, turn_steps, IsTurn}
 use Rattle.hz_reach.proofs.ListPlaces.{key-inside, listed-at}
 use Rattle.hz_reach.proofs.Order.{had_before, also, IsNext, place-next, turn-comes, none-comes, none-yet}
 use Rattle.hz_reach.proofs.Room.{steps-after, spends-more, flips-after, room-left}
+
+-- the variable at a place of an order that is read
+pub read : {list order : List ℕ} (place : ℕ) → list ≡ order → get_or list place 0 ≡ get_or order place 0
+read place same = ap (λ (list : List ℕ). get_or list place 0) same
 
 -- What turns in the order of a key keep of who has had a turn, the steps made and the state: a turn that comes next may be taken,
 -- and keeps it; the steps are a run, and have at most so many flips.
