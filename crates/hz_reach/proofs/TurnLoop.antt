@@ -1,6 +1,7 @@
 -- A loop over the places of an order: what holds at a place, and that a gate's turn, or none, leads to the next one.
 use Rattle.std.proofs.Common.{◌≡◌, ◌≢◌, ℕ, ◌+◌, ◌<◌, ◌≤◌, Bool, true, false, not, List, [], ◌++◌, length, get_or, sym, ap, ◌∙◌, subst, arith}
 use Rattle.hz_reach.proofs.Words.{Netlist, IsCircuit, IsGateNumber, gate_at, IsCandidate, IsPattern, bit_at, network_of, first_wire, at_wires, IsRun}
+use Rattle.hz_reach.specs.Turn.{CanTurn, HasRoomForTurn}
 use Rattle.hz_reach.proofs.Words.{state_after, RunRecord, flip_count, IsInKeyOrder, with_step_if_any, Spends, HasRoomFor, ScratchState, AreTurnWires}
 use Rattle.hz_reach.proofs.Words.{changed_wires, turn_flips, turn_end, turn_steps, IsTurn}
 use Rattle.hz_reach.proofs.ListPlaces.{key-inside, listed-at}
@@ -23,8 +24,7 @@ pub record AreTurnsThatKeep (netlist : Netlist) (keys : List ℕ) (turning : ℕ
   pub few : (had : ℕ → Bool) (made : List (List ℕ)) (state : List Bool) → Holds had made state → flip_count made ≤ most
   pub possible :
       (had : ℕ → Bool) (made : List (List ℕ)) (state : List Bool) (gate : ℕ) → Holds had made state → IsNext keys turning had gate →
-      IsGateNumber netlist gate →
-      (list : List Bool) × IsCandidate (gate_at netlist gate).kind (at_wires netlist gate state) (free gate) (not (bit_at state gate)) list
+      IsGateNumber netlist gate → CanTurn netlist gate (free gate) state
   pub kept :
       (had : ℕ → Bool) (made : List (List ℕ)) (state : List Bool) (gate : ℕ) (pattern : List Bool) → Holds had made state →
       IsNext keys turning had gate → IsGateNumber netlist gate →
@@ -93,7 +93,7 @@ module _ {netlist : Netlist} {keys : List ℕ} {turning : ℕ → Bool} {free : 
         next : IsNext keys turning (had_before turning scratch.sorted place) var
         next = subst (IsNext keys turning (had_before turning scratch.sorted place)) (sym here) (place-next at.sorted turning place inside (ap turning (sym here) ∙ comes))
 
-        pub at-possible : (list : List Bool) × IsCandidate (gate_at netlist var).kind (at_wires netlist var scratch.state) (free var) (not (bit_at scratch.state var)) list
+        pub at-possible : CanTurn netlist var (free var) scratch.state
         at-possible = at.turns.possible _ _ _ var at.holds next is_gate
 
         turned :
@@ -103,9 +103,7 @@ module _ {netlist : Netlist} {keys : List ℕ} {turning : ℕ → Bool} {free : 
             subst (λ (list : List ℕ). Holds (also (had_before turning scratch.sorted place) var) (turn_steps netlist var with_fan_out list scratch.state at.made) (turn_end netlist var with_fan_out list scratch.state)) (sym are.marks)
             (at.turns.kept _ _ _ var are.pattern at.holds next is_gate are.canonical)
 
-        pub at-room :
-            (wires : List ℕ) → AreTurnWires netlist var (free var) scratch.state wires →
-            HasRoomFor (length wires + length (turn_flips netlist var with_fan_out (state_after wires scratch.state))) now
+        pub at-room : HasRoomForTurn netlist var (free var) with_fan_out scratch.state now
         at-room wires are =
             let flips = turn_flips netlist var with_fan_out (state_after wires scratch.state) in
             let run = at.turns.run _ _ _ at.holds in

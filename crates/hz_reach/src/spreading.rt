@@ -12,16 +12,15 @@
 //! none. A second change of a variable falsifies `IsSpreadRun`, and the room. A new kind of gate needs its canonical pattern.
 ghost use Rattle.std.specs.Prelude.{◌≡◌, ℕ, ◌+◌, ◌<◌, ◌≤◌, Bool, true, false, not, ◌&&◌, List, [], length, MatchBool};
 ghost use Rattle.hz_core.specs.Ternary.{is_unknown};
-ghost use Rattle.hz_core.specs.Netlist.{IsCircuit, IsGateNumber, gate_at};
-ghost use Rattle.hz_core.specs.Pattern.{differs, IsCandidate};
-ghost use Rattle.hz_net.specs.Network.{network_of, bit_at};
-ghost use Rattle.hz_net.specs.Variables.{at_wires};
+ghost use Rattle.hz_core.specs.Netlist.{IsCircuit, IsGateNumber};
+ghost use Rattle.hz_core.specs.Pattern.{differs};
+ghost use Rattle.hz_net.specs.Network.{network_of};
 ghost use Rattle.hz_gmw.specs.Runs.{end_of};
 ghost use Rattle.hz_reach.specs.Order.{IsInKeyOrder};
-ghost use Rattle.hz_reach.specs.Room.{Spends, with_step_if_any, HasRoomForStep, HasRoomFor};
+ghost use Rattle.hz_reach.specs.Room.{Spends, with_step_if_any, HasRoomForStep};
 ghost use Rattle.hz_reach.specs.Given.{AreResultsOfA, IsScratchFor, IsEmptyRun};
 ghost use Rattle.hz_reach.specs.Spread.{IsSpreadRun, IsSparingRun};
-ghost use Rattle.hz_reach.specs.Turn.{changed_inputs, free_pins, earlier_pins, AreTurnWires, IsTurn, unchanged_wires};
+ghost use Rattle.hz_reach.specs.Turn.{changed_inputs, free_pins, earlier_pins, IsTurn, unchanged_wires, CanTurn, HasRoomForTurn};
 
 use crate::turn::{is_gate, take_turn};
 use crate::{Change, Scratch};
@@ -173,11 +172,9 @@ fn turn_by_rank(net: &Net, rank: &[u32], gate: u32, scratch: &mut Scratch, run: 
     requires circuit { IsCircuit net.now }
     requires rank { length rank.now ≡ length (network_of net.now) }
     requires gate { IsGateNumber net.now gate }
-    requires possible { (list : List Bool) × IsCandidate (gate_at net.now gate).kind
-        (at_wires net.now gate scratch.old.state) (earlier_pins net.now rank.now gate) (not (bit_at scratch.old.state gate)) list }
+    requires possible { CanTurn net.now gate (earlier_pins net.now rank.now gate) scratch.old.state }
     requires scratch { IsScratchFor net.now scratch.old }
-    requires room { (wires : List ℕ) → AreTurnWires net.now gate (earlier_pins net.now rank.now gate) scratch.old.state wires →
-        HasRoomFor (length wires + 1) run.old }
+    requires room { HasRoomForTurn net.now gate (earlier_pins net.now rank.now gate) false scratch.old.state run.old }
     ensures turn { IsTurn net.now gate (earlier_pins net.now rank.now gate) false
         scratch.old.state scratch.new.state run.old.steps run.new.steps }
     ensures marked { scratch.new.marked ≡ [] }

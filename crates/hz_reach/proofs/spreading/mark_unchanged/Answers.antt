@@ -1,4 +1,4 @@
-use Rattle.std.proofs.Common.{◌≡◌, ◌∙◌, ◌≤◌, ◌-◌, ◌+◌, ℕ, Bool, List, [], ◌∷◌, ◌++◌, length, cond, not, ◌&&◌, ap, sym, arith}
+use Rattle.std.proofs.Common.{◌≡◌, ◌∙◌, ◌≤◌, ◌-◌, ◌+◌, ℕ, Bool, List, length, not, ◌&&◌, ap, arith}
 use Rattle.hz_reach.proofs.Words.{Netlist, differs, is_unknown, bit_at, value_at, filtered_range}
 use Rattle.hz_reach.proofs.FilteredRangeLemmas.{filtered_range-below, filtered_range-next}
 use Rattle.hz_reach.proofs.spreading.mark_unchanged.Goals as goal

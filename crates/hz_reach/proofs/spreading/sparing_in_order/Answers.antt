@@ -1,5 +1,5 @@
 -- The first step turns the inputs; then each gate of the order has its turn; last come the wires that are left.
-use Rattle.std.proofs.Common.{◌≡◌, ◌∙◌, ◌<◌, ℕ, length, sym, ap, arith, List}
+use Rattle.std.proofs.Common.{◌≡◌, ◌∙◌, ℕ, length, sym, ap, arith, List}
 use Rattle.hz_reach.proofs.Words.{state_after, with_step_if_any, changed_inputs}
 use Rattle.hz_reach.proofs.SpreadSteps.{inputs-room, spreading-begin, spread-made}
 use Rattle.hz_reach.proofs.TurnLoop.{read, at-long, at-inside, at-next, at-possible, at-room, at-turn}
