@@ -4,8 +4,8 @@ use Rattle.std.specs.Prelude.{Contains}
 use Rattle.std.specs.List.{IsDistinct, find, list_any}
 use Rattle.std.specs.Str.{bytes_eq}
 use Rattle.std.proofs.lemmas.List.Elements.{Contains-append_cases, Contains-append_left, Contains-append_right}
-use Rattle.hz_core.specs.Least.{IsLeastOf}
-use Rattle.hz_core.proofs.LeastLemmas.{IsLeastOf-same}
+use Rattle.hz_lists.specs.Least.{IsLeastOf}
+use Rattle.hz_lists.proofs.LeastLemmas.{IsLeastOf-same}
 use Rattle.hz_line.specs.Statement.{Numbered, first_passing_line}
 use Rattle.hz_line.proofs.StatementLemmas.{Ascends}
 use Rattle.hz_netlist.specs.Names.{AreNamesOf, Names, first_undefined, is_among, names_of, on_line, seen_names}

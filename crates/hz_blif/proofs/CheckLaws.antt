@@ -2,7 +2,7 @@
 use Rattle.std.proofs.Common.{◌≡◌, ◌∙◌, sym, ap, ℕ, not, List, [], ◌∷◌, map, Option, Some, None, option_map}
 use Rattle.std.specs.Prelude.{◌&&◌}
 use Rattle.std.specs.List.{find, list_any}
-use Rattle.hz_core.specs.Least.{option_min}
+use Rattle.hz_lists.specs.Least.{option_min}
 use Rattle.hz_line.specs.LeastFault.{first_found}
 use Rattle.hz_line.specs.Statement.{first_passing_line}
 use Rattle.hz_netlist.specs.Element.{variable_total}

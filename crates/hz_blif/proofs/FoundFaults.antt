@@ -5,9 +5,9 @@ use Rattle.std.specs.List.{find, list_any}
 use Rattle.std.specs.Str.{bytes_eq}
 use Rattle.std.proofs.lemmas.Bool.Decides.{nat_tests}
 use Rattle.std.proofs.lemmas.List.{append-nil}
-use Rattle.hz_core.specs.Least.{IsLeastOf, option_min}
+use Rattle.hz_lists.specs.Least.{IsLeastOf, option_min}
 use Rattle.hz_core.specs.Limits.{most_variables, most_gate_pins}
-use Rattle.hz_core.proofs.LeastLemmas.{IsLeastOf-either, IsLeastOf-same}
+use Rattle.hz_lists.proofs.LeastLemmas.{IsLeastOf-either, IsLeastOf-same}
 use Rattle.hz_line.specs.LeastFault.{AreFound, IsAnswer, IsLeastOfNumber}
 use Rattle.hz_line.specs.Statement.{Numbered, first_passing_line}
 use Rattle.hz_line.proofs.LeastLaws.{found-least}

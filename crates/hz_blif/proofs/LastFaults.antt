@@ -7,8 +7,8 @@ use Rattle.std.specs.Str.{bytes_eq}
 use Rattle.std.proofs.lemmas.List.{append-nil, length-map}
 use Rattle.std.proofs.lemmas.List.Elements.{All-head, All-tail, Contains-append_cases, Contains-append_left, Contains-append_right}
 use Rattle.std.proofs.lemmas.List.Sums.{sum_by-append, sum_by-cons}
-use Rattle.hz_core.specs.Least.{IsLeastOf}
-use Rattle.hz_core.proofs.LeastLemmas.{IsLeastOf-same}
+use Rattle.hz_lists.specs.Least.{IsLeastOf}
+use Rattle.hz_lists.proofs.LeastLemmas.{IsLeastOf-same}
 use Rattle.hz_line.specs.LeastFault.{first_found}
 use Rattle.hz_line.specs.Statement.{Numbered, first_passing_line}
 use Rattle.hz_line.proofs.StatementLemmas.{Ascends}

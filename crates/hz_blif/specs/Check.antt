@@ -3,7 +3,7 @@ use Rattle.std.specs.Prelude.{ℕ, not, ◌&&◌, nat_lt, List, [], ◌∷◌, �
 use Rattle.std.specs.Option.{option_map}
 use Rattle.std.specs.List.{list_any}
 use Rattle.std.specs.Str.{bytes_eq}
-use Rattle.hz_core.specs.Least.{option_min}
+use Rattle.hz_lists.specs.Least.{option_min}
 use Rattle.hz_core.specs.Limits.{most_variables, most_gate_pins}
 use Rattle.hz_line.specs.Statement.{Numbered, first_passing_line}
 use Rattle.hz_netlist.specs.Element.{variable_total}

@@ -3,7 +3,7 @@ use Rattle.std.specs.Prelude.{◌≡◌, ℕ, suc, Bool, false, ◌+◌, ◌*◌
 use Rattle.std.specs.List.{All, IsDistinct, find, flat_map, list_any, sum_by}
 use Rattle.std.specs.Option.{option_or}
 use Rattle.std.specs.Str.{bytes_eq}
-use Rattle.hz_core.specs.Least.{option_min}
+use Rattle.hz_lists.specs.Least.{option_min}
 use Rattle.hz_core.specs.Limits.{most_variables}
 use Rattle.hz_line.specs.Line.{most_text_bytes}
 use Rattle.hz_line.specs.Statement.{Numbered, first_passing_line}

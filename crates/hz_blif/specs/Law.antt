@@ -1,7 +1,7 @@
 -- The law of covers: what a stable state of the circuit's network has at their outputs.
-use Rattle.std.specs.Prelude.{◌≡◌, ℕ, Bool, List, map, length, Contains}
+use Rattle.std.specs.Prelude.{◌≡◌, ℕ, Bool, List, map, Contains}
 use Rattle.hz_core.specs.Netlist.{Netlist}
-use Rattle.hz_net.specs.Network.{network_of, bit_at, IsStable}
+use Rattle.hz_net.specs.Network.{network_of, bit_at, IsStable, IsState}
 use Rattle.hz_netlist.specs.Circuit.{number_in}
 use Rattle.hz_blif.specs.Line.{lines_in}
 use Rattle.hz_blif.specs.Cover.{Cover, kept_covers}
@@ -20,5 +20,5 @@ HasCoverValue netlist state cover =
 -- in every stable state of the circuit's network, under every input, each cover that is not skipped has its cover function at its output
 abbrev pub KeepsCovers : List ℕ → Type 0
 KeepsCovers text =
-    (input state : List Bool) → length state ≡ length (network_of (blif_circuit text)) → IsStable (network_of (blif_circuit text)) input state
+    (input state : List Bool) → IsState (blif_circuit text) state → IsStable (network_of (blif_circuit text)) input state
     → (cover : Cover) → Contains (kept_covers (lines_in text)) cover → HasCoverValue (blif_circuit text) state cover

@@ -1,7 +1,7 @@
 //! The report of a script's changes from its start.
-ghost use Rattle.std.specs.Prelude.{◌≡◌, ◌<◌, ℕ, List, None, length, All, IfSome};
+ghost use Rattle.std.specs.Prelude.{◌≡◌, ◌<◌, ℕ, List, None, All, IfSome};
 ghost use Rattle.hz_core.specs.Netlist.{IsCircuit};
-ghost use Rattle.hz_net.specs.Network.{network_of};
+ghost use Rattle.hz_net.specs.Network.{IsVariable};
 ghost use Rattle.hz_net.specs.Starts.{IsStableStart};
 ghost use Rattle.hz_text.specs.ScriptText.{IsScriptFor};
 ghost use Rattle.hz_write.specs.Writer.{Writes, NoneWaits};
@@ -131,7 +131,7 @@ fn write_next<K: Sink>(
     requires cap { IsCap cap }
     requires net { sequence.old.desk.netlist ≡ plate.old.netlist }
     requires stable { sequence.old.stopped ≡ None → IsStableStart plate.old.netlist sequence.old.start }
-    requires inside { IfSome sequence.old.stopped (λ var. var < length (network_of plate.old.netlist)) }
+    requires inside { IfSome sequence.old.stopped (IsVariable plate.old.netlist) }
     ensures gave { (analysis : Analysis) × GoesOn cap change.now analysis sequence.old sequence.new
         × Writes K.output K.faults
         (analysis_text plate.old.netlist plate.old.show number change.now analysis) writer.old writer.new }

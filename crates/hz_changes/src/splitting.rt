@@ -1,9 +1,9 @@
 //! The job `split`: the first change of a script that leaves a variable unsettled, and two runs of it that end in different stable
 //! states.
-ghost use Rattle.std.specs.Prelude.{◌≡◌, ◌<◌, ℕ, [], None, true, length, map, All};
+ghost use Rattle.std.specs.Prelude.{◌≡◌, ℕ, [], None, true, map, All};
 ghost use Rattle.std.specs.List.{flat_map};
 ghost use Rattle.hz_core.specs.Netlist.{IsCircuit};
-ghost use Rattle.hz_net.specs.Network.{network_of};
+ghost use Rattle.hz_net.specs.Network.{network_of, AreByVariable, IsInput, IsVariable};
 ghost use Rattle.hz_net.specs.Starts.{IsStableStart};
 ghost use Rattle.hz_options.specs.Numbers.{IsCap};
 ghost use Rattle.hz_text.specs.RunPrinted.{run_text};
@@ -132,7 +132,7 @@ fn split_change<K: Sink>(
 ) -> Status
     requires circuit { IsCircuit net.now }
     requires start { IsStableStart net.now (map (λ row. row.start) finding.now.rows) }
-    requires input { length finding.now.input ≡ net.now.inputs }
+    requires input { IsInput net.now finding.now.input }
     requires right { (cap : ℕ) × IsRightFinding (network_of net.now) finding.now.input (map (λ row. row.start) finding.now.rows) cap (finding_of finding.now) }
     requires unsettled { is_unsettled (finding_of finding.now) ≡ true }
     ensures { Ends K.output K.faults (SplitsChange net.now number (finding_of finding.now)) out.old out.new result }
@@ -159,10 +159,10 @@ fn write_split<K: Sink>(
     out: &mut K,
 ) -> Result<(), PutFault>
     requires circuit { IsCircuit net.now }
-    requires rows { length finding.now.rows ≡ length (network_of net.now) }
-    requires input { length finding.now.input ≡ net.now.inputs }
+    requires rows { AreByVariable net.now finding.now.rows }
+    requires input { IsInput net.now finding.now.input }
     requires outcome { outcome ≡ outcome_of split.now.found }
-    requires found { All (All (All (λ var. var < length (network_of net.now)))) split.now.found }
+    requires found { All (All (All (IsVariable net.now))) split.now.found }
     requires no_step { no_step.now.steps ≡ [] }
     ensures { Wrote K.output K.faults (split_text net.now number (finding_of finding.now) split.now.found) out.old out.new result }
 {
@@ -206,7 +206,7 @@ fn outcome_word(outcome: Outcome) -> &'static [u8]
 
 // Gives the runs that were found, each with a cycle without a step.
 fn write_found<K: Sink>(writer: &mut Writer<'_, K>, net: &Net, split: &Split<'_>, no_step: &Run)
-    requires found { All (All (All (λ var. var < length (network_of net.now)))) split.now.found }
+    requires found { All (All (All (IsVariable net.now))) split.now.found }
     requires no_step { no_step.now.steps ≡ [] }
     requires none_waits { NoneWaits writer.old }
     ensures gave { Writes K.output K.faults (flat_map (run_text net.now) (map closed split.now.found)) writer.old writer.new }

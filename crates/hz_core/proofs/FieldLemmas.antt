@@ -39,7 +39,7 @@ circuit_of fields netlist same holds = subst IsCircuit same holds.circuit
 -- the fields of a new circuit
 pub HoldsCircuit-empty :
     (fields : Inside) → fields.names.items ≡ [] → fields.chains ≡ [] → fields.inputs ≡ 0 → fields.cuts.items ≡ [] → fields.gates.items ≡ [] →
-    fields.outputs.keys ≡ [] → fields.pins ≡ 0 → HoldsCircuit fields
+    fields.outputs ≡ [] → fields.pins ≡ 0 → HoldsCircuit fields
 HoldsCircuit-empty fields names chains inputs cuts gates outputs pins =
     holds_circuit fields empty_netlist
     (same_netlist (netlist_of_fields fields) empty_netlist names inputs cuts gates outputs)
@@ -53,7 +53,7 @@ pub record InputComes (old new : Inside) (name : List ℕ) : Type 0 where
   pub inputs : new.inputs ≡ old.inputs + 1
   pub cuts : new.cuts.items ≡ old.cuts.items
   pub gates : new.gates.items ≡ old.gates.items
-  pub outputs : new.outputs.keys ≡ old.outputs.keys
+  pub outputs : new.outputs ≡ old.outputs
   pub pins : new.pins ≡ old.pins
 
 -- then the circuit is the definition's
@@ -82,7 +82,7 @@ pub record CutComes (old new : Inside) (name : List ℕ) : Type 0 where
   pub inputs : new.inputs ≡ old.inputs + 1
   pub cuts : new.cuts.items ≡ old.cuts.items ++ None ∷ []
   pub gates : new.gates.items ≡ old.gates.items
-  pub outputs : new.outputs.keys ≡ old.outputs.keys
+  pub outputs : new.outputs ≡ old.outputs
   pub pins : new.pins ≡ old.pins
 
 -- then the circuit is the definition's
@@ -111,7 +111,7 @@ pub record GateComes (old new : Inside) (name : List ℕ) (kind : Kind) : Type 0
   pub inputs : new.inputs ≡ old.inputs
   pub cuts : new.cuts.items ≡ old.cuts.items
   pub gates : new.gates.items ≡ old.gates.items ++ record { kind = kind; sources = [] } ∷ []
-  pub outputs : new.outputs.keys ≡ old.outputs.keys
+  pub outputs : new.outputs ≡ old.outputs
   pub pins : new.pins ≡ old.pins
 
 -- then the circuit is the definition's
@@ -141,7 +141,7 @@ pub record PinComes (old new : Inside) (was : Gate) (node source : ℕ) : Type 0
   pub cuts : new.cuts.items ≡ old.cuts.items
   pub gates : new.gates.items ≡ set old.gates.items (node - old.inputs) (with_source was source)
   pub read : was ≡ get_or old.gates.items (node - old.inputs) was
-  pub outputs : new.outputs.keys ≡ old.outputs.keys
+  pub outputs : new.outputs ≡ old.outputs
   pub pins : new.pins ≡ old.pins + 1
 
 -- then the circuit is the definition's

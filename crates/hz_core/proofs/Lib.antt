@@ -1,5 +1,3 @@
--- The least number for which something holds: of two properties, and of two numbers that may be there
-pub mod LeastLemmas
 -- Lemmas on lists of names
 pub mod ListLemmas
 -- Lemmas on the chains of a hash table

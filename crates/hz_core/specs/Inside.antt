@@ -12,7 +12,7 @@ netlist_of_fields fields =
       inputs = fields.inputs;
       cuts = fields.cuts.items;
       gates = fields.gates.items;
-      outputs = fields.outputs.keys;
+      outputs = fields.outputs;
     }
 
 -- the fields hold a circuit, count its pins, and have its names on chains

@@ -1,7 +1,5 @@
 -- Words, with their arguments, in the order in which one needs them.
 --
--- IsLeast holds i, IsLeastOf holds found: the least number for which something holds
--- option_min one other: the lesser of two numbers that may be there
 -- tri_of bit: the ternary value 0 or 1
 -- known_bit value: the bit of a value that is not X
 -- is_unknown value: the value is X
@@ -38,7 +36,6 @@
 -- AreLinked count links: each entry of a hash table is linked to the one before it in its bucket
 -- netlist_of_fields fields, HoldsCircuit fields: the circuit that the fields of the code's Circuit stand for
 
-pub mod Least
 pub mod Limits
 pub mod Ternary
 pub mod Gate

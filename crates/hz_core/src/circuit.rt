@@ -9,7 +9,7 @@ ghost use Rattle.hz_core.specs.Limits.{most_variables};
 use crate::gate::GateEntry;
 use crate::name::{NameEntry, find_name};
 use crate::{Chains, Kind, Memory, NameHashing};
-use indexmap::IndexSet;
+use hz_lists::NumberList;
 use std::alloc::Global;
 use std::marker::Model;
 
@@ -31,7 +31,7 @@ pub struct Circuit {
     inputs: u32,
     cuts: Vec<Option<u32>>,
     gates: Vec<GateEntry>,
-    outputs: IndexSet<u32>,
+    outputs: NumberList,
     pins: u32,
 }
 
@@ -77,7 +77,7 @@ impl Circuit {
             inputs: 0,
             cuts: Vec::new(alloc),
             gates: Vec::new(alloc),
-            outputs: IndexSet::new(alloc),
+            outputs: NumberList::new(alloc),
             pins: 0,
         }
     }
@@ -169,7 +169,7 @@ impl Circuit {
         ensures ok { OnOk result (self.new ≡ with_output self.old node) }
         ensures err { OnErr result (self.new ≡ self.old) }
     {
-        let Ok(_) = self.outputs.insert(node) else {
+        let Ok(()) = self.outputs.insert(node) else {
             return Err(Memory);
         };
         Ok(())
@@ -309,18 +309,18 @@ fn every_gate_has_pins(gates: &[GateEntry]) -> bool
 }
 
 // Whether each cut has a data node that is an output.
-fn every_cut_has_output(cuts: &[Option<u32>], outputs: &IndexSet<u32>) -> bool
-    ensures { IsTrue result ↔ All (λ node. IsTrue (has_output outputs.now.keys node)) cuts.now }
+fn every_cut_has_output(cuts: &[Option<u32>], outputs: &NumberList) -> bool
+    ensures { IsTrue result ↔ All (λ node. IsTrue (has_output outputs.now node)) cuts.now }
 {
     cuts.iter().all(|node| is_output(outputs, *node))
 }
 
 // Whether there is a data node, and it is an output.
-fn is_output(outputs: &IndexSet<u32>, node: Option<u32>) -> bool
-    ensures { result ≡ has_output outputs.now.keys node }
+fn is_output(outputs: &NumberList, node: Option<u32>) -> bool
+    ensures { result ≡ has_output outputs.now node }
 {
     match node {
-        Some(node) => outputs.contains(&node),
+        Some(node) => outputs.contains(node),
         None => false,
     }
 }

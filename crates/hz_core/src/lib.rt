@@ -9,7 +9,6 @@
 //! | `name` | [`find_name`]: names that are found by their hashes |
 //! | `name_hashing` | [`NameHashing`]: how names are hashed |
 //! | `chains` | [`Chains`]: the chains of a hash table |
-//! | `least` | [`lesser`]: the lesser of two numbers that may be there |
 //! | `memory` | [`Memory`]: memory ran out |
 #![tactic(auto)]
 
@@ -17,7 +16,6 @@ mod chains;
 mod circuit;
 mod gate;
 mod kind;
-mod least;
 mod memory;
 mod name;
 mod name_hashing;
@@ -26,7 +24,6 @@ mod tri;
 pub use chains::Chains;
 pub use circuit::{Circuit, MAX_VARIABLES};
 pub use kind::{Kind, MAX_PINS};
-pub use least::lesser;
 pub use memory::Memory;
 pub use name::{MAX_NAME, Named, find_name};
 pub use name_hashing::NameHashing;

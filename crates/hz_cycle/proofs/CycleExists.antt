@@ -1,9 +1,10 @@
 -- Two passes from a turned state lead back to it, and are the cycle of the change; and the room that they take.
 use Rattle.std.proofs.Common.{◌≡◌, ℕ, zero, suc, ◌*◌, ◌≤◌, Bool, true, false, not, List, [], ◌∷◌, ◌++◌, refl, sym, ap, ◌∙◌, subst, arith, inl, inr, Contains, IsTrue, ◌+◌, length, sum_by}
-use Rattle.hz_reach.proofs.Words.{AllByRecursion, range_with_len, Tri, admits, unknown_count, Refines, length-Refines, get_or-Refines, Refines-get_or}
-use Rattle.hz_reach.proofs.Words.{Driver, External, Function, Source, driver_at, bit_at, value_at, IsUnstable, IsKnown, IsUnknown, state_after, IsRun}
-use Rattle.hz_reach.proofs.Words.{end_of, flip_count, RunRecord, states_of, length-end_of, end_of-append, IsRun-append, IsCut, cut-member, IsWired}
-use Rattle.hz_reach.proofs.Words.{changes_in, sum_by-cons, Spends, HasRoomFor}
+use Rattle.std.specs.List.{AllByRecursion}
+use Rattle.hz_reach.proofs.Words.{range_with_len, Tri, admits, unknown_count, Refines, length-Refines, get_or-Refines, Refines-get_or, Driver, External}
+use Rattle.hz_reach.proofs.Words.{Function, Source, driver_at, bit_at, value_at, IsUnstable, IsKnown, IsUnknown, state_after, IsRun, end_of, flip_count}
+use Rattle.hz_reach.proofs.Words.{RunRecord, states_of, length-end_of, end_of-append, IsRun-append, IsCut, cut-member, IsWired, changes_in, sum_by-cons}
+use Rattle.hz_reach.proofs.Words.{Spends, HasRoomFor}
 use Rattle.hz_reach.proofs.FlipCounts.{flips_per_unknown, steps_below_flips, flips_per_variable}
 use Rattle.std.proofs.Math.Bool.{not-not}
 use Rattle.hz_cycle.specs.Cycles.{IsCycleOf}
@@ -126,12 +127,12 @@ module _ {net : List Driver} {input : List Bool} {ranks : List ℕ} {b : List Tr
             };
             lasts = λ waits. elim (either-value (value_at b waits.0)) [
               | inl unknown ↦ (
-                  let other = both waits.0 (not waits.2) unknown in
-                  let holds = all-contains (λ (now : List Bool). (bit_at now waits.0 ≡ waits.2) × IsUnstable net input now waits.0) (states_of state (first ++ second)) other.0 waits.3 other.1 in
-                  not-itself waits.2 (sym other.2 ∙ holds.0)
+                  let other = both waits.0 (not waits.2.0) unknown in
+                  let holds = all-contains (λ (now : List Bool). (bit_at now waits.0 ≡ waits.2.0) × IsUnstable net input now waits.0) (states_of state (first ++ second)) other.0 waits.2.1 other.1 in
+                  not-itself waits.2.0 (sym other.2 ∙ holds.0)
                   )
               | inr known ↦ (
-                  let holds = all-contains (λ (now : List Bool). (bit_at now waits.0 ≡ waits.2) × IsUnstable net input now waits.0) (states_of state (first ++ second)) state waits.3 (contains-begin state (first ++ second)) in
+                  let holds = all-contains (λ (now : List Bool). (bit_at now waits.0 ≡ waits.2.0) × IsUnstable net input now waits.0) (states_of state (first ++ second)) state waits.2.1 (contains-begin state (first ++ second)) in
                   holds.1 (known-stable fixed state waits.0 turned.settled waits.1 known)
                   )
             ];

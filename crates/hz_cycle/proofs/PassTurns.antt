@@ -1,19 +1,19 @@
 -- The turns of a pass: what holds after so many variables of the order, that each turn has room and keeps it, and that there is
 -- a pass wherever one may begin.
 use Rattle.std.proofs.Common.{◌≡◌, ◌≢◌, ℕ, ◌+◌, ◌-◌, ◌<◌, ◌≤◌, Bool, true, false, not, List, [], ◌∷◌, length, get_or, refl, sym, ap, ◌∙◌, subst, arith, inl, inr, append-nil, IsTrue, sum_by}
-use Rattle.hz_core.specs.Netlist.{IsGateAmong}
 use Rattle.hz_reach.proofs.Words.{range_with_len, cases_lt, both_ways, and_parts, and_from, length-map, sum_by-le-sum_by, Tri, Kind, is_unknown, takes}
 use Rattle.hz_reach.proofs.Words.{gate_value, Netlist, IsCircuit, IsGateNumber, gate_at, IsCandidate, IsPattern, length-Refines, Driver, External, Function}
 use Rattle.hz_reach.proofs.Words.{Source, network_of, driver_at, bit_at, value_at, first_wire, at_wires, IsUnknown, driver_at-gate, length-part}
 use Rattle.hz_reach.proofs.Words.{wired-network_of, state_after, RunRecord, key_at, IsInKeyOrder, with_step_if_any, Spends, HasRoomFor, ScratchState}
-use Rattle.hz_reach.proofs.Words.{changes_in, is_gate_in, changed_wires, turn_end, turn_steps}
+use Rattle.hz_reach.proofs.Words.{changes_in, is_gate_in, changed_wires, turn_end, turn_steps, listed-at}
+use Rattle.hz_core.specs.Netlist.{IsGateAmong}
 use Rattle.hz_core.proofs.CircuitLemmas.{takes-from_bounds}
 use Rattle.hz_reach.proofs.FanOut.{marks-with-fan_out}
 use Rattle.hz_reach.proofs.FlipCounts.{flips_are_changes}
 use Rattle.hz_reach.proofs.GateTurn.{IsFunction, gate-number, pin-inside, unknown-is, is-unknown}
 use Rattle.hz_reach.proofs.Order.{had_before, also, IsNext, all-had, after-turns, order-found}
 use Rattle.hz_reach.proofs.TurnLoop.{AreTurnsThatKeep, IsAtPlace, at-begin}
-use Rattle.hz_reach.proofs.ListPlaces.{key-inside, listed-at}
+use Rattle.hz_reach.proofs.ListPlaces.{key-inside}
 use Rattle.hz_reach.proofs.Room.{flips-after, room-left, spends-none}
 use Rattle.hz_cycle.specs.Pass.{IsFixed, AreFixedAndRanked, MayBegin, AreEnough, HasRoom, IsPass, IsPassMade}
 use Rattle.hz_cycle.specs.Turns.{has_turn_in, unsettled_pins}

@@ -2,7 +2,7 @@
 ghost use Rattle.std.specs.Prelude.{◌≡◌, ℕ, ◌+◌, ◌<◌, ◌≤◌, Bool, true, ◌&&◌, List, [], length, map, not, IsTrue};
 ghost use Rattle.hz_core.specs.Ternary.{is_unknown};
 ghost use Rattle.hz_core.specs.Netlist.{IsCircuit, IsGateNumber};
-ghost use Rattle.hz_net.specs.Network.{network_of};
+ghost use Rattle.hz_net.specs.Network.{network_of, IsState, IsVariable};
 ghost use Rattle.hz_reach.specs.Order.{IsInKeyOrder};
 ghost use Rattle.hz_reach.specs.Room.{Spends};
 ghost use Rattle.hz_reach.specs.Given.{IsScratchFor};
@@ -41,8 +41,8 @@ pub(crate) fn make_pass(net: &Net, rank: &[u32], b: &[Tri], scratch: &mut Scratc
 
 // Whether a variable is an unsettled gate.
 fn has_turn(net: &Net, b: &[Tri], var: u32) -> bool
-    requires b { length b.now ≡ length (network_of net.now) }
-    requires var { var < length (network_of net.now) }
+    requires b { IsState net.now b.now }
+    requires var { IsVariable net.now var }
     ensures turn { result ≡ has_turn_in (network_of net.now) b.now var }
     ensures gate { IsTrue result → IsGateNumber net.now var }
 {
@@ -62,7 +62,7 @@ fn is_unsettled(value: Tri) -> bool
 // A gate's turn, in which its unsettled pins are free. The wires of its fan-out go along.
 fn turn_unsettled(net: &Net, b: &[Tri], gate: u32, scratch: &mut Scratch, run: &mut Run)
     requires circuit { IsCircuit net.now }
-    requires b { length b.now ≡ length (network_of net.now) }
+    requires b { IsState net.now b.now }
     requires gate { IsGateNumber net.now gate }
     requires possible { CanTurn net.now gate (unsettled_pins net.now b.now gate) scratch.old.state }
     requires scratch { IsScratchFor net.now scratch.old }

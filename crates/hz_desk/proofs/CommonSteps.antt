@@ -6,7 +6,8 @@ use Rattle.std.proofs.lemmas.List.{drop_all, take-append-drop, take-append-le}
 use Rattle.std.proofs.lemmas.Slice.{between_from_start}
 use Rattle.hz_core.specs.Netlist.{Netlist}
 use Rattle.hz_net.specs.Network.{Driver}
-use Rattle.hz_gmw.specs.Runs.{is_listed, bits_after_from, state_after, end_of, IsStep, IsRun}
+use Rattle.hz_lists.specs.Listed.{is_listed}
+use Rattle.hz_gmw.specs.Runs.{bits_after_from, state_after, end_of, IsStep, IsRun}
 use Rattle.hz_gmw.specs.Cycles.{states_of}
 use Rattle.hz_gmw.specs.Follower.{FollowerOf, follower_at}
 use Rattle.hz_gmw.proofs.Paths.{end_of-append, IsRun-front, IsRun-rest}

@@ -1,13 +1,12 @@
 -- A follower goes along a run and counts its race states.
-use Rattle.std.proofs.Common.{◌≡◌, ◌∙◌, refl, sym, ap, subst, ℕ, suc, ◌+◌, ◌-◌, ◌<◌, ◌≤◌, Bool, true, false, List, [], ◌∷◌, length, take, drop, get_or, All, IsTrue, cond, arith}
+use Rattle.std.proofs.Common.{◌≡◌, ◌∙◌, sym, ap, subst, ℕ, suc, ◌+◌, ◌-◌, ◌<◌, ◌≤◌, Bool, true, false, List, [], ◌∷◌, length, take, drop, get_or, All, cond, arith}
 use Rattle.std.proofs.Math.Seq.{drop-cons}
 use Rattle.std.specs.List.{slice_range}
 use Rattle.std.proofs.lemmas.List.Sums.{sum_by-cons}
-use Rattle.std.proofs.lemmas.List.Elements.{All-nil, All-cons}
 use Rattle.hz_net.specs.Network.{Driver}
-use Rattle.hz_gmw.specs.Runs.{is_listed, state_after, end_of, IsStep, IsRun}
+use Rattle.hz_gmw.specs.Runs.{state_after, end_of, IsStep, IsRun}
 use Rattle.hz_gmw.specs.Cycles.{states_of}
-use Rattle.hz_gmw.proofs.LeastLemmas.{listed-head, listed-tail}
+use Rattle.hz_lists.proofs.ListedLemmas.{All-each}
 use Rattle.hz_desk.specs.Races.{is_race, race_count, states_before}
 use Rattle.hz_desk.specs.RunProgress.{IsAlong}
 
@@ -45,12 +44,8 @@ pub along-step : (net : List Driver) (input start : List Bool) (steps rest after
 along-step net input start steps rest after races state flips at along = (subst (IsRun net input state) at along.run).0
 
 -- a step names variables
-listed-all : (P : ℕ → Type 0) (list : List ℕ) → ((i : ℕ) → IsTrue (is_listed list i) → P i) → All P list
-listed-all P [] each = All-nil P
-listed-all P (x ∷ list) each = All-cons P x list (each x (listed-head x x list refl)) (listed-all P list (λ i there. each i (listed-tail i x list there)))
-
 pub step-inside : (net : List Driver) (input state : List Bool) (flips : List ℕ) → IsStep net input state flips → All (λ (var : ℕ). var < length net) flips
-step-inside net input state flips step = listed-all (λ (var : ℕ). var < length net) flips step.inside
+step-inside net input state flips step = All-each (λ (var : ℕ). var < length net) flips step.inside
 
 -- after it
 pub along-more : (net : List Driver) (input start : List Bool) (steps rest after : List (List ℕ)) (races more : ℕ) (state next : List Bool) (flips : List ℕ) → rest ≡ flips ∷ after → more ≡ race_bit net input state → next ≡ state_after flips state → IsAlong net input start steps rest races state → IsAlong net input start steps after (races + more) next

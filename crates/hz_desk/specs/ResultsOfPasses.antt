@@ -2,15 +2,15 @@
 use Rattle.std.specs.Prelude.{◌≡◌, ℕ, ◌+◌, ◌≤◌, Bool, List, length}
 use Rattle.hz_core.specs.declared.tri.Tri.{Tri}
 use Rattle.hz_core.specs.Netlist.{Netlist}
-use Rattle.hz_net.specs.Network.{network_of}
+use Rattle.hz_net.specs.Network.{network_of, IsState, AreByVariable}
 use Rattle.hz_net.specs.Passes.{algorithm_a, algorithm_b, AreRounds, AreRanks, AreSettlingRounds}
 use Rattle.hz_desk.specs.declared.passes.Passes.{Passes}
 
 -- there is a place for each variable
 pub record HavePassRoom (netlist : Netlist) (passes : Passes) : Type 0 where
-  pub ranks : length passes.ranks.items ≡ length (network_of netlist)
-  pub when : length passes.when.items ≡ length (network_of netlist)
-  pub work : length passes.work.items ≡ length (network_of netlist)
+  pub ranks : AreByVariable netlist passes.ranks.items
+  pub when : AreByVariable netlist passes.when.items
+  pub work : IsState netlist passes.work.items
   pub front : passes.front ≡ length (network_of netlist)
 
 -- The results of Algorithms A and B from a start, with their rounds, the ranks and the settling rounds.

@@ -1,6 +1,6 @@
 //! The desk: all the room that the analysis of a change takes, made once.
-ghost use Rattle.std.specs.Prelude.{◌≡◌, ◌≤◌, length, IfOk};
-ghost use Rattle.hz_net.specs.Network.{network_of};
+ghost use Rattle.std.specs.Prelude.{◌≡◌, ◌≤◌, IfOk};
+ghost use Rattle.hz_net.specs.Network.{network_of, AreByVariable, IsInput};
 ghost use Rattle.hz_net.specs.Starts.{IsStableStart};
 ghost use Rattle.hz_free.specs.FreePart.{IsFreePart};
 ghost use Rattle.hz_desk.specs.Finding.{finding_of};
@@ -66,7 +66,7 @@ impl<'n> Desk<'n> {
     /// counted up to the cap. It takes no memory and cannot fail, and the desk stays one for its network.
     pub fn change<'d>(&'d mut self, start: &[bool], input: &[bool], cap: u64) -> &'d Finding
         requires start { IsStableStart self.old.netlist start.now }
-        requires input { length input.now ≡ self.old.netlist.inputs }
+        requires input { IsInput self.old.netlist input.now }
         requires cap_low { 1 ≤ cap }
         requires cap_high { cap ≤ greatest_cap }
         ensures right { IsRightFinding (network_of self.old.netlist) input.now start.now cap (finding_of result.now) }
@@ -80,7 +80,7 @@ impl<'n> Desk<'n> {
     /// The finding of the last change. Before the first change it says nothing.
     pub fn finding(&self) -> &Finding
         ensures same { finding_of result.now ≡ self.now.finding }
-        ensures rows { length result.now.rows ≡ length (network_of self.now.netlist) }
+        ensures rows { AreByVariable self.now.netlist result.now.rows }
     {
         &self.room.finding
     }

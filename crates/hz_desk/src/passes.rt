@@ -1,12 +1,12 @@
 //! Both passes, and what they leave for the runs.
 ghost use Rattle.std.specs.Prelude.{◌≡◌, ◌<◌, length, IfOk};
-ghost use Rattle.hz_net.specs.Network.{network_of};
+ghost use Rattle.hz_net.specs.Network.{network_of, IsState, AreByVariable, IsInput};
 ghost use Rattle.hz_net.specs.Starts.{IsStableStart};
 ghost use Rattle.hz_desk.specs.ResultsOfPasses.{ArePassResults, HavePassRoom};
 
 use hz_core::{Memory, Tri};
+use hz_lists::Steps;
 use hz_net::Net;
-use hz_outside::Steps;
 use hz_pass::{Front, settle, spread_stable};
 use std::alloc::Global;
 use std::marker::Brand;
@@ -53,10 +53,10 @@ impl Passes {
         b: &mut [Tri],
     ) -> Rounds
         requires start { IsStableStart net.now start.now }
-        requires input { length input.now ≡ net.now.inputs }
+        requires input { IsInput net.now input.now }
         requires room { HavePassRoom net.now self.old }
-        requires a { length a.old ≡ length (network_of net.now) }
-        requires b { length b.old ≡ length (network_of net.now) }
+        requires a { IsState net.now a.old }
+        requires b { IsState net.now b.old }
         ensures passed { ArePassResults net.now input.now start.now a.new self.new.ranks.items b.new self.new.when.items result.a result.b }
         ensures room { HavePassRoom net.now self.new }
     {
@@ -89,12 +89,12 @@ fn make_both<L: Ledger>(
     ledger: Blank,
 ) -> Rounds
     requires start { IsStableStart net.now start.now }
-    requires input { length input.now ≡ net.now.inputs }
-    requires a { length a.old ≡ length (network_of net.now) }
-    requires ranks { length ranks.old ≡ length (network_of net.now) }
-    requires b { length b.old ≡ length (network_of net.now) }
-    requires when { length when.old ≡ length (network_of net.now) }
-    requires work { length work.old ≡ length (network_of net.now) }
+    requires input { IsInput net.now input.now }
+    requires a { IsState net.now a.old }
+    requires ranks { AreByVariable net.now ranks.old }
+    requires b { IsState net.now b.old }
+    requires when { AreByVariable net.now when.old }
+    requires work { IsState net.now work.old }
     requires front { front.old ≡ length (network_of net.now) }
     requires name { ledger.name ≡ L.name }
     requires parts { ledger.parts ≡ L.parts }

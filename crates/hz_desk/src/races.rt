@@ -1,7 +1,7 @@
 //! Race states, counted while a follower goes along the runs.
 ghost use Rattle.std.specs.Prelude.{◌≡◌, ◌≤◌, ◌+◌, length, drop, if◌then◌else◌};
 ghost use Rattle.std.specs.List.{slice_range};
-ghost use Rattle.hz_net.specs.Network.{network_of};
+ghost use Rattle.hz_net.specs.Network.{network_of, IsState, IsInput};
 ghost use Rattle.hz_gmw.specs.Runs.{IsRun, end_of};
 ghost use Rattle.hz_gmw.specs.Cycles.{states_of};
 ghost use Rattle.hz_desk.specs.Races.{is_race, race_count, states_before, cycle_states};
@@ -29,8 +29,8 @@ pub(crate) fn count_races(
     cycle: &Run,
     common: usize,
 ) -> Races
-    requires input { length input.now ≡ follower.old.circuit.inputs }
-    requires start { length start.now ≡ length (network_of follower.old.circuit) }
+    requires input { IsInput follower.old.circuit input.now }
+    requires start { IsState follower.old.circuit start.now }
     requires spread { IsShortRun (network_of follower.old.circuit) input.now start.now spread.now.steps }
     requires settle { IsShortRun (network_of follower.old.circuit) input.now start.now settle.now.steps }
     requires cycle { IsShortRun (network_of follower.old.circuit) input.now (end_of start.now settle.now.steps) cycle.now.steps }

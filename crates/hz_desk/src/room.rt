@@ -1,6 +1,6 @@
 //! The room that an analysis takes, and the analysis in it.
-ghost use Rattle.std.specs.Prelude.{◌≡◌, ◌≤◌, length, IfOk};
-ghost use Rattle.hz_net.specs.Network.{network_of};
+ghost use Rattle.std.specs.Prelude.{◌≤◌, IfOk};
+ghost use Rattle.hz_net.specs.Network.{network_of, AreByVariable, IsInput};
 ghost use Rattle.hz_net.specs.Starts.{IsStableStart};
 ghost use Rattle.hz_desk.specs.Finding.{finding_of, values_a, values_b};
 ghost use Rattle.hz_desk.specs.RightFinding.{IsRightFinding};
@@ -55,7 +55,7 @@ impl<'n> Room<'n> {
     pub(crate) fn analyse(&mut self, net: &Net, start: &[bool], input: &[bool], cap: u64)
         requires room { IsRoomFor net.now self.old }
         requires start { IsStableStart net.now start.now }
-        requires input { length input.now ≡ net.now.inputs }
+        requires input { IsInput net.now input.now }
         requires cap_low { 1 ≤ cap }
         requires cap_high { cap ≤ greatest_cap }
         ensures right { IsRightFinding (network_of net.now) input.now start.now cap (finding_of self.new.finding) }
@@ -114,11 +114,11 @@ fn fill_rows(
 ) -> Rounds
     requires free { IsFreePart net.now free.now }
     requires start { IsStableStart net.now start.now }
-    requires input { length input.now ≡ net.now.inputs }
+    requires input { IsInput net.now input.now }
     requires cap_low { 1 ≤ cap }
     requires cap_high { cap ≤ greatest_cap }
     requires passes { HavePassRoom net.now passes.old }
-    requires rows { length rows.old ≡ length (network_of net.now) }
+    requires rows { AreByVariable net.now rows.old }
     ensures passed { ArePassResults net.now input.now start.now (values_a rows.new) passes.new.ranks.items (values_b rows.new) passes.new.when.items result.a result.b }
     ensures passes { HavePassRoom net.now passes.new }
     ensures rows { AreRowsOfChange (network_of net.now) input.now start.now cap rows.new }

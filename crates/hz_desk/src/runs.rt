@@ -1,6 +1,6 @@
 //! The three runs of a change.
 ghost use Rattle.std.specs.Prelude.{◌≡◌, ◌*◌, [], length};
-ghost use Rattle.hz_net.specs.Network.{network_of};
+ghost use Rattle.hz_net.specs.Network.{network_of, IsInput};
 ghost use Rattle.hz_net.specs.Starts.{IsStableStart};
 ghost use Rattle.hz_gmw.specs.Runs.{end_of};
 ghost use Rattle.hz_reach.specs.Given.{AreResultsOfA, IsScratchFor};
@@ -34,7 +34,7 @@ pub(crate) fn make_runs(
     cycle: &mut Run,
 ) -> usize
     requires start { IsStableStart net.now start.now }
-    requires input { length input.now ≡ net.now.inputs }
+    requires input { IsInput net.now input.now }
     requires passed { HasPassResults net.now input.now start.now (values_a rows.now) (values_b rows.now) passes.now }
     requires scratch { IsScratchFor net.now scratch.old }
     requires spread { HasRunRoom (length (network_of net.now)) spread.old }

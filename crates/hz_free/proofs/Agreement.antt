@@ -14,7 +14,7 @@ use Rattle.hz_net.specs.Reads.{Reads}
 use Rattle.hz_net.proofs.Wired.{wired-network_of}
 use Rattle.hz_net.proofs.Excitations.{at-excitations}
 use Rattle.hz_net.proofs.Sequences.{length-algorithm_b}
-use Rattle.hz_net.proofs.PartLemmas.{length-part, at-part}
+use Rattle.hz_lists.proofs.PartLemmas.{length-part, at-part}
 use Rattle.hz_word.specs.Word.{last_letter}
 use Rattle.hz_free.specs.Chains.{IsFeedbackFree}
 use Rattle.hz_free.specs.VariableWords.{IsDrivenWord, input_word, AreVariableWords}

@@ -6,8 +6,8 @@ use Rattle.std.proofs.Math.Seq.{take-suc}
 use Rattle.hz_core.specs.Netlist.{Netlist}
 use Rattle.hz_net.specs.Network.{Driver, External, Function, Source, network_of, driver_at, bit_at}
 use Rattle.hz_net.specs.Reads.{Reads}
-use Rattle.hz_net.proofs.PartLemmas.{same-parts}
-use Rattle.hz_gmw.specs.Runs.{is_listed, IsRepeatFree}
+use Rattle.hz_lists.proofs.PartLemmas.{same-parts}
+use Rattle.hz_lists.specs.Listed.{is_listed, IsRepeatFree}
 use Rattle.hz_word.specs.declared.word.Word.{Word}
 use Rattle.hz_word.specs.Word.{IsWord}
 use Rattle.hz_word.specs.Walk.{IsWordOf}
@@ -16,8 +16,8 @@ use Rattle.hz_free.specs.Chains.{IsFeedbackFree}
 use Rattle.hz_free.specs.FreePart.{FreePart, IsFreePart, AreMarks}
 use Rattle.hz_free.specs.VariableWords.{IsDrivenWord, AreCappedWords}
 use Rattle.hz_free.specs.CappedWords.{AreWordsSoFar, IsReady}
-use Rattle.hz_free.proofs.Lists.{listed-cases, listed-left, listed-one, unlisted-before}
-use Rattle.hz_free.proofs.Kahn.{listed-push-same, listed-push-other, at-listed}
+use Rattle.hz_lists.proofs.ListedLemmas.{listed-cases, listed-left, listed-one, unlisted-before, pushed-last, listed-at}
+use Rattle.hz_free.proofs.Kahn.{listed-push-other}
 
 -- the word of a variable depends on the words of those that it reads
 same-driven : (input start : List Bool) (words words' : List (List Bool)) (i : ℕ) (driver : Driver) (word : List Bool) → length words ≡ length words' → ((j : ℕ) → Reads driver j → get_or words j [] ≡ get_or words' j []) → IsDrivenWord input start words i driver word → IsDrivenWord input start words' i driver word
@@ -66,7 +66,7 @@ module _ (netlist : Netlist) (input start : List Bool) (cap : ℕ) (part : FreeP
     }
 
     pub var-below : get_or part.order place 0 < length (network_of netlist)
-    var-below = is.inside (get_or part.order place 0) (at-listed part.order place few)
+    var-below = is.inside (get_or part.order place 0) (listed-at part.order place few)
 
     unplaced : is_listed (take place part.order) (get_or part.order place 0) ≡ false
     unplaced = unlisted-before part.order place is.once few
@@ -122,7 +122,7 @@ module _ (netlist : Netlist) (input start : List Bool) (cap : ℕ) (part : FreeP
               let out' : is_listed (take place part.order ++ get_or part.order place 0 ∷ []) i ≡ false = subst (λ (list : List ℕ). is_listed list i ≡ false) (take-suc part.order place 0 few) out in
               elim (cases_eq i (get_or part.order place 0)) [
                 | inl e ↦ absurd (both_ways (is_listed (take place part.order ++ get_or part.order place 0 ∷ []) i) out'
-                    (subst (λ (m : ℕ). is_listed (take place part.order ++ get_or part.order place 0 ∷ []) m ≡ true) (sym e) (listed-push-same (take place part.order) (get_or part.order place 0))))
+                    (subst (λ (m : ℕ). is_listed (take place part.order ++ get_or part.order place 0 ∷ []) m ≡ true) (sym e) (pushed-last (take place part.order) (get_or part.order place 0))))
                 | inr ne ↦ rw get_or-set_other (are.others i (sym (listed-push-other (take place part.order) (get_or part.order place 0) i ne) ∙ out'))
               ]
 

@@ -1,14 +1,12 @@
 -- Chains of readers: what reads only feedback-free variables is feedback-free, what reads one that is not is not, and what holds
 -- of a feedback-free variable if it holds of those that it reads.
 use Rattle.std.proofs.Common.{◌≡◌, ℕ, zero, suc, ◌<◌, ◌≤◌, true, false, List, [], ◌∷◌, ◌++◌, length, refl, sym, ap, ◌∙◌, subst, arith, inl, inr, eqb}
-use Rattle.std.proofs.lemmas.Bool.{cases_Bool, or_cases, both_ways, eqb-true}
+use Rattle.std.proofs.lemmas.Bool.{cases_Bool, or_cases, both_ways, eqb-true, cases_lt}
 use Rattle.hz_net.specs.Network.{Driver, External, Function, Source, driver_at}
 use Rattle.hz_net.specs.Reads.{Reads, IsWireInto, IsWired}
-use Rattle.hz_gmw.specs.Runs.{is_listed}
+use Rattle.hz_lists.specs.Listed.{is_listed}
 use Rattle.hz_free.specs.Chains.{IsChain, IsFeedbackFree}
-use Rattle.hz_free.proofs.Lists.{is_repeat_free-bound}
-use Rattle.hz_free.proofs.Kahn.{listed-push-same}
-use Rattle.std.proofs.lemmas.Bool.{cases_lt}
+use Rattle.hz_lists.proofs.ListedLemmas.{is_repeat_free-bound, pushed-last}
 use Rattle.std.proofs.lemmas.List.{get_or_past}
 
 -- a chain may go on from a variable on it to what that reads
@@ -36,7 +34,7 @@ free-from_reads net i reads_free (j ∷ rest) chain =
       | inl there ↦
           let on = chain-on net j rest i j chain.1 there chain.0 in
           let repeats = free (on.0 ++ j ∷ []) on.1 in
-          absurd (both_ways (is_listed (on.0 ++ j ∷ []) j) repeats.0 (listed-push-same on.0 j))
+          absurd (both_ways (is_listed (on.0 ++ j ∷ []) j) repeats.0 (pushed-last on.0 j))
     ]
 
 -- what a feedback-free variable reads

@@ -18,7 +18,7 @@ use Rattle.hz_net.specs.Reads.{Reads}
 use Rattle.hz_net.proofs.Wired.{wired-network_of}
 use Rattle.hz_net.proofs.Excitations.{length-excitations, at-excitations, at-join_each}
 use Rattle.hz_net.proofs.Sequences.{length-algorithm_a, start-refines, closed-result}
-use Rattle.hz_net.proofs.PartLemmas.{length-part, at-part}
+use Rattle.hz_lists.proofs.PartLemmas.{length-part, at-part}
 use Rattle.hz_word.specs.Word.{IsWord, AreWords, first_letter, change_count}
 use Rattle.hz_word.specs.Walk.{current_letters, after_move, IsWalk, change_between, walk_changes, IsWordOf}
 use Rattle.hz_word.proofs.Longest.{takes-HasPins, part-IsWordOf}

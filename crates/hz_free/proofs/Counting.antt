@@ -8,10 +8,10 @@ use Rattle.hz_net.specs.Reads.{readers_by, readers_of}
 use Rattle.hz_net.specs.declared.variable.VarKind.{VarKind}
 use Rattle.hz_net.specs.declared.variable.VarKind.TheVariants.{Input, Gate as GateVariable, Wire as WireVariable}
 use Rattle.std.specs.Prelude.{slice_get}
-use Rattle.hz_gmw.specs.Runs.{is_listed}
+use Rattle.hz_lists.specs.Listed.{is_listed}
 use Rattle.hz_free.specs.Order.{occurrences, unplaced_count, IsOrdering, AreReads, AreFirst, ReducesReader}
-use Rattle.hz_free.proofs.Lists.{listed-cases, listed-one, is_repeat_free-push}
-use Rattle.hz_free.proofs.Kahn.{eqb-other, occurrences-same, occurrences-other, listed-push-same, listed-push-other, unplaced-none, at-listed, begin-telling, unread-reader, told-waits, told-placed}
+use Rattle.hz_lists.proofs.ListedLemmas.{listed-cases, listed-one, is_repeat_free-push, pushed-last, listed-at}
+use Rattle.hz_free.proofs.Kahn.{eqb-other, occurrences-same, occurrences-other, listed-push-other, unplaced-none, begin-telling, unread-reader, told-waits, told-placed}
 
 -- no variable is twice among the readers of a variable
 readers_from-above : (i first node : ℕ) (wires : List Wire) → i < first → occurrences i (readers_from first wires node) ≡ 0
@@ -113,7 +113,7 @@ module _ (readers : ℕ → List ℕ) (variables : ℕ) (unread : List ℕ) wher
       record {
         listed = λ i few.
             elim (cases_eq i below) [
-              | inl e ↦ rw e (listed-push-same order below ∙ sym (eq-eqb (get_or unread below 0) 0 none))
+              | inl e ↦ rw e (pushed-last order below ∙ sym (eq-eqb (get_or unread below 0) 0 none))
               | inr ne ↦ listed-push-other order below i ne ∙ are.listed i (omega arith)
             ];
         inside = λ i there.
@@ -149,7 +149,7 @@ module _ (readers : ℕ → List ℕ) (variables : ℕ) (unread : List ℕ) wher
     once = first.once;
     inside = first.inside;
     after = λ at j few few_j read.
-        let there = at-listed order at few in
+        let there = listed-at order at few in
         let inside = first.inside (get_or order at 0) there in
         let none = eqb-true (get_or unread (get_or order at 0) 0) 0 (sym (first.listed (get_or order at 0) inside) ∙ there) in
         let counted = are.counted (get_or order at 0) inside in
@@ -169,7 +169,7 @@ module _ (readers : ℕ → List ℕ) (variables place : ℕ) (unread order : Li
   var-at = sym (at ∙ at-default order place var within)
 
   pub var-inside : var < variables
-  var-inside = is.inside var (subst (λ (i : ℕ). is_listed order i ≡ true) var-at (at-listed order place within))
+  var-inside = is.inside var (subst (λ (i : ℕ). is_listed order i ≡ true) var-at (listed-at order place within))
 
   pub readers-begin : (items : List ℕ) → items ≡ readers var → IsOrdering readers variables (place + 1) items unread order
   readers-begin items same =

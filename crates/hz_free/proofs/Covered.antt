@@ -11,7 +11,7 @@ use Rattle.hz_core.proofs.CircuitLemmas.{takes-at_gate}
 use Rattle.hz_net.specs.Network.{Driver, External, Function, Source, network_of, driver_at, driver_value, bit_at, excitation, IsStable}
 use Rattle.hz_net.specs.Reads.{Reads, IsWired}
 use Rattle.hz_net.proofs.Wired.{wired-network_of, is_gate_of}
-use Rattle.hz_net.proofs.PartLemmas.{length-part, at-part}
+use Rattle.hz_lists.proofs.PartLemmas.{length-part, at-part}
 use Rattle.hz_gmw.specs.Runs.{IsRun}
 use Rattle.hz_word.specs.Word.{IsWord, AreWords, first_letter, change_count}
 use Rattle.hz_word.specs.Walk.{current_letters, IsWordOf, change_between}

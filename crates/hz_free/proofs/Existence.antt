@@ -3,15 +3,15 @@ use Rattle.std.proofs.Common.{◌≡◌, ℕ, zero, suc, ◌+◌, ◌<◌, ◌�
 use Rattle.std.specs.Prelude.{Contains}
 use Rattle.std.proofs.lemmas.Bool.{cases_Bool, cases_eq, cases_lt, or_cases, both_ways, eqb-true}
 use Rattle.std.proofs.lemmas.List.Elements.{All-cons, All-nil}
-use Rattle.hz_core.specs.Least.{IsLeast}
+use Rattle.hz_lists.specs.Least.{IsLeast}
 use Rattle.hz_net.specs.Network.{Driver, External, Function, Source, driver_at}
 use Rattle.hz_net.specs.Reads.{Reads, IsWired}
-use Rattle.hz_gmw.specs.Runs.{is_listed, IsRepeatFree}
+use Rattle.hz_lists.specs.Listed.{is_listed, IsRepeatFree}
 use Rattle.hz_free.specs.Chains.{IsChain, IsFeedbackFree}
 use Rattle.hz_free.specs.Feedback.{IsChoice, ComesAround, IsFeedbackCycle, AreFeedbackCycles}
-use Rattle.hz_free.proofs.Lists.{is_repeat_free-bound, listed-head, listed-left}
+use Rattle.hz_lists.proofs.ListedLemmas.{is_repeat_free-bound, listed-head, listed-left, All-each}
 use Rattle.hz_free.proofs.Chains.{free-from_reads, reads-free, reads-inside}
-use Rattle.hz_free.proofs.FeedbackCycles.{all-listed, cycle-closed, cycle-least, chosen-in, all-around, same-cycle}
+use Rattle.hz_free.proofs.FeedbackCycles.{cycle-closed, cycle-least, chosen-in, all-around, same-cycle}
 use Rattle.hz_free.proofs.FoundCycles.{first-chooses, reader-inside}
 use Rattle.hz_free.proofs.OneList.{Rises, HasAll}
 
@@ -238,7 +238,7 @@ module _ (net : List Driver) (wired : IsWired net) where
               | inl there ↦ let less = greater first there in absurd (omega arith)
               | inr outside ↦ outside
             ] in
-            inl (rest, (subst (λ (m : ℕ). ComesAround net first m rest) same around, (out, once), all-listed (λ later. first < later) rest greater))
+            inl (rest, (subst (λ (m : ℕ). ComesAround net first m rest) same around, (out, once), All-each (λ later. first < later) rest greater))
         | inr ne ↦
             elim (cases_lt last first) [
               | inl less ↦

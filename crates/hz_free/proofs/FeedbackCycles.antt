@@ -1,25 +1,11 @@
 -- Feedback cycles by their definition: a variable has one choice, cycles are closed under choice, and two that share a variable
 -- are the same.
-use Rattle.std.proofs.Common.{◌≡◌, ℕ, ◌<◌, ◌≤◌, true, false, List, [], ◌∷◌, ◌++◌, All, refl, sym, ap, ◌∙◌, subst, arith, inl, inr, eqb}
+use Rattle.std.proofs.Common.{◌≡◌, ℕ, ◌<◌, ◌≤◌, true, false, List, [], ◌∷◌, ◌++◌, refl, sym, ap, ◌∙◌, subst, arith, inl, inr, eqb}
 use Rattle.std.proofs.lemmas.Bool.{cases_eq, cases_lt, or_cases, or_parts, or_right, both_ways, eqb-true}
-use Rattle.std.proofs.lemmas.List.Elements.{All-head, All-tail, All-cons, All-nil}
 use Rattle.hz_net.specs.Network.{Driver}
-use Rattle.hz_gmw.specs.Runs.{is_listed, IsRepeatFree}
+use Rattle.hz_lists.specs.Listed.{is_listed, IsRepeatFree}
 use Rattle.hz_free.specs.Feedback.{IsChoice, ComesAround, IsFeedbackCycle}
-use Rattle.hz_free.proofs.Lists.{listed-head, listed-one, listed-append, listed-left}
-
--- what holds of all that is listed
-pub all-listed : (P : ℕ → Type 0) (xs : List ℕ) → ((x : ℕ) → is_listed xs x ≡ true → P x) → All P xs
-all-listed P [] each = All-nil P
-all-listed P (x ∷ xs) each = All-cons P x xs (each x (listed-head x xs)) (all-listed P xs (λ y there. each y (or_right _ _ there)))
-
-pub listed-all : (P : ℕ → Type 0) (xs : List ℕ) (x : ℕ) → All P xs → is_listed xs x ≡ true → P x
-listed-all P [] x all there = absurd (both_ways false refl there)
-listed-all P (y ∷ xs) x all there =
-    elim (or_cases (eqb x y) (is_listed xs x) there) [
-      | inl same ↦ subst P (sym (eqb-true x y same)) (All-head P y xs all)
-      | inr later ↦ listed-all P xs x (All-tail P y xs all) later
-    ]
+use Rattle.hz_lists.proofs.ListedLemmas.{listed-head, listed-one, listed-append, listed-left, All-listed}
 
 -- a variable chooses one variable
 pub choice-one : (net : List Driver) (i j k : ℕ) → IsChoice net i j → IsChoice net i k → j ≡ k
@@ -119,7 +105,7 @@ pub cycle-least : (net : List Driver) (first : ℕ) (rest : List ℕ) (i : ℕ) 
 cycle-least net first rest i is there =
     elim (or_cases (eqb i first) (is_listed rest i) there) [
       | inl here ↦ let same = eqb-true i first here in omega arith
-      | inr later ↦ let less = listed-all (λ x. first < x) rest i is.2 later in omega arith
+      | inr later ↦ let less = All-listed (λ x. first < x) rest i is.2 later in omega arith
     ]
 
 same-rest : (net : List Driver) (first last : ℕ) (left right : List ℕ) (In : ℕ → Type 0) → ((i j k : ℕ) → In i → In j → IsChoice net i k → IsChoice net j k → i ≡ j) → In first → ((i : ℕ) → is_listed left i ≡ true → In i) → ((i : ℕ) → is_listed right i ≡ true → In i) → is_listed left first ≡ false → is_listed right first ≡ false → ComesAround net first last left → ComesAround net first last right → left ≡ right

@@ -2,10 +2,10 @@
 use Rattle.std.proofs.Common.{◌≡◌, ℕ, suc, ◌-◌, ◌<◌, ◌≤◌, ◌≢◌, true, false, Option, Some, None, List, [], ◌∷◌, ◌++◌, length, get_or, set, refl, sym, ap, ◌∙◌, subst, arith, inl, inr, get_or-set_same, get_or-set_other}
 use Rattle.std.proofs.lemmas.Bool.{cases_Bool, cases_eq, both_ways}
 use Rattle.std.specs.Option.{is_some}
-use Rattle.hz_gmw.specs.Runs.{is_listed}
+use Rattle.hz_lists.specs.Listed.{is_listed}
 use Rattle.hz_free.specs.Paths.{LeadsTo, IsLink, IsPathSoFar}
-use Rattle.hz_free.proofs.Lists.{listed-cases, listed-left, listed-one, is_repeat_free-push, is_repeat_free-bound}
-use Rattle.hz_free.proofs.Kahn.{listed-push-same, length-push}
+use Rattle.hz_lists.proofs.ListedLemmas.{listed-cases, listed-left, listed-one, is_repeat_free-push, is_repeat_free-bound, pushed-last}
+use Rattle.hz_free.proofs.Kahn.{length-push}
 use Rattle.hz_free.proofs.PathLemmas.{not-linked, path-push, link-inside}
 
 pub following-begin : (links : List (Option ℕ)) (start mark : ℕ) (marks : List (Option ℕ)) → IsPathSoFar links start mark [] start marks marks
@@ -49,7 +49,7 @@ following-more links start mark path var next marks marks' is long none leads =
             | inl here ↦
                 absurd (
                 both_ways (is_listed (path ++ var ∷ []) i) not_there
-                (subst (λ (m : ℕ). is_listed (path ++ var ∷ []) m ≡ true) (sym here) (listed-push-same path var))
+                (subst (λ (m : ℕ). is_listed (path ++ var ∷ []) m ≡ true) (sym here) (pushed-last path var))
                 )
             | inr ne ↦ get_or-set_other marks' var i (Some mark) None ne ∙ is.others i (out-earlier i not_there)
           ];

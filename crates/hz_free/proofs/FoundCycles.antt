@@ -6,13 +6,13 @@ use Rattle.std.proofs.lemmas.List.{get_or-map, get_or_past}
 use Rattle.std.proofs.lemmas.List.Elements.{All-cons, All-nil}
 use Rattle.hz_net.specs.Network.{Driver, External, driver_at}
 use Rattle.hz_net.specs.Reads.{Reads, IsWired}
-use Rattle.hz_gmw.specs.Runs.{is_listed}
+use Rattle.hz_lists.specs.Listed.{is_listed}
 use Rattle.hz_core.proofs.ListLemmas.{get_or-default}
 use Rattle.hz_free.specs.Chains.{IsFeedbackFree}
 use Rattle.hz_free.specs.Feedback.{IsChoice, ComesAround, IsFeedbackCycle}
 use Rattle.hz_free.specs.FreePart.{AreFeedback, IsCoreNumber}
 use Rattle.hz_free.specs.Paths.{LeadsTo, IsLink, IsPath, AreChoices, AreRooted, AreChoosers, AreNumbered, core_by}
-use Rattle.hz_free.proofs.Lists.{listed-head}
+use Rattle.hz_lists.proofs.ListedLemmas.{listed-head}
 use Rattle.hz_free.proofs.Chains.{reads-free}
 use Rattle.hz_free.proofs.FeedbackCycles.{cycle-closed, same-cycle}
 use Rattle.hz_free.proofs.PathLemmas.{link-inside, path-way}

@@ -1,11 +1,11 @@
 -- Kahn's order: telling a reader keeps what is known of the order.
 use Rattle.std.proofs.Common.{◌≡◌, ℕ, zero, suc, ◌+◌, ◌-◌, ◌<◌, ◌≤◌, ◌≢◌, Bool, true, false, ◌||◌, cond, List, [], ◌∷◌, ◌++◌, length, take, get_or, set, refl, sym, ap, ◌∙◌, subst, arith, inl, inr, eqb, add-one, get_or-set_same, get_or-set_other, length-set}
-use Rattle.std.proofs.lemmas.Bool.{cases_Bool, cases_lt, cases_eq, or_cases, or_left, or_right, both_ways, eqb-true, eq-eqb}
+use Rattle.std.proofs.lemmas.Bool.{cases_Bool, cases_lt, cases_eq, eqb-true, eq-eqb}
 use Rattle.std.proofs.Math.Seq.{take-suc, get_or-append_seam, take-append_seam}
 use Rattle.std.proofs.lemmas.List.{take-append-le, get_or_append_left}
-use Rattle.hz_gmw.specs.Runs.{is_listed}
+use Rattle.hz_lists.specs.Listed.{is_listed}
 use Rattle.hz_free.specs.Order.{occurrences, unplaced_count, IsOrdering}
-use Rattle.hz_free.proofs.Lists.{listed-append, listed-cases, listed-head, listed-one, is_repeat_free-push, unlisted-before}
+use Rattle.hz_lists.proofs.ListedLemmas.{listed-append, listed-cases, listed-one, is_repeat_free-push, unlisted-before, listed-at, listed-from_take, pushed-last}
 
 -- tests of equality
 pub eqb-self : (a : ℕ) → eqb a a ≡ true
@@ -31,9 +31,6 @@ or-false-right false = refl
 pub listed-push-other : (placed : List ℕ) (var n : ℕ) → n ≢ var → is_listed (placed ++ var ∷ []) n ≡ is_listed placed n
 listed-push-other placed var n ne = listed-append placed (var ∷ []) n ∙ (rw (eqb-other n var ne) (or-false-right (is_listed placed n)))
 
-pub listed-push-same : (placed : List ℕ) (var : ℕ) → is_listed (placed ++ var ∷ []) var ≡ true
-listed-push-same placed var = listed-append placed (var ∷ []) var ∙ or_right _ _ (listed-head var [])
-
 -- a number that is placed counts no more
 unplaced-same : (readers : ℕ → List ℕ) (placed : List ℕ) (var n i : ℕ) → n ≤ var → unplaced_count readers placed n i ≡ unplaced_count readers (placed ++ var ∷ []) n i
 unplaced-same readers placed var zero i beyond = refl
@@ -49,7 +46,7 @@ unplaced-more readers placed var (suc n) i out few =
       | inl e ↦
           let earlier = unplaced-same readers placed var n i (omega arith) in
           let here : is_listed placed n ≡ false = rw e out in
-          let there : is_listed (placed ++ var ∷ []) n ≡ true = rw e (listed-push-same placed var) in
+          let there : is_listed (placed ++ var ∷ []) n ≡ true = rw e (pushed-last placed var) in
           rw (here, there) (rw (← e) (rw e (rw (← e) (omega arith))))
       | inr ne ↦
           let earlier = unplaced-more readers placed var n i out (omega arith) in
@@ -97,20 +94,6 @@ pub length-push : (xs : List ℕ) (x : ℕ) → length (xs ++ x ∷ []) ≡ suc 
 length-push [] x = refl
 length-push (y ∷ xs) x = ap suc (length-push xs x)
 
-pub listed-from_take : (n : ℕ) (xs : List ℕ) (i : ℕ) → is_listed (take n xs) i ≡ true → is_listed xs i ≡ true
-listed-from_take zero xs i there = absurd (both_ways false refl there)
-listed-from_take (suc n) [] i there = absurd (both_ways false refl there)
-listed-from_take (suc n) (x ∷ xs) i there =
-    elim (or_cases (eqb i x) (is_listed (take n xs) i) there) [
-      | inl here ↦ or_left (eqb i x) (is_listed xs i) here
-      | inr later ↦ or_right (eqb i x) (is_listed xs i) (listed-from_take n xs i later)
-    ]
-
-pub at-listed : (xs : List ℕ) (at : ℕ) → at < length xs → is_listed xs (get_or xs at 0) ≡ true
-at-listed [] at within = absurd (omega arith)
-at-listed (x ∷ xs) zero within = listed-head x xs
-at-listed (x ∷ xs) (suc at) within = or_right (eqb (get_or xs at 0) x) (is_listed xs (get_or xs at 0)) (at-listed xs at (omega arith))
-
 zero-test : (n : ℕ) → (eqb n 0 ≡ true) → n ≡ 0
 zero-test n e = eqb-true n 0 e
 
@@ -119,7 +102,7 @@ module _ (readers : ℕ → List ℕ) (variables place : ℕ) (unread order : Li
   pub begin-telling : IsOrdering readers variables place [] unread order → place < length order → IsOrdering readers variables (place + 1) (readers (get_or order place 0)) unread order
   begin-telling is few =
       let out = unlisted-before order place is.once few in
-      let inside = is.inside (get_or order place 0) (at-listed order place few) in
+      let inside = is.inside (get_or order place 0) (listed-at order place few) in
       record {
         long = is.long;
         counted = λ i within.
@@ -193,7 +176,7 @@ module _ (readers : ℕ → List ℕ) (variables place reader : ℕ) (left unrea
             elim (cases_eq i reader) [
               | inl e ↦
                   let inside : reader < length unread = inside_unread in
-                  rw e (rw get_or-set_same (listed-push-same order reader ∙ sym (eq-eqb (get_or unread reader 0 - 1) 0 none)))
+                  rw e (rw get_or-set_same (pushed-last order reader ∙ sym (eq-eqb (get_or unread reader 0 - 1) 0 none)))
               | inr ne ↦ rw get_or-set_other (listed-push-other order reader i ne ∙ is.listed i few)
             ];
         once = is_repeat_free-push order reader is.once before;

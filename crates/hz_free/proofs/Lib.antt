@@ -1,5 +1,3 @@
--- Lists of variables: what is listed in two lists together, and lists that name none twice
-pub mod Lists
 -- Lists of words as they are kept, and the words that are in them
 pub mod KeptWords
 -- Kahn's order: telling a reader keeps what is known of the order

@@ -1,17 +1,16 @@
 -- Notes on variables, one after the other: a value that they have, and which variable chose another one.
-use Rattle.std.proofs.Common.{◌≡◌, ℕ, zero, suc, ◌+◌, ◌-◌, ◌<◌, ◌⊎◌, true, false, Option, Some, None, List, [], ◌∷◌, ◌++◌, length, take, drop, get_or, set, IsTrue, refl, sym, ap, ◌∙◌, subst, arith, inl, inr, eqb, add-one, get_or-set_same, get_or-set_other}
+use Rattle.std.proofs.Common.{◌≡◌, ℕ, suc, ◌+◌, ◌-◌, ◌<◌, ◌⊎◌, true, false, Option, Some, None, List, [], ◌∷◌, ◌++◌, length, take, drop, get_or, set, IsTrue, refl, sym, ap, ◌∙◌, subst, arith, inl, inr, eqb, add-one, get_or-set_same, get_or-set_other}
 use Rattle.std.proofs.lemmas.Bool.{cases_eq, or_right, both_ways, eqb-true}
-use Rattle.std.proofs.Math.Seq.{take-suc}
-use Rattle.std.proofs.Math.Seq.{drop-cons}
+use Rattle.std.proofs.Math.Seq.{take-suc, drop-cons}
 use Rattle.std.proofs.lemmas.List.{take-append-drop, take_all, length-drop}
 use Rattle.std.proofs.lemmas.List.Quantifiers.{position-Some}
 use Rattle.std.specs.Prelude.{position}
 use Rattle.hz_core.proofs.ListLemmas.{list_any-from_position_none}
 use Rattle.std.specs.Option.{IsSome, is_some}
-use Rattle.hz_gmw.specs.Runs.{is_listed}
+use Rattle.hz_lists.specs.Listed.{is_listed}
 use Rattle.hz_free.specs.Paths.{LeadsTo, IsLink, HaveValue, HaveChoosers, HasRoot}
-use Rattle.hz_free.proofs.Lists.{listed-cases, listed-left, listed-one, listed-append, listed-head}
-use Rattle.hz_free.proofs.Kahn.{listed-push-same, listed-push-other}
+use Rattle.hz_lists.proofs.ListedLemmas.{listed-cases, listed-left, listed-one, listed-append, pushed-last}
+use Rattle.hz_free.proofs.Kahn.{listed-push-other}
 use Rattle.hz_free.proofs.PathLemmas.{link-one}
 
 take-more : (xs : List ℕ) (k : ℕ) → k < length xs → take (k + 1) xs ≡ take k xs ++ get_or xs k 0 ∷ []
@@ -32,7 +31,7 @@ value-push done var value list list' few have =
       others =
           λ i out.
           elim (cases_eq i var) [
-            | inl here ↦ absurd (both_ways (is_listed (done ++ var ∷ []) i) out (subst (λ (m : ℕ). is_listed (done ++ var ∷ []) m ≡ true) (sym here) (listed-push-same done var)))
+            | inl here ↦ absurd (both_ways (is_listed (done ++ var ∷ []) i) out (subst (λ (m : ℕ). is_listed (done ++ var ∷ []) m ≡ true) (sym here) (pushed-last done var)))
             | inr ne ↦ get_or-set_other list' var i value None ne ∙ have.others i (sym (listed-push-other done var i ne) ∙ out)
           ];
     }
@@ -79,7 +78,7 @@ choosers-push choices done var choice choosers choosers' chooses few have =
               let noted : LeadsTo (set choosers' choice (Some var)) j var = subst (λ (m : ℕ). LeadsTo (set choosers' choice (Some var)) m var) (sym here) (get_or-set_same choosers' choice (Some var) None few) in
               let same : var ≡ i = link-one (set choosers' choice (Some var)) j var i noted leads in
               inr (
-                subst (λ (m : ℕ). is_listed (done ++ var ∷ []) m ≡ true) same (listed-push-same done var),
+                subst (λ (m : ℕ). is_listed (done ++ var ∷ []) m ≡ true) same (pushed-last done var),
                 subst (λ (m : ℕ). LeadsTo choices m j) same (subst (λ (m : ℕ). LeadsTo choices var m) (sym here) chooses),
               )
           | inr ne ↦
@@ -93,12 +92,6 @@ pub choosers-more : (choices : List (Option ℕ)) (cycle : List ℕ) (k choice :
 choosers-more choices cycle k choice choosers choosers' inside chooses few have =
     subst (λ (done : List ℕ). HaveChoosers choices done choosers (set choosers' choice (Some (get_or cycle k 0)))) (sym (take-more cycle k inside))
     (choosers-push choices (take k cycle) (get_or cycle k 0) choice choosers choosers' chooses few have)
-
--- the element at a place is listed
-pub listed-at : (xs : List ℕ) (k : ℕ) → k < length xs → is_listed xs (get_or xs k 0) ≡ true
-listed-at [] k few = absurd (omega arith)
-listed-at (x ∷ xs) zero few = listed-head x xs
-listed-at (x ∷ xs) (suc k) few = or_right (eqb (get_or xs k 0) x) (is_listed xs (get_or xs k 0)) (listed-at xs k (omega arith))
 
 pub some-link : (links : List (Option ℕ)) (i : ℕ) → IsLink links i → IsSome (get_or links i None)
 some-link links i link = ap is_some link.1

@@ -3,11 +3,11 @@ use Rattle.std.proofs.Common.{◌≡◌, ℕ, suc, ◌+◌, ◌<◌, ◌≤◌, 
 use Rattle.std.proofs.lemmas.Bool.{cases_Bool, cases_eq, cases_lt, or_right, both_ways}
 use Rattle.std.proofs.lemmas.List.{get_or_push, get_or_append_left}
 use Rattle.hz_net.specs.Network.{Driver}
-use Rattle.hz_gmw.specs.Runs.{is_listed}
+use Rattle.hz_lists.specs.Listed.{is_listed}
 use Rattle.hz_free.specs.Feedback.{ComesAround, IsFeedbackCycle}
 use Rattle.hz_free.specs.Paths.{LeadsTo, IsLink, IsPathToMark, AreChoosers, AreNumbered, HasNoLinks, AddsCycle}
-use Rattle.hz_free.proofs.Lists.{listed-head}
-use Rattle.hz_free.proofs.FeedbackCycles.{all-listed, choice-one}
+use Rattle.hz_lists.proofs.ListedLemmas.{listed-head, All-each}
+use Rattle.hz_free.proofs.FeedbackCycles.{choice-one}
 use Rattle.hz_free.proofs.PathLemmas.{link-one, not-linked, path-before, path-last, path-closes, path-around, IsLedTo}
 use Rattle.hz_free.proofs.Roots.{path-links}
 
@@ -85,7 +85,7 @@ module _ (net : List Driver) (choosers numbers numbers' : List (Option ℕ)) (be
   is-cycle =
       let around : ComesAround net end below rest = path-around net choosers (λ i j leads. are_choosers.chosen i j leads) end below v rest followed.following.is_path in
       let at_first : ComesAround net v below rest = subst (λ (m : ℕ). ComesAround net m below rest) (closes ∙ first-is) around in
-      (subst (λ (m : ℕ). ComesAround net v m rest) first-is at_first, followed.following.once, all-listed (λ x. v < x) rest later)
+      (subst (λ (m : ℕ). ComesAround net v m rest) first-is at_first, followed.following.once, All-each (λ x. v < x) rest later)
 
   keeps : (i : ℕ) → IsLink numbers i → IsLink numbers' i
   keeps i link =

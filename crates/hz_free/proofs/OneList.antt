@@ -3,7 +3,7 @@ use Rattle.std.proofs.Common.{◌≡◌, ℕ, zero, suc, ◌<◌, ◌≤◌, ◌
 use Rattle.std.specs.Prelude.{Contains}
 use Rattle.std.proofs.lemmas.List.Elements.{All-head, All-tail}
 use Rattle.hz_net.specs.Network.{Driver}
-use Rattle.hz_gmw.specs.Runs.{is_listed}
+use Rattle.hz_lists.specs.Listed.{is_listed}
 use Rattle.hz_free.specs.Feedback.{IsFeedbackCycle, AreFeedbackCycles, IsWayBack, IsCore}
 use Rattle.hz_free.proofs.FeedbackCycles.{choice-one, cycle-closed, same-cycle}
 

@@ -8,13 +8,13 @@ use Rattle.hz_net.specs.Network.{Driver, network_of, driver_at}
 use Rattle.hz_net.specs.Reads.{Reads, readers_of, IsWired}
 use Rattle.hz_net.proofs.Readers.{AreReaders-readers_of}
 use Rattle.hz_net.proofs.Wired.{wired-network_of}
-use Rattle.hz_gmw.specs.Runs.{is_listed}
+use Rattle.hz_lists.specs.Listed.{is_listed}
 use Rattle.hz_free.specs.Chains.{IsFeedbackFree}
 use Rattle.hz_core.proofs.ListLemmas.{get_or-default}
 use Rattle.hz_free.specs.Feedback.{IsCore}
 use Rattle.hz_free.specs.Order.{occurrences, IsOrdering}
 use Rattle.hz_free.specs.FreePart.{FreePart, IsFreePart, AreMarks, AreFeedback, HaveCores, IsCoreNumber, IsCycleNumber}
-use Rattle.hz_free.proofs.Lists.{listed-cases, listed-one}
+use Rattle.hz_lists.proofs.ListedLemmas.{listed-cases, listed-one}
 use Rattle.hz_free.proofs.Kahn.{occurrences-same, occurrences-other, unplaced-some}
 use Rattle.hz_free.proofs.Chains.{free-from_reads, reads-inside, not-free}
 use Rattle.std.proofs.Math.Seq.{take-suc, take-length}

@@ -4,9 +4,9 @@ use Rattle.std.proofs.lemmas.Bool.{cases_Bool, cases_eq, or_cases, both_ways, eq
 use Rattle.std.proofs.lemmas.List.Elements.{All-cons, All-nil}
 use Rattle.hz_net.specs.Network.{Driver}
 use Rattle.hz_net.specs.Reads.{IsWired}
-use Rattle.hz_gmw.specs.Runs.{is_listed}
+use Rattle.hz_lists.specs.Listed.{is_listed}
 use Rattle.hz_free.specs.Paths.{LeadsTo, IsLink, AreLinks, IsPath, IsPathToMark, AreChoices, AreRooted, HasNoLinks, HasRoot, HaveChoosers, IsInside}
-use Rattle.hz_free.proofs.Lists.{listed-head}
+use Rattle.hz_lists.proofs.ListedLemmas.{listed-head}
 use Rattle.hz_free.proofs.Chains.{reads-inside}
 use Rattle.hz_free.proofs.PathLemmas.{link-one, not-linked, link-inside, path-from, path-append, path-before, path-last}
 

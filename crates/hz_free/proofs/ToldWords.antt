@@ -21,7 +21,7 @@ use Rattle.hz_free.specs.Chains.{IsFeedbackFree}
 use Rattle.hz_free.specs.FreePart.{FreePart}
 use Rattle.hz_free.specs.VariableWords.{IsDrivenWord, AreVariableWords}
 use Rattle.hz_free.specs.CappedWords.{AreWordsSoFar, IsNextWord}
-use Rattle.hz_free.proofs.Kahn.{at-listed}
+use Rattle.hz_lists.proofs.ListedLemmas.{listed-at}
 use Rattle.hz_free.proofs.AllWords.{IsOrdered, none-told, var-below, ready-words, one-more}
 use Rattle.hz_free.proofs.Covered.{free-followed}
 use Rattle.hz_free.proofs.Laws.{changing}
@@ -80,7 +80,7 @@ module _ (netlist : Netlist) (circuit : IsCircuit netlist) (netlist_whole : IsWh
     below = var-below netlist input start cap part is place few told are.words are.so_far
 
     free : IsFeedbackFree (network_of netlist) (get_or part.order place 0)
-    free = (is.marks.exact (get_or part.order place 0) below).0 (sym (is.listed (get_or part.order place 0) below) ∙ at-listed part.order place few)
+    free = (is.marks.exact (get_or part.order place 0) below).0 (sym (is.listed (get_or part.order place 0) below) ∙ listed-at part.order place few)
 
     -- one more, told as it is in the list of all
     next-told : (outcome : Word) → capped_word cap (get_or are.words (get_or part.order place 0) []) ≡ outcome → AreTold netlist input start cap (take (place + 1) part.order) (set told (get_or part.order place 0) (Some outcome))

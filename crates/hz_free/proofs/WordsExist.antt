@@ -15,7 +15,7 @@ use Rattle.hz_net.specs.Network.{Driver, External, Function, Source, network_of,
 use Rattle.hz_net.specs.Reads.{Reads, readers_of}
 use Rattle.hz_net.proofs.Wired.{wired-network_of, is_gate_of}
 use Rattle.hz_net.proofs.Readers.{readers-inside}
-use Rattle.hz_net.proofs.PartLemmas.{length-part, at-part}
+use Rattle.hz_lists.proofs.PartLemmas.{length-part, at-part}
 use Rattle.hz_word.specs.declared.word.Word.{Word}
 use Rattle.hz_word.specs.Word.{IsWord, AreWords}
 use Rattle.hz_word.specs.Capped.{capped_word}
@@ -23,10 +23,9 @@ use Rattle.hz_word.proofs.Folds.{IsFold-kind_word}
 use Rattle.hz_free.specs.FreePart.{FreePart, MarksExist}
 use Rattle.hz_free.specs.Order.{unplaced_count, IsOrdering, AreReads, AreFirst}
 use Rattle.hz_free.specs.CappedWords.{AreWordsSoFar}
-use Rattle.hz_free.specs.VariableWords.{IsDrivenWord, input_word, AreCappedWords}
-use Rattle.hz_free.specs.VariableWords.{WordsExist}
-use Rattle.hz_free.proofs.Lists.{is_repeat_free-bound}
-use Rattle.hz_free.proofs.Kahn.{at-listed, begin-telling, unread-reader, told-waits, told-placed}
+use Rattle.hz_free.specs.VariableWords.{IsDrivenWord, input_word, AreCappedWords, WordsExist}
+use Rattle.hz_lists.proofs.ListedLemmas.{is_repeat_free-bound, listed-at}
+use Rattle.hz_free.proofs.Kahn.{begin-telling, unread-reader, told-waits, told-placed}
 use Rattle.hz_free.proofs.Counting.{first-more, first-same, first-ordering}
 use Rattle.hz_free.proofs.Chains.{reads-inside}
 use Rattle.hz_free.proofs.Parts.{free-AreMarks, marks-listed, after-reads}
@@ -102,7 +101,7 @@ module _ (readers : ℕ → List ℕ) (variables : ℕ) (inside : (i : ℕ) → 
             record { unread = unread; order = order; is_ordering = subst (λ (n : ℕ). IsOrdering readers variables n [] unread order) ends is }
         | inl more ↦
             let var = get_or order place 0 in
-            let few = is.inside var (at-listed order place more) in
+            let few = is.inside var (listed-at order place more) in
             let next = tell-all (place + 1) (readers var) unread order (inside var few) (begin-telling readers variables place unread order is more) in
             finish fuel (place + 1) next.unread next.order (omega arith) next.is_ordering
       ]

@@ -3,12 +3,12 @@ use Rattle.std.specs.Prelude.{◌≡◌, ℕ, ◌+◌, ◌<◌, ◌≤◌, Bool,
 use Rattle.hz_core.specs.declared.kind.Kind.{Kind}
 use Rattle.hz_core.specs.Gate.{takes}
 use Rattle.hz_core.specs.Netlist.{Netlist, IsGateNumber, gate_at}
-use Rattle.hz_net.specs.Network.{Driver, External, Function, Source, network_of, driver_at}
+use Rattle.hz_net.specs.Network.{Driver, External, Function, Source, network_of, driver_at, IsVariable}
 use Rattle.hz_net.specs.Reads.{Reads}
 use Rattle.hz_net.specs.Variables.{first_wire}
 use Rattle.hz_net.specs.declared.variable.VarKind.{VarKind}
 use Rattle.hz_net.specs.declared.variable.VarKind.TheVariants.{Input, Gate as GateVariable, Wire as WireVariable}
-use Rattle.hz_gmw.specs.Runs.{is_listed}
+use Rattle.hz_lists.specs.Listed.{is_listed}
 use Rattle.hz_word.specs.declared.word.Word.{Word}
 use Rattle.hz_word.specs.Word.{IsWord, AreWords}
 use Rattle.hz_word.specs.Walk.{IsWordOf}
@@ -24,7 +24,7 @@ IsDrivenAs netlist var (GateVariable kind) =
     × (first_wire netlist var + length (gate_at netlist var).sources ≤ length (network_of netlist))
     × IsTrue (takes kind (length (gate_at netlist var).sources))
 IsDrivenAs netlist var (WireVariable gate pin source) =
-    (driver_at (network_of netlist) var ≡ Source source) × (source < length (network_of netlist))
+    (driver_at (network_of netlist) var ≡ Source source) × (IsVariable netlist source)
 
 -- Each placed variable has a word, made of those that it reads, and its capped form is told; the others are told nothing.
 pub record AreWordsSoFar (net : List Driver) (input start : List Bool) (cap : ℕ) (placed : List ℕ) (told : List (Option Word)) (words : List (List Bool)) : Type 0 where

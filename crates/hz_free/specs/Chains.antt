@@ -2,7 +2,7 @@
 use Rattle.std.specs.Prelude.{ℕ, List, [], ◌∷◌}
 use Rattle.hz_net.specs.Network.{Driver, driver_at}
 use Rattle.hz_net.specs.Reads.{Reads}
-use Rattle.hz_gmw.specs.Runs.{IsRepeatFree}
+use Rattle.hz_lists.specs.Listed.{IsRepeatFree}
 
 -- a chain backwards from a variable, from a reader to what it reads
 abbrev pub IsChain : List Driver → ℕ → List ℕ → Type 0

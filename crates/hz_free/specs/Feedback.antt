@@ -3,7 +3,7 @@
 use Rattle.std.specs.Prelude.{◌≡◌, ℕ, suc, ◌<◌, List, [], ◌∷◌, length, All, Contains, IsTrue, slice_index, slice_index_or}
 use Rattle.hz_net.specs.Network.{Driver, driver_at}
 use Rattle.hz_net.specs.Reads.{Reads}
-use Rattle.hz_gmw.specs.Runs.{is_listed, IsRepeatFree}
+use Rattle.hz_lists.specs.Listed.{is_listed, IsRepeatFree}
 use Rattle.hz_free.specs.Chains.{IsFeedbackFree}
 
 -- A variable chooses the first variable that it reads and that is not feedback-free: a wire its source, a gate the first of its

@@ -1,9 +1,9 @@
 -- The feedback-free part of a network: which variables are feedback-free, an order of them, and the feedback cycles of the others.
 use Rattle.std.specs.Prelude.{◌≡◌, ◌↔◌, ℕ, ◌<◌, Bool, false, Option, Some, None, List, [], length, take, slice_index, slice_index_or, IsTrue}
 use Rattle.hz_core.specs.Netlist.{Netlist, IsCircuit}
-use Rattle.hz_net.specs.Network.{Driver, network_of, driver_at, bit_at}
+use Rattle.hz_net.specs.Network.{Driver, network_of, driver_at, bit_at, IsVariable}
 use Rattle.hz_net.specs.Reads.{Reads}
-use Rattle.hz_gmw.specs.Runs.{is_listed, IsRepeatFree}
+use Rattle.hz_lists.specs.Listed.{is_listed, IsRepeatFree}
 use Rattle.hz_free.specs.Chains.{IsFeedbackFree}
 use Rattle.hz_free.specs.Feedback.{AreFeedbackCycles, IsCore}
 
@@ -43,9 +43,9 @@ HaveCores free cycles cores = (i : ℕ) → i < length free → bit_at free i �
 -- that it reads; the cycles and the cores are those of the network.
 pub record IsFreePart (netlist : Netlist) (part : FreePart) : Type 0 where
   pub marks : AreMarks (network_of netlist) part.free
-  pub listed : (i : ℕ) → i < length (network_of netlist) → is_listed part.order i ≡ bit_at part.free i
+  pub listed : (i : ℕ) → IsVariable netlist i → is_listed part.order i ≡ bit_at part.free i
   pub once : IsRepeatFree part.order
-  pub inside : (i : ℕ) → IsTrue (is_listed part.order i) → i < length (network_of netlist)
+  pub inside : (i : ℕ) → IsTrue (is_listed part.order i) → IsVariable netlist i
   pub after : (at j : ℕ) → at < length part.order → Reads (driver_at (network_of netlist) (slice_index part.order at)) j → IsTrue (is_listed (take at part.order) j)
   pub feedback : AreFeedback (network_of netlist) part.cycles part.cores
 

@@ -1,6 +1,6 @@
 -- A topological order in the making: which variables are placed, and how many of those that a variable reads are not.
 use Rattle.std.specs.Prelude.{◌≡◌, ℕ, zero, suc, ◌+◌, ◌-◌, ◌<◌, ◌≤◌, List, [], ◌∷◌, ◌++◌, length, take, slice_index, slice_set, IsTrue, if◌then◌else◌, nat_eq, ◌==◌}
-use Rattle.hz_gmw.specs.Runs.{is_listed, IsRepeatFree}
+use Rattle.hz_lists.specs.Listed.{is_listed, IsRepeatFree}
 
 -- how often a list has a number
 abbrev pub occurrences : ℕ → List ℕ → ℕ

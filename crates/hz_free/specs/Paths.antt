@@ -1,7 +1,7 @@
 -- Links from a variable to another one, and paths along them: what a search for feedback cycles finds of each variable.
 use Rattle.std.specs.Prelude.{◌≡◌, ℕ, suc, Bool, false, true, ◌<◌, ◌≤◌, ◌⊎◌, Option, Some, None, List, [], ◌∷◌, ◌++◌, length, MatchOption, IsTrue, slice_index, slice_index_or}
 use Rattle.hz_net.specs.Network.{Driver, bit_at}
-use Rattle.hz_gmw.specs.Runs.{is_listed, IsRepeatFree}
+use Rattle.hz_lists.specs.Listed.{is_listed, IsRepeatFree}
 use Rattle.hz_free.specs.Chains.{IsFeedbackFree}
 use Rattle.hz_free.specs.Feedback.{IsChoice, IsFeedbackCycle}
 

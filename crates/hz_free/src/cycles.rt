@@ -2,7 +2,7 @@
 ghost use Rattle.std.specs.Prelude.{◌≡◌, ◌<◌, [], ◌∷◌, ◌++◌, length, slice_index_or, OnOk, OnErr};
 
 use hz_core::Memory;
-use hz_net::part_at;
+use hz_lists::part_at;
 use std::alloc::Global;
 use std::marker::Model;
 
@@ -16,7 +16,7 @@ pub(crate) struct Cycles {
 
 impl Model for Cycles {
     ghost use Rattle.std.specs.Prelude.{ℕ, List, length};
-    ghost use Rattle.hz_net.specs.Parts.{parts_from, EndsAt};
+    ghost use Rattle.hz_lists.specs.Parts.{parts_from, EndsAt};
 
     ghost Value = { List (List ℕ) };
 

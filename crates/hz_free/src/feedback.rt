@@ -1,9 +1,9 @@
 //! The feedback cycles. Each variable that is not feedback-free chooses one of the variables that it reads; the way back from
 //! choice to choice comes around in a cycle, which is the core of the variable.
 ghost use Rattle.std.specs.Prelude.{◌≡◌, ◌↔◌, ℕ, ◌+◌, ◌^◌, ◌<◌, ◌≤◌, true, List, [], None, length, map, IfOk, OnOk, MatchOption, IsTrue, All, nat_eq, position};
-ghost use Rattle.hz_net.specs.Network.{Driver, network_of, bit_at};
+ghost use Rattle.hz_net.specs.Network.{Driver, network_of, bit_at, IsVariable};
 ghost use Rattle.hz_net.specs.Reads.{IsWired};
-ghost use Rattle.hz_gmw.specs.Runs.{is_listed};
+ghost use Rattle.hz_lists.specs.Listed.{is_listed};
 ghost use Rattle.hz_free.specs.Chains.{IsFeedbackFree};
 ghost use Rattle.hz_free.specs.Feedback.{IsChoice};
 ghost use Rattle.hz_free.specs.FreePart.{AreMarks, AreFeedback};
@@ -101,7 +101,7 @@ fn choose_all(alloc: Global, net: &Net, free: &[bool]) -> Result<Vec<Option<u32>
 
 // What a variable chooses: the first variable that it reads and that is not feedback-free.
 fn choose(net: &Net, free: &[bool], var: u32) -> Option<u32>
-    requires var { var < length (network_of net.now) }
+    requires var { IsVariable net.now var }
     requires marks { AreMarks (network_of net.now) free.now }
     ensures { MatchOption result (IsFeedbackFree (network_of net.now) var) (IsChoice (network_of net.now) var) }
 {

@@ -1,7 +1,7 @@
 ghost use Rattle.std.specs.Prelude.{◌≡◌, ◌==◌, ◌<◌, ◌≤◌, ◌↔◌, ℕ, Bool, true, false, Option, List, [], length, map, Contains, IfOk, IfSome, IsTrue, MatchOption, Some, None, slice_index_or, slice_set};
 ghost use Rattle.hz_core.specs.Netlist.{Netlist};
 ghost use Rattle.hz_core.specs.Ternary.{is_unknown};
-ghost use Rattle.hz_net.specs.Network.{network_of, bit_at, value_at};
+ghost use Rattle.hz_net.specs.Network.{network_of, bit_at, value_at, IsState, AreByVariable, IsInput, IsVariable};
 ghost use Rattle.hz_net.specs.Passes.{algorithm_a, IsResult};
 ghost use Rattle.hz_net.specs.Starts.{IsStableStart};
 ghost use Rattle.hz_net.specs.Reads.{readers_of};
@@ -121,10 +121,10 @@ impl Free {
     )
         requires part { IsFreePart net.now self.now }
         requires start { IsStableStart net.now start.now }
-        requires input { length input.now ≡ net.now.inputs }
+        requires input { IsInput net.now input.now }
         requires cap_low { 1 ≤ cap }
         requires cap_high { cap ≤ greatest_cap }
-        requires out { length out.old ≡ length (network_of net.now) }
+        requires out { AreByVariable net.now out.old }
         ensures { AreCappedWords (network_of net.now) input.now start.now cap out.new }
     {
         write_words(net, self.order.as_slice(), start, input, cap, None, out);
@@ -143,11 +143,11 @@ impl Free {
     )
         requires part { IsFreePart net.now self.now }
         requires start { IsStableStart net.now start.now }
-        requires input { length input.now ≡ net.now.inputs }
+        requires input { IsInput net.now input.now }
         requires cap_low { 1 ≤ cap }
         requires cap_high { cap ≤ greatest_cap }
         requires a { IsResult (algorithm_a (network_of net.now) input.now start.now) a.now }
-        requires out { length out.old ≡ length (network_of net.now) }
+        requires out { AreByVariable net.now out.old }
         ensures { AreCappedWords (network_of net.now) input.now start.now cap out.new }
     {
         write_words(net, self.order.as_slice(), start, input, cap, Some(a), out);
@@ -167,11 +167,11 @@ fn write_words<S: StoredWord>(
 )
     requires part { (free : List Bool) × (cycles : List (List ℕ)) × (cores : List (Option ℕ)) × IsFreePart net.now (record { free = free; order = order.now; cycles = cycles; cores = cores }) }
     requires start { IsStableStart net.now start.now }
-    requires input { length input.now ≡ net.now.inputs }
+    requires input { IsInput net.now input.now }
     requires cap_low { 1 ≤ cap }
     requires cap_high { cap ≤ greatest_cap }
     requires a { IfSome a (λ a. IsResult (algorithm_a (network_of net.now) input.now start.now) a.now) }
-    requires out { length out.old ≡ length (network_of net.now) }
+    requires out { AreByVariable net.now out.old }
     ensures { AreCappedWords (network_of net.now) input.now start.now cap (map S.word_in out.new) }
 {
     // A getter of the network says that its circuit is one.
@@ -233,9 +233,9 @@ fn word_of<S: StoredWord>(
     pins: &mut [Word],
     var: u32,
 ) -> Word
-    requires var { var < length (network_of net.now) }
-    requires start { length start.now ≡ length (network_of net.now) }
-    requires input { length input.now ≡ net.now.inputs }
+    requires var { IsVariable net.now var }
+    requires start { IsState net.now start.now }
+    requires input { IsInput net.now input.now }
     requires cap_low { 1 ≤ cap }
     requires cap_high { cap ≤ greatest_cap }
     requires room { most_gate_pins ≤ length pins.old }

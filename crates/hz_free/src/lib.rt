@@ -10,12 +10,12 @@
 //! | `cycles` | a list of cycles |
 #![tactic(auto)]
 
-ghost use Rattle.std.specs.Prelude.{◌≡◌, ◌↔◌, ℕ, ◌<◌, ◌≤◌, Bool, List, [], length, slice_index_or};
+ghost use Rattle.std.specs.Prelude.{◌≡◌, ◌↔◌, ℕ, ◌≤◌, Bool, List, [], slice_index_or};
 ghost use Rattle.hz_core.specs.declared.tri.Tri.{Tri};
 ghost use Rattle.hz_core.specs.declared.tri.Tri.TheVariants.{Unknown};
 ghost use Rattle.hz_core.specs.Ternary.{tri_of};
 ghost use Rattle.hz_core.specs.Netlist.{Netlist, IsCircuit, IsWhole};
-ghost use Rattle.hz_net.specs.Network.{Driver, network_of, bit_at, value_at};
+ghost use Rattle.hz_net.specs.Network.{Driver, network_of, bit_at, value_at, IsState, IsVariable};
 ghost use Rattle.hz_net.specs.Passes.{algorithm_a, algorithm_b, IsResult};
 ghost use Rattle.hz_net.specs.Starts.{IsStableStart};
 ghost use Rattle.hz_gmw.specs.Runs.{IsRun};
@@ -39,22 +39,22 @@ pub use packed::PackedWord;
 
 /// Along every run from a stable start under the new input, the word of a feedback-free variable covers its history.
 pub fn words_cover()
-    ensures { (netlist : Netlist) (input start : List Bool) (words : List (List Bool)) (cap i : ℕ) (steps : List (List ℕ)) → IsCircuit netlist → IsWhole netlist → IsStableStart netlist start → AreVariableWords (network_of netlist) input start words → i < length (network_of netlist) → IsFeedbackFree (network_of netlist) i → IsRun (network_of netlist) input start steps → Covers (capped_word cap (slice_index_or words i [])) (variable_history start steps i) }
+    ensures { (netlist : Netlist) (input start : List Bool) (words : List (List Bool)) (cap i : ℕ) (steps : List (List ℕ)) → IsCircuit netlist → IsWhole netlist → IsStableStart netlist start → AreVariableWords (network_of netlist) input start words → IsVariable netlist i → IsFeedbackFree (network_of netlist) i → IsRun (network_of netlist) input start steps → Covers (capped_word cap (slice_index_or words i [])) (variable_history start steps i) }
 {}
 
 /// The word of a feedback-free variable begins with its value at the start.
 pub fn words_begin()
-    ensures { (netlist : Netlist) (input start : List Bool) (words : List (List Bool)) (i : ℕ) → IsCircuit netlist → IsWhole netlist → IsStableStart netlist start → AreVariableWords (network_of netlist) input start words → i < length (network_of netlist) → IsFeedbackFree (network_of netlist) i → first_letter (slice_index_or words i []) ≡ bit_at start i }
+    ensures { (netlist : Netlist) (input start : List Bool) (words : List (List Bool)) (i : ℕ) → IsCircuit netlist → IsWhole netlist → IsStableStart netlist start → AreVariableWords (network_of netlist) input start words → IsVariable netlist i → IsFeedbackFree (network_of netlist) i → first_letter (slice_index_or words i []) ≡ bit_at start i }
 {}
 
 /// The word of a feedback-free variable has a change exactly if Algorithm A makes the variable X.
 pub fn words_change()
-    ensures { (netlist : Netlist) (input start : List Bool) (words : List (List Bool)) (result : List Tri) (i : ℕ) → IsCircuit netlist → IsWhole netlist → IsStableStart netlist start → AreVariableWords (network_of netlist) input start words → IsResult (algorithm_a (network_of netlist) input start) result → i < length (network_of netlist) → IsFeedbackFree (network_of netlist) i → (1 ≤ change_count (slice_index_or words i [])) ↔ (value_at result i ≡ Unknown) }
+    ensures { (netlist : Netlist) (input start : List Bool) (words : List (List Bool)) (result : List Tri) (i : ℕ) → IsCircuit netlist → IsWhole netlist → IsStableStart netlist start → AreVariableWords (network_of netlist) input start words → IsResult (algorithm_a (network_of netlist) input start) result → IsVariable netlist i → IsFeedbackFree (network_of netlist) i → (1 ≤ change_count (slice_index_or words i [])) ↔ (value_at result i ≡ Unknown) }
 {}
 
 /// The word of a feedback-free variable ends with the value that Algorithm B gives it, which is never X.
 pub fn words_end()
-    ensures { (netlist : Netlist) (input start : List Bool) (words : List (List Bool)) (first result : List Tri) (i : ℕ) → IsCircuit netlist → AreVariableWords (network_of netlist) input start words → length first ≡ length (network_of netlist) → IsResult (algorithm_b (network_of netlist) input first) result → i < length (network_of netlist) → IsFeedbackFree (network_of netlist) i → value_at result i ≡ tri_of (last_letter (slice_index_or words i [])) }
+    ensures { (netlist : Netlist) (input start : List Bool) (words : List (List Bool)) (first result : List Tri) (i : ℕ) → IsCircuit netlist → AreVariableWords (network_of netlist) input start words → IsState netlist first → IsResult (algorithm_b (network_of netlist) input first) result → IsVariable netlist i → IsFeedbackFree (network_of netlist) i → value_at result i ≡ tri_of (last_letter (slice_index_or words i [])) }
 {}
 
 /// A network has a list of feedback cycles.

@@ -1,6 +1,6 @@
 //! The feedback-free variables in a topological order (Kahn): each stands after the variables that it reads.
 ghost use Rattle.std.specs.Prelude.{◌+◌, ◌<◌, ◌≤◌, [], length, IfOk, OnOk, slice_index};
-ghost use Rattle.hz_net.specs.Network.{network_of};
+ghost use Rattle.hz_net.specs.Network.{network_of, IsVariable};
 ghost use Rattle.hz_net.specs.Reads.{readers_of};
 ghost use Rattle.hz_free.specs.Order.{IsOrdering, AreReads, ReducesReader};
 
@@ -24,7 +24,7 @@ pub(crate) fn count_reads(alloc: Global, net: &Net) -> Result<Vec<u32>, Memory>
 
 // Each reader of a variable reads one variable more.
 fn count_readers(net: &Net, var: u32, unread: &mut [u32])
-    requires var { var < length (network_of net.now) }
+    requires var { IsVariable net.now var }
     requires reads { AreReads (readers_of net.now) (length (network_of net.now)) var [] unread.old }
     ensures { AreReads (readers_of net.now) (length (network_of net.now)) (var + 1) [] unread.new }
 {

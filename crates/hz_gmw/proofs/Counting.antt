@@ -5,8 +5,8 @@ use Rattle.std.specs.List.{range_with_len}
 use Rattle.std.proofs.lemmas.Bool.{cases_eq, false≢true, eq-eqb, ne_eqb}
 use Rattle.std.proofs.lemmas.List.Elements.{All-head, All-tail}
 use Rattle.std.proofs.lemmas.List.Sums.{sum_by-cons}
-use Rattle.hz_gmw.specs.Runs.{is_listed, IsRepeatFree}
-use Rattle.hz_gmw.proofs.LeastLemmas.{listed-head, listed-tail, listed-cases, listed-other}
+use Rattle.hz_lists.specs.Listed.{is_listed, IsRepeatFree}
+use Rattle.hz_lists.proofs.ListedLemmas.{listed-first, listed-tail, first-or-later, listed-other}
 
 -- 1 for a bit that is 1
 abbrev pub weight : Bool → ℕ
@@ -41,7 +41,7 @@ range-one f g start (suc n) x from below each = elim (cases_eq start x) [
 pub list-same : (f g : ℕ → ℕ) (list : List ℕ) → ((i : ℕ) → is_listed list i ≡ true → f i ≡ g i) → sum_by f list ≡ sum_by g list
 list-same f g [] each = refl
 list-same f g (x ∷ list) each =
-    let first : f x ≡ g x = each x (listed-head x x list refl) in
+    let first : f x ≡ g x = each x (listed-first x x list refl) in
     let rest = list-same f g list (λ i there. each i (listed-tail i x list there)) in
     omega (arith, first, rest, sum_by-cons f x list, sum_by-cons g x list)
 
@@ -56,7 +56,7 @@ list-one f g (y ∷ list) x once there each = elim (cases_eq y x) [
       omega (arith, left, right, rest, sum_by-cons f y list, sum_by-cons g y list)
       )
   | inr other ↦ (
-      let first : f y ≡ g y = each y (listed-head y y list refl) other in
+      let first : f y ≡ g y = each y (listed-first y y list refl) other in
       let later : is_listed list x ≡ true = sym (listed-other x y list (λ same. other (sym same))) ∙ there in
       let rest = list-one f g list x once.1 later (λ i found. each i (listed-tail i y list found)) in
       omega (arith, first, rest, sum_by-cons f y list, sum_by-cons g y list)
@@ -67,7 +67,7 @@ list-one f g (y ∷ list) x once there each = elim (cases_eq y x) [
 pub list-turned : (f g : ℕ → ℕ) (list : List ℕ) → ((i : ℕ) → is_listed list i ≡ true → f i + g i ≡ 1) → sum_by f list + sum_by g list ≡ length list
 list-turned f g [] each = refl
 list-turned f g (x ∷ list) each =
-    let first : f x + g x ≡ 1 = each x (listed-head x x list refl) in
+    let first : f x + g x ≡ 1 = each x (listed-first x x list refl) in
     let rest = list-turned f g list (λ i there. each i (listed-tail i x list there)) in
     omega (arith, first, rest, sum_by-cons f x list, sum_by-cons g x list)
 
@@ -121,7 +121,7 @@ pub list-term : (f : ℕ → ℕ) (list : List ℕ) (i : ℕ) → is_listed list
 list-term f [] i there = absurd (false≢true there)
 list-term f (x ∷ list) i there =
     let whole = sum_by-cons f x list in
-    elim (listed-cases i x list there) [
+    elim (first-or-later i x list there) [
       | inl here ↦ (let same : f i ≡ f x = ap f here in omega (arith, whole, same))
       | inr rest ↦ (let term = list-term f list i rest in omega (arith, whole, term))
     ]

@@ -14,7 +14,7 @@ use Rattle.hz_net.specs.Variables.{fan_out_of}
 use Rattle.hz_net.specs.Reads.{IsWireInto, IsWired}
 use Rattle.hz_net.proofs.Places.{length-network_of, length-wires_of, first_wire-bound}
 use Rattle.hz_net.proofs.Wired.{is_gate_of, wired-network_of}
-use Rattle.hz_gmw.specs.Runs.{is_listed, IsRepeatFree}
+use Rattle.hz_lists.specs.Listed.{is_listed, IsRepeatFree}
 use Rattle.hz_gmw.specs.Instability.{is_unstable, unstable_count}
 use Rattle.hz_gmw.specs.CurrentState.{AreCounts, with_readers}
 use Rattle.hz_gmw.proofs.GateOnes.{twice-not}

@@ -7,7 +7,8 @@ use Rattle.hz_net.specs.Passes.{excitations, algorithm_a, AreRounds}
 use Rattle.hz_core.proofs.Refinements.{admits-is_below, length-Refines, get_or-Refines, Refines-get_or, get_or-AllBelow}
 use Rattle.hz_net.proofs.Excitations.{admits-driver_value, at-excitations}
 use Rattle.hz_net.proofs.Sequences.{IsClosed, AllBelow-closed, start-refines, closed-result}
-use Rattle.hz_gmw.specs.Runs.{is_listed, IsStep, state_after, IsRun, end_of, IsReachable}
+use Rattle.hz_lists.specs.Listed.{is_listed}
+use Rattle.hz_gmw.specs.Runs.{IsStep, state_after, IsRun, end_of, IsReachable}
 use Rattle.hz_gmw.proofs.Flips.{length-state_after, at-state_after}
 
 -- a closed state admits what excites each variable in a state that refines it

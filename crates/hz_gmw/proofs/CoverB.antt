@@ -8,8 +8,9 @@ use Rattle.hz_net.specs.Network.{Driver, bit_at, driver_at, driver_value3, excit
 use Rattle.hz_net.specs.Passes.{excitations, algorithm_a, algorithm_b, AreRounds}
 use Rattle.hz_core.proofs.Refinements.{known-admits, Refines-get_or}
 use Rattle.hz_net.proofs.Excitations.{admits-driver_value, length-excitations, at-excitations}
-use Rattle.hz_gmw.specs.Runs.{is_listed, IsStep, state_after, IsRun, end_of, IsReachable}
-use Rattle.hz_gmw.specs.Cycles.{states_of, IsNontransient, IsOutcome}
+use Rattle.hz_lists.specs.Listed.{is_listed}
+use Rattle.hz_gmw.specs.Runs.{IsStep, state_after, IsRun, end_of, IsReachable, states_of}
+use Rattle.hz_gmw.specs.Cycles.{IsNontransient, IsOutcome}
 use Rattle.hz_gmw.proofs.Flips.{length-state_after, at-state_after}
 use Rattle.hz_gmw.proofs.CoverA.{covers}
 use Rattle.hz_gmw.proofs.Paths.{end_of-append, IsRun-front, IsRun-rest, IsReachable-onward, IsCut, cut-member, value-somewhere}
@@ -65,7 +66,7 @@ itself net input first = ([], tt, refl)
 -- on a nontransient cycle a variable comes to the bit to which it is always driven
 comes : (net : List Driver) (input first : List Bool) (steps : List (List ℕ)) (i : ℕ) (bit : Bool) → IsNontransient net input first steps → IsDriven net input first i bit → i < length net → length first ≡ length net → bit_at first i ≡ bit
 comes net input first steps i bit cycle driven inside long =
-    elim (value-somewhere first steps i bit) [ inl found ↦ back found.0 found.1 found.2 | inr other ↦ absurd (cycle.lasts (i, inside, not bit, waits net input first i bit (states_of first steps) driven (each-reachable net input first first steps (itself net input first) cycle.cycle.run) other)) ]
+    elim (value-somewhere first steps i bit) [ inl found ↦ back found.0 found.1 found.2 | inr other ↦ absurd (cycle.lasts (i, inside, (not bit, waits net input first i bit (states_of first steps) driven (each-reachable net input first first steps (itself net input first) cycle.cycle.run) other))) ]
   where
     back : (member : List Bool) → IsCut first steps member → bit_at member i ≡ bit → bit_at first i ≡ bit
     back member cut has =

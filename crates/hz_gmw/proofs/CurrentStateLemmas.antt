@@ -6,7 +6,8 @@ use Rattle.std.proofs.lemmas.Bool.{cases_lt, false≢true, not-true, not-false}
 use Rattle.std.proofs.lemmas.List.{ext_get_or, get_or-set_same, get_or-set_other, get_or_read, drop_more, drop_all}
 use Rattle.std.proofs.lemmas.List.Sums.{sum_by-cons}
 use Rattle.hz_net.specs.Network.{bit_at}
-use Rattle.hz_gmw.specs.Runs.{IsRepeatFree, state_after}
+use Rattle.hz_lists.specs.Listed.{IsRepeatFree}
+use Rattle.hz_gmw.specs.Runs.{state_after}
 use Rattle.hz_gmw.proofs.Bits.{beq-same, beq-refl, other-bit}
 use Rattle.hz_gmw.proofs.Flips.{state_after-first, state_after-none}
 

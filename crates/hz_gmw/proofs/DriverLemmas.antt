@@ -1,71 +1,19 @@
--- What a variable of a network is and how it is driven; the variables around it, each once.
-use Rattle.std.proofs.Common.{◌≡◌, ◌≢◌, ℕ, zero, suc, ◌+◌, ◌-◌, ◌<◌, ◌≤◌, true, List, [], ◌∷◌, length, get_or, Some, All, IsTrue, slice_get, refl, sym, ap, ◌∙◌, subst, arith, inl, inr}
+-- The variables around a variable of a network, each once.
+use Rattle.std.proofs.Common.{◌≡◌, ◌≢◌, ℕ, suc, ◌-◌, ◌<◌, ◌≤◌, true, List, [], ◌∷◌, length, get_or, All, refl, sym, ap, ◌∙◌, subst, arith, inl, inr}
 use Rattle.std.specs.Prelude.{nat_eq, Contains}
 use Rattle.std.proofs.lemmas.Bool.{cases_lt, cases_Bool, false≢true, false_from_ne_true}
 use Rattle.std.proofs.lemmas.List.Elements.{All-cons}
-use Rattle.hz_core.specs.Gate.{takes}
-use Rattle.hz_core.specs.Netlist.{Netlist, IsCircuit, IsWhole, variable_count}
-use Rattle.hz_net.specs.Network.{Wire, Function, Source, network_of, wires_of, driver_at}
-use Rattle.hz_net.specs.Variables.{variable_kinds, first_wire, readers_from, fan_out_of}
+use Rattle.hz_core.specs.Netlist.{Netlist, IsCircuit, variable_count}
+use Rattle.hz_net.specs.Network.{Wire, Source, network_of, wires_of, driver_at}
+use Rattle.hz_net.specs.Variables.{readers_from, fan_out_of}
 use Rattle.hz_net.specs.Reads.{IsWireInto, readers_of}
-use Rattle.hz_net.specs.Entries.{driver_of, entry_kind, entries_of, IsEntryAt}
-use Rattle.hz_net.specs.declared.entry.Entry.{Entry}
-use Rattle.hz_net.specs.declared.entry.Entry.TheVariants.{Input as InputEntry, Gate as GateEntry, Wire as WireEntry}
-use Rattle.hz_net.specs.declared.variable.VarKind.{VarKind}
-use Rattle.hz_net.proofs.Places.{no_wire, length-network_of, length-entries_of, driver_at-entry, variable_kinds-entry, IsEntryAt-entries_of}
+use Rattle.hz_net.proofs.Places.{no_wire, length-network_of}
 use Rattle.hz_net.proofs.Wires.{IsWireFrom-driver_at, driver_at-IsWireFrom, Contains-fan_out_of, IsWireFrom-fan_out_of, variable_kinds-wire}
 use Rattle.hz_net.proofs.Wired.{is_gate_of, gate-named, named-into}
 use Rattle.hz_net.proofs.Readers.{node-readers, wire-readers, readers-inside}
-use Rattle.hz_gmw.specs.Runs.{is_listed, IsRepeatFree}
-use Rattle.hz_gmw.specs.CurrentState.{IsKindAt, with_readers}
-use Rattle.hz_gmw.proofs.LeastLemmas.{listed-cases, listed-other, listed-Contains}
-
-entry-kind : (netlist : Netlist) (var : ℕ) (entry : Entry) → IsCircuit netlist → var < variable_count netlist → IsEntryAt netlist var entry → driver_at (network_of netlist) var ≡ driver_of entry → slice_get (variable_kinds netlist) var ≡ Some (entry_kind entry) → IsKindAt netlist var (entry_kind entry)
-entry-kind netlist var (InputEntry number) circuit within at driven seen =
-    (driven, subst (λ (n : ℕ). n < netlist.inputs) (sym at.0) at.1, omega (arith, at.1, circuit.nodes))
-entry-kind netlist var (GateEntry kind first pins) circuit within at driven seen = (
-  driven ∙ (ap (λ (n : ℕ). Function kind n pins) at.1 ∙ ap (λ (n : ℕ). Function kind (first_wire netlist var) n) at.2),
-  at.0,
-  subst (λ (n : ℕ). first_wire netlist var + n ≤ length (network_of netlist)) at.2 (subst (λ (n : ℕ). n + pins ≤ length (network_of netlist)) at.1 at.3),
-  subst (λ (n : ℕ). IsTrue (takes kind n)) at.2 at.4,
-)
-entry-kind netlist var (WireEntry pin gate source) circuit within at driven seen =
-    let into = named-into netlist circuit var gate pin source at.0 within seen in
-    (driven, at.1, into, (is_gate_of netlist circuit gate into.kind into.first into.pins into.driven).is_gate.1, at.0)
-
-some-same : (a b : VarKind) → Some a ≡ Some b → a ≡ b
-some-same a b e = cc
-
-entry-there : (list : List Entry) (k : ℕ) (d : Entry) → k < length list → get_or list k d ≡ get_or list k (get_or list k d)
-entry-there [] k d few = absurd (omega (arith, few))
-entry-there (entry ∷ list) zero d few = refl
-entry-there (entry ∷ list) (suc k) d few = same list k d (get_or list k d) (omega (arith, few))
-  where
-    same : (list : List Entry) (k : ℕ) (d e : Entry) → k < length list → get_or list k d ≡ get_or list k e
-    same [] k d e few = absurd (omega (arith, few))
-    same (entry ∷ list) zero d e few = refl
-    same (entry ∷ list) (suc k) d e few = same list k d e (omega (arith, few))
-
--- what a variable is, says how it is driven
-pub kind-at : (netlist : Netlist) (var : ℕ) (kind : VarKind) → IsCircuit netlist → IsWhole netlist → var < length (network_of netlist) → slice_get (variable_kinds netlist) var ≡ Some kind → IsKindAt netlist var kind
-kind-at netlist var kind circuit whole within seen =
-    let few : var < variable_count netlist = omega (arith, within, length-network_of netlist circuit) in
-    let entry = get_or (entries_of netlist) var (InputEntry 0) in
-    let read : entry ≡ get_or (entries_of netlist) var entry = entry-there (entries_of netlist) var (InputEntry 0) (omega (arith, few, length-entries_of netlist circuit)) in
-    let told = variable_kinds-entry netlist var entry circuit few read in
-    subst (IsKindAt netlist var) (some-same (entry_kind entry) kind (sym told ∙ seen))
-    (entry-kind netlist var entry circuit few (IsEntryAt-entries_of netlist var (InputEntry 0) circuit whole few) (driver_at-entry netlist var entry circuit few read) told)
-
-pub Contains-listed : (list : List ℕ) (i : ℕ) → is_listed list i ≡ true → Contains list i
-Contains-listed [] i there = absurd (false≢true there)
-Contains-listed (x ∷ list) i there = elim (listed-cases i x list there) [
-  | inl same ↦ (0, omega arith, sym same)
-  | inr rest ↦ (
-      let found = Contains-listed list i rest in
-      let few : found.0 < length list = found.1 in
-      (suc found.0, omega (arith, few), found.2)
-      )
-]
+use Rattle.hz_lists.specs.Listed.{is_listed, IsRepeatFree}
+use Rattle.hz_gmw.specs.CurrentState.{with_readers}
+use Rattle.hz_lists.proofs.ListedLemmas.{first-or-later, listed-other, listed-Contains, Contains-listed}
 
 -- a wire from a node is driven by it
 pub fan-driver : (netlist : Netlist) (node wire : ℕ) → IsCircuit netlist → is_listed (fan_out_of netlist node) wire ≡ true → driver_at (network_of netlist) wire ≡ Source node
@@ -85,7 +33,7 @@ driver-fan netlist node wire circuit driven =
 readers-above : (first : ℕ) (wires : List Wire) (node i : ℕ) → is_listed (readers_from first wires node) i ≡ true → first ≤ i
 readers-above first [] node i there = absurd (false≢true there)
 readers-above first (wire ∷ wires) node i there = elim (cases_Bool (nat_eq wire.source node)) [
-  | inl same ↦ elim (listed-cases i first (readers_from (suc first) wires node) (rw same at there)) [
+  | inl same ↦ elim (first-or-later i first (readers_from (suc first) wires node) (rw same at there)) [
     | inl here ↦ omega (arith, here)
     | inr rest ↦ (let later = readers-above (suc first) wires node i rest in omega (arith, later))
   ]

@@ -3,8 +3,9 @@ use Rattle.std.proofs.Common.{◌≡◌, ℕ, zero, suc, ◌+◌, ◌<◌, Bool,
 use Rattle.std.proofs.lemmas.Bool.{cases_eq}
 use Rattle.std.proofs.lemmas.List.{ext_get_or, length-set, get_or-set_same, get_or-set_other}
 use Rattle.hz_net.specs.Network.{bit_at}
-use Rattle.hz_gmw.specs.Runs.{is_listed, bits_after_from, state_after}
-use Rattle.hz_gmw.proofs.LeastLemmas.{listed-head, listed-other}
+use Rattle.hz_lists.specs.Listed.{is_listed}
+use Rattle.hz_gmw.specs.Runs.{bits_after_from, state_after}
+use Rattle.hz_lists.proofs.ListedLemmas.{listed-first, listed-other}
 
 pub length-bits_after_from : (place : ℕ) (flips : List ℕ) (bits : List Bool) → length (bits_after_from place flips bits) ≡ length bits
 length-bits_after_from place flips [] = refl
@@ -42,7 +43,7 @@ state_after-first x flips state once =
       | inl same ↦ (
           let here : x < length state = omega (arith, within, same) in
           let now : bit_at turned i ≡ not (bit_at state i) = ap (bit_at turned) same ∙ (get_or-set_same state x (not (bit_at state x)) false here ∙ ap (λ (j : ℕ). not (bit_at state j)) (sym same)) in
-          ap (λ (b : Bool). cond b (not (bit_at state i)) (bit_at state i)) (listed-head i x flips same) ∙
+          ap (λ (b : Bool). cond b (not (bit_at state i)) (bit_at state i)) (listed-first i x flips same) ∙
           (sym now ∙ sym (ap (λ (b : Bool). cond b (not (bit_at turned i)) (bit_at turned i)) (ap (is_listed flips) same ∙ once)))
           )
       | inr differ ↦ (

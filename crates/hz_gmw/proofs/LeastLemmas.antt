@@ -1,59 +1,17 @@
 -- The least of listed numbers that pass a test, and the least that is listed twice.
-use Rattle.std.proofs.Common.{◌≡◌, ◌≢◌, ℕ, zero, suc, ◌+◌, ◌<◌, ◌≤◌, ◌⊎◌, Bool, true, false, cond, ◌||◌, List, [], ◌∷◌, ◌++◌, length, get_or, set, Option, Some, None, All, IsTrue, refl, sym, ap, ◌∙◌, subst, arith, inl, inr}
-use Rattle.std.specs.Prelude.{nat_eq, Contains}
-use Rattle.std.proofs.lemmas.Bool.{cases_lt, cases_eq, cases_Bool, false≢true, eq-eqb, eqb-true, ne_eqb, or_left, or_right, or_cases, cond-true, cond-false, false_from_ne_true}
+use Rattle.std.proofs.Common.{◌≡◌, ◌≢◌, ℕ, ◌+◌, ◌<◌, ◌≤◌, ◌⊎◌, Bool, true, false, cond, ◌||◌, List, [], ◌∷◌, ◌++◌, length, set, Option, Some, None, All, IsTrue, refl, sym, ap, ◌∙◌, subst, arith, inl, inr}
+use Rattle.std.specs.Prelude.{nat_eq}
+use Rattle.std.proofs.lemmas.Bool.{cases_lt, cases_eq, cases_Bool, false≢true, eq-eqb, ne_eqb, or_right, cond-true, cond-false, false_from_ne_true}
 use Rattle.std.proofs.lemmas.List.{append-nil, append_assoc, length-set, get_or-set_same, get_or-set_other}
 use Rattle.std.proofs.lemmas.List.Elements.{All-head, All-tail}
 use Rattle.std.proofs.lemmas.List.Sums.{sum_by-cons, sum_by_push}
 use Rattle.hz_net.specs.Network.{bit_at}
-use Rattle.hz_gmw.specs.Runs.{is_listed, IsRepeatFree}
-use Rattle.hz_core.specs.Least.{IsLeast, IsLeastOf, option_min}
-use Rattle.hz_core.proofs.LeastLemmas.{IsLeastOf-same, IsLeastOf-either}
+use Rattle.hz_lists.specs.Listed.{is_listed, IsRepeatFree}
+use Rattle.hz_lists.specs.Least.{IsLeast, IsLeastOf, option_min}
+use Rattle.hz_lists.proofs.LeastLemmas.{IsLeastOf-same, IsLeastOf-either}
 use Rattle.hz_gmw.specs.LeastListed.{least_from, least_repeat}
 use Rattle.hz_gmw.specs.ReplayFaults.{times_listed}
-
-pub listed-head : (i x : ℕ) (list : List ℕ) → i ≡ x → is_listed (x ∷ list) i ≡ true
-listed-head i x list same = or_left (nat_eq i x) (is_listed list i) (eq-eqb i x same)
-
-pub listed-tail : (i x : ℕ) (list : List ℕ) → is_listed list i ≡ true → is_listed (x ∷ list) i ≡ true
-listed-tail i x list there = or_right (nat_eq i x) (is_listed list i) there
-
-pub listed-cases : (i x : ℕ) (list : List ℕ) → is_listed (x ∷ list) i ≡ true → (i ≡ x) ⊎ (is_listed list i ≡ true)
-listed-cases i x list there = elim (or_cases (nat_eq i x) (is_listed list i) there) [
-  | inl here ↦ inl (eqb-true i x here)
-  | inr rest ↦ inr rest
-]
-
-pub listed-other : (i x : ℕ) (list : List ℕ) → i ≢ x → is_listed (x ∷ list) i ≡ is_listed list i
-listed-other i x list differ = ap (λ (b : Bool). b || is_listed list i) (ne_eqb i x differ)
-
-or-assoc : (a b c : Bool) → (a || b) || c ≡ a || (b || c)
-or-assoc true b c = refl
-or-assoc false b c = refl
-
-pub listed-append : (left right : List ℕ) (i : ℕ) → is_listed (left ++ right) i ≡ is_listed left i || is_listed right i
-listed-append [] right i = refl
-listed-append (x ∷ left) right i =
-    ap (λ (b : Bool). nat_eq i x || b) (listed-append left right i) ∙ sym (or-assoc (nat_eq i x) (is_listed left i) (is_listed right i))
-
-pub listed-Contains : (list : List ℕ) (i : ℕ) → Contains list i → is_listed list i ≡ true
-listed-Contains [] i there = absurd (omega (arith, there.1))
-listed-Contains (x ∷ list) i there = at there.0 there.1 there.2
-  where
-    found : (list : List ℕ) (k : ℕ) → k < length list → get_or list k i ≡ i → is_listed list i ≡ true
-    found [] k few is = absurd (omega (arith, few))
-    found (y ∷ list) zero few is = listed-head i y list (sym is)
-    found (y ∷ list) (suc k) few is = listed-tail i y list (found list k (omega (arith, few)) is)
-
-    at : (k : ℕ) → k < length (x ∷ list) → get_or (x ∷ list) k i ≡ i → is_listed (x ∷ list) i ≡ true
-    at k few is = found (x ∷ list) k few is
-
-pub All-listed : (P : ℕ → Type 0) (list : List ℕ) (i : ℕ) → All P list → is_listed list i ≡ true → P i
-All-listed P [] i all there = absurd (false≢true there)
-All-listed P (x ∷ list) i all there = elim (listed-cases i x list there) [
-  | inl same ↦ subst P (sym same) (All-head P x list all)
-  | inr rest ↦ All-listed P list i (All-tail P x list all) rest
-]
+use Rattle.hz_lists.proofs.ListedLemmas.{listed-append, first-or-later, listed-first, listed-other, listed-tail}
 
 -- one number more
 IsLeastOf-lesser : (P : ℕ → Type 0) (found : Option ℕ) (x : ℕ) → IsLeastOf P found → IsLeastOf (λ i. P i ⊎ (i ≡ x)) (option_min found (Some x))
@@ -65,12 +23,12 @@ Among P test list i = P i ⊎ (IsTrue (is_listed list i) × IsTrue (test i))
 
 among-head : (P : ℕ → Type 0) (test : ℕ → Bool) (x : ℕ) (list : List ℕ) → test x ≡ true → (i : ℕ) → Among (λ j. P j ⊎ (j ≡ x)) test list i → Among P test (x ∷ list) i
 among-head P test x list passes i (inl (inl p)) = inl p
-among-head P test x list passes i (inl (inr e)) = inr (listed-head i x list e, ap test e ∙ passes)
+among-head P test x list passes i (inl (inr e)) = inr (listed-first i x list e, ap test e ∙ passes)
 among-head P test x list passes i (inr h) = inr (listed-tail i x list h.0, h.1)
 
 among-split : (P : ℕ → Type 0) (test : ℕ → Bool) (x : ℕ) (list : List ℕ) (i : ℕ) → Among P test (x ∷ list) i → Among (λ j. P j ⊎ (j ≡ x)) test list i
 among-split P test x list i (inl p) = inl (inl p)
-among-split P test x list i (inr h) = elim (listed-cases i x list h.0) [
+among-split P test x list i (inr h) = elim (first-or-later i x list h.0) [
   | inl e ↦ inl (inr e)
   | inr rest ↦ inr (rest, h.1)
 ]
@@ -81,7 +39,7 @@ among-later P test x list i (inr h) = inr (listed-tail i x list h.0, h.1)
 
 among-rest : (P : ℕ → Type 0) (test : ℕ → Bool) (x : ℕ) (list : List ℕ) → test x ≡ false → (i : ℕ) → Among P test (x ∷ list) i → Among P test list i
 among-rest P test x list fails i (inl p) = inl p
-among-rest P test x list fails i (inr h) = elim (listed-cases i x list h.0) [
+among-rest P test x list fails i (inr h) = elim (first-or-later i x list h.0) [
   | inl e ↦ absurd (false≢true (sym fails ∙ (ap test (sym e) ∙ h.1)))
   | inr rest ↦ inr (rest, h.1)
 ]
@@ -120,7 +78,7 @@ times_listed-push-other i x list differ = times_listed-push i x list ∙ (ap (λ
 
 pub listed-times_listed : (i : ℕ) (list : List ℕ) → is_listed list i ≡ true → 1 ≤ times_listed list i
 listed-times_listed i [] there = absurd (false≢true there)
-listed-times_listed i (x ∷ list) there = elim (listed-cases i x list there) [
+listed-times_listed i (x ∷ list) there = elim (first-or-later i x list there) [
   | inl same ↦ (let here = times_listed-here i x list same in omega (arith, here))
   | inr rest ↦ (let later = listed-times_listed i list rest in omega (arith, later, times_listed-cons i x list))
 ]
@@ -128,7 +86,7 @@ listed-times_listed i (x ∷ list) there = elim (listed-cases i x list there) [
 pub times_listed-listed : (i : ℕ) (list : List ℕ) → 1 ≤ times_listed list i → is_listed list i ≡ true
 times_listed-listed i [] some = absurd (omega (arith, some))
 times_listed-listed i (x ∷ list) some = elim (cases_eq i x) [
-  | inl same ↦ listed-head i x list same
+  | inl same ↦ listed-first i x list same
   | inr differ ↦ (let other = times_listed-other i x list differ in listed-tail i x list (times_listed-listed i list (omega (arith, some, other))))
 ]
 
@@ -190,7 +148,7 @@ AreNamed earlier named = (i : ℕ) → i < length named → bit_at named i ≡ i
 
 named-more : (earlier : List ℕ) (named : List Bool) (x : ℕ) → x < length named → AreNamed earlier named → AreNamed (earlier ++ x ∷ []) (set named x true)
 named-more earlier named x within are i inside = elim (cases_eq i x) [
-  | inl same ↦ ap (bit_at (set named x true)) same ∙ (get_or-set_same named x true false within ∙ sym (listed-append earlier (x ∷ []) i ∙ or_right (is_listed earlier i) (is_listed (x ∷ []) i) (listed-head i x [] same)))
+  | inl same ↦ ap (bit_at (set named x true)) same ∙ (get_or-set_same named x true false within ∙ sym (listed-append earlier (x ∷ []) i ∙ or_right (is_listed earlier i) (is_listed (x ∷ []) i) (listed-first i x [] same)))
   | inr differ ↦ (
       let below : i < length named = omega (arith, inside, length-set named x true) in
       get_or-set_other named x i true false differ ∙ (are i below ∙ sym (listed-append earlier (x ∷ []) i ∙ (ap (λ (b : Bool). is_listed earlier i || b) (listed-other i x [] differ) ∙ or-false (is_listed earlier i))))

@@ -20,7 +20,7 @@ pub mod Counting
 pub mod Marks
 -- The value of a gate by its count of ones
 pub mod GateOnes
--- What a variable of a network is and how it is driven; the variables around it, each once
+-- The variables around a variable of a network, each once
 pub mod DriverLemmas
 -- What leaves a variable as stable as it was: a change of variables that it doesn't read, or of another external input
 pub mod Unchanged

@@ -3,9 +3,9 @@ use Rattle.std.proofs.Common.{◌≡◌, ℕ, ◌<◌, Bool, true, false, ◌||�
 use Rattle.std.proofs.lemmas.Bool.{cases_eq, or_left, or_right}
 use Rattle.std.proofs.lemmas.List.{length-set, get_or-set_same, get_or-set_other}
 use Rattle.hz_net.specs.Network.{bit_at}
-use Rattle.hz_gmw.specs.Runs.{is_listed}
+use Rattle.hz_lists.specs.Listed.{is_listed}
 use Rattle.hz_gmw.specs.CurrentState.{with_marks}
-use Rattle.hz_gmw.proofs.LeastLemmas.{listed-head, listed-other}
+use Rattle.hz_lists.proofs.ListedLemmas.{listed-first, listed-other}
 
 pub length-with_marks : (marks : List Bool) (list : List ℕ) → length (with_marks marks list) ≡ length marks
 length-with_marks marks [] = refl
@@ -22,7 +22,7 @@ at-with_marks marks (x ∷ list) i inside =
       | inl same ↦ (
           let here : x < length marks = omega (arith, inside, same) in
           or_left (bit_at (set marks x true) i) (is_listed list i) (ap (bit_at (set marks x true)) same ∙ get_or-set_same marks x true false here) ∙
-          sym (or_right (bit_at marks i) (is_listed (x ∷ list) i) (listed-head i x list same))
+          sym (or_right (bit_at marks i) (is_listed (x ∷ list) i) (listed-first i x list same))
           )
       | inr differ ↦
           ap (λ (b : Bool). b || is_listed list i) (get_or-set_other marks x i true false differ) ∙

@@ -2,8 +2,7 @@
 use Rattle.std.proofs.Common.{◌≡◌, ℕ, zero, suc, ◌<◌, Bool, true, false, not, List, [], ◌∷◌, ◌++◌, length, get_or, refl, sym, ap, ◌∙◌, subst, arith, Contains, ◌⊎◌, inl, inr}
 use Rattle.std.specs.List.{AllByRecursion}
 use Rattle.hz_net.specs.Network.{Driver, bit_at}
-use Rattle.hz_gmw.specs.Runs.{state_after, IsRun, end_of, IsReachable}
-use Rattle.hz_gmw.specs.Cycles.{states_of}
+use Rattle.hz_gmw.specs.Runs.{state_after, IsRun, end_of, IsReachable, states_of}
 
 pub end_of-append : (state : List Bool) (steps more : List (List ℕ)) → end_of state (steps ++ more) ≡ end_of (end_of state steps) more
 end_of-append state [] more = refl

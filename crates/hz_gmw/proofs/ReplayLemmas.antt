@@ -6,10 +6,11 @@ use Rattle.std.proofs.lemmas.List.{ext_get_or, length-set, length-replicate, get
 use Rattle.std.proofs.lemmas.List.FromFn.{get_or-map-range_with_len, fill_by_all}
 use Rattle.hz_net.specs.Network.{Driver, network_of, bit_at, excitation, IsUnstable}
 use Rattle.hz_core.specs.Netlist.{Netlist}
-use Rattle.hz_gmw.specs.Runs.{is_listed, IsStep, state_after, end_of}
+use Rattle.hz_lists.specs.Listed.{is_listed}
+use Rattle.hz_gmw.specs.Runs.{IsStep, state_after, end_of}
 use Rattle.hz_gmw.specs.Cycles.{WaitsAt, IsNontransient}
 use Rattle.hz_gmw.specs.Instability.{is_unstable, unstable_variables, unstable_count}
-use Rattle.hz_core.specs.Least.{IsLeast, IsLeastOf}
+use Rattle.hz_lists.specs.Least.{IsLeast, IsLeastOf}
 use Rattle.hz_gmw.specs.LeastListed.{least_from}
 use Rattle.hz_gmw.specs.Replayer.{Replayer, StandsFor, replayer_at, watched_after, replayer_after}
 use Rattle.hz_gmw.specs.ReplayFaults.{times_listed, IsStepFault, IsCycleFault}
@@ -22,8 +23,9 @@ use Rattle.hz_gmw.specs.CurrentState.{with_marks, with_bits_of}
 use Rattle.hz_gmw.proofs.Flips.{length-state_after, at-state_after}
 use Rattle.hz_gmw.proofs.Paths.{end_of-append, IsRun-append}
 use Rattle.hz_gmw.proofs.CoverB.{length-end_of}
-use Rattle.hz_core.proofs.LeastLemmas.{IsLeastOf-same}
-use Rattle.hz_gmw.proofs.LeastLemmas.{listed-other, All-listed, least-listed, IsRepeatFree-times_listed, times_listed-IsRepeatFree}
+use Rattle.hz_lists.proofs.LeastLemmas.{IsLeastOf-same}
+use Rattle.hz_lists.proofs.ListedLemmas.{listed-other, All-listed}
+use Rattle.hz_gmw.proofs.LeastLemmas.{least-listed, IsRepeatFree-times_listed, times_listed-IsRepeatFree}
 use Rattle.hz_gmw.proofs.Bits.{beq-same, beq-refl}
 use Rattle.hz_gmw.proofs.Counting.{weight}
 use Rattle.hz_gmw.proofs.Counts.{one-bound}
@@ -39,7 +41,7 @@ true-unstable net input state i unstable =
     not_from_false (beq (bit_at state i) (excitation net input state i)) (false_from_ne_true (beq (bit_at state i) (excitation net input state i)) (λ e. unstable (beq-same (bit_at state i) (excitation net input state i) e)))
 
 -- a bit that is not different is the same
-same-bit : (a b : Bool) → (a ≢ b → ⊥) → a ≡ b
+pub same-bit : (a b : Bool) → (a ≢ b → ⊥) → a ≡ b
 same-bit a b not-different = beq-same a b (true_from_ne_false (beq a b) (λ e. not-different (λ same. false≢true (sym e ∙ (ap (beq a) (sym same) ∙ beq-refl a)))))
 
 pub at-unstable_variables : (net : List Driver) (input state : List Bool) (i : ℕ) → i < length net → bit_at (unstable_variables net input state) i ≡ is_unstable net input state i
@@ -69,7 +71,7 @@ waits-end net input state [] i bit waits = waits.0
 waits-end net input state (flips ∷ steps) i bit waits = waits-end net input (state_after flips state) steps i bit waits.1
 
 -- and along its prefix
-waits-front : (net : List Driver) (input state : List Bool) (steps more : List (List ℕ)) (i : ℕ) (bit : Bool) → WaitsAt net input state (steps ++ more) i bit → WaitsAt net input state steps i bit
+pub waits-front : (net : List Driver) (input state : List Bool) (steps more : List (List ℕ)) (i : ℕ) (bit : Bool) → WaitsAt net input state (steps ++ more) i bit → WaitsAt net input state steps i bit
 waits-front net input state [] [] i bit waits = waits
 waits-front net input state [] (flips ∷ more) i bit waits = (waits.0, tt)
 waits-front net input state (flips ∷ steps) more i bit waits = (waits.0, waits-front net input (state_after flips state) steps more i bit waits.1)
@@ -145,7 +147,7 @@ step-or-fault net input state flips (Stable var) is step = step.unstable var is.
 pub cycle-or-fault : (net : List Driver) (input state : List Bool) (steps : List (List ℕ)) (fault : CycleFault) → IsCycleFault net input state steps fault → IsNontransient net input state steps → ⊥
 cycle-or-fault net input state steps (Differs var) is cycle = is.here (ap (λ (s : List Bool). bit_at s var) cycle.cycle.closed)
 cycle-or-fault net input state steps (NotStable var) is cycle = is.1.here.1 (cycle.cycle.alone is.0 var is.1.here.0)
-cycle-or-fault net input state steps (Transient var) is cycle = cycle.lasts (var, is.2.here.0, is.2.here.1.0, is.2.here.1.1)
+cycle-or-fault net input state steps (Transient var) is cycle = cycle.lasts (var, is.2.here.0, is.2.here.1)
 
 -- a variable that moved
 pub differs-fault : (now : Replayer) (steps : List (List ℕ)) (var : ℕ) → StandsFor now steps → IsLeast (λ i. bit_at now.state i ≢ bit_at now.marked i) var → IsCycleFault (network_of now.circuit) now.input now.marked steps (Differs var)
@@ -182,7 +184,7 @@ stable-cycle now steps stands closed resting stable =
         alone = λ e i inside. same-bit (bit_at now.marked i) (excitation net now.input now.marked i) (here i inside);
       };
       lasts = λ waits.
-          let alone : WaitsAt net now.input now.marked [] waits.0 waits.2 = subst (λ (s : List (List ℕ)). WaitsAt net now.input now.marked s waits.0 waits.2) none waits.3 in
+          let alone : WaitsAt net now.input now.marked [] waits.0 waits.2.0 = subst (λ (s : List (List ℕ)). WaitsAt net now.input now.marked s waits.0 waits.2.0) none waits.2.1 in
           here waits.0 waits.1 alone.0.1;
     }
 
@@ -205,7 +207,7 @@ moving-cycle now steps stands closed moving unwatched = record {
     closed = stands.ends ∙ closed;
     alone = λ e. absurd (stands.stepped.0 moving e);
   };
-  lasts = λ waits. unwatched waits.0 (waits.1, (stands.watched waits.0 waits.1).1 (waits.2, waits.3));
+  lasts = λ waits. unwatched waits.0 (waits.1, (stands.watched waits.0 waits.1).1 waits.2);
 }
 
 pub length-with_bits_of : (state marked : List Bool) (list : List ℕ) → length (with_bits_of state marked list) ≡ length marked

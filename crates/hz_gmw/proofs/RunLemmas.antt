@@ -5,7 +5,7 @@ use Rattle.std.specs.Vec.{vec_len}
 use Rattle.hz_gmw.specs.RunRecord.{RunRecord, flip_count}
 use Rattle.hz_gmw.specs.Inside.{run_record_of, HoldsRun}
 use Rattle.hz_gmw.specs.declared.run.Run.TheInside.{Inside}
-use Rattle.hz_net.proofs.PartLemmas.{length-parts_from, sum_by-parts_from}
+use Rattle.hz_lists.proofs.PartLemmas.{length-parts_from, sum_by-parts_from}
 
 pub held_steps : (fields : Inside) (run : RunRecord) → run_record_of fields ≡ run → vec_len fields.ends ≡ length run.steps
 held_steps fields run is =

@@ -1,56 +1,15 @@
 -- Sets of variables: the list has the marked ones, whatever is put in or taken out.
-use Rattle.std.proofs.Common.{◌≡◌, ◌≢◌, ℕ, zero, suc, ◌<◌, ◌⊎◌, Bool, true, false, cond, List, [], ◌∷◌, ◌++◌, length, get_or, set, replicate, All, refl, sym, ap, ◌∙◌, subst, arith, inl, inr}
+use Rattle.std.proofs.Common.{◌≡◌, ◌≢◌, ℕ, zero, suc, ◌<◌, ◌⊎◌, Bool, true, false, cond, List, [], ◌∷◌, ◌++◌, length, get_or, set, replicate, refl, sym, ap, ◌∙◌, subst, arith, inl, inr}
 use Rattle.std.specs.Prelude.{count_by}
-use Rattle.std.proofs.lemmas.Bool.{cases_lt, cases_eq, false≢true, or_left, or_right, or_cases, false_from_ne_true}
+use Rattle.std.proofs.lemmas.Bool.{cases_lt, cases_eq, false≢true, false_from_ne_true}
 use Rattle.std.proofs.lemmas.List.{length-set, length-replicate, length_push, get_or-set_same, get_or-set_other, get_or_past, get_or_read, get_or-replicate, ext_get_or}
-use Rattle.std.proofs.lemmas.List.Elements.{All-nil, All-cons}
+use Rattle.std.proofs.lemmas.List.Elements.{All-nil}
 use Rattle.std.proofs.lemmas.List.Sums.{sum_by-set, sum_by-cons, count_by-le-length}
 use Rattle.hz_net.specs.Network.{bit_at}
-use Rattle.hz_gmw.specs.Runs.{is_listed, IsRepeatFree}
+use Rattle.hz_lists.specs.Listed.{is_listed, IsRepeatFree}
 use Rattle.hz_gmw.specs.VariableSets.{AreMembers}
 use Rattle.hz_gmw.proofs.Counting.{weight}
-use Rattle.hz_gmw.proofs.LeastLemmas.{listed-head, listed-tail, listed-cases, listed-other, listed-append, All-listed}
-
--- what holds for each member of a list
-pub All-each : (P : ℕ → Type 0) (list : List ℕ) → ((i : ℕ) → is_listed list i ≡ true → P i) → All P list
-All-each P [] each = All-nil P
-All-each P (x ∷ list) each = All-cons P x list (each x (listed-head x x list refl)) (All-each P list (λ i there. each i (listed-tail i x list there)))
-
-pushed-cases : (list : List ℕ) (x i : ℕ) → is_listed (list ++ x ∷ []) i ≡ true → (is_listed list i ≡ true) ⊎ (i ≡ x)
-pushed-cases list x i there = elim (or_cases (is_listed list i) (is_listed (x ∷ []) i) (sym (listed-append list (x ∷ []) i) ∙ there)) [
-  | inl front ↦ inl front
-  | inr last ↦ elim (listed-cases i x [] last) [
-    | inl same ↦ inr same
-    | inr none ↦ absurd (false≢true none)
-  ]
-]
-
-pushed-last : (list : List ℕ) (x : ℕ) → is_listed (list ++ x ∷ []) x ≡ true
-pushed-last list x = listed-append list (x ∷ []) x ∙ or_right (is_listed list x) (is_listed (x ∷ []) x) (listed-head x x [] refl)
-
-pushed-front : (list : List ℕ) (x i : ℕ) → is_listed list i ≡ true → is_listed (list ++ x ∷ []) i ≡ true
-pushed-front list x i there = listed-append list (x ∷ []) i ∙ or_left (is_listed list i) (is_listed (x ∷ []) i) there
-
-once-pushed : (list : List ℕ) (x : ℕ) → IsRepeatFree list → is_listed list x ≡ false → IsRepeatFree (list ++ x ∷ [])
-once-pushed [] x once new = (refl, tt)
-once-pushed (y ∷ list) x once new =
-    let differ : y ≢ x = λ same. false≢true (sym new ∙ listed-head x y list (sym same)) in
-    let later : is_listed list x ≡ false = sym (listed-other x y list (λ same. differ (sym same))) ∙ new in (
-      false_from_ne_true (is_listed (list ++ x ∷ []) y) (λ there. elim (pushed-cases list x y there) [
-        | inl front ↦ false≢true (sym once.0 ∙ front)
-        | inr same ↦ differ same
-      ]),
-      once-pushed list x once.1 later,
-    )
-
-once-front : (list : List ℕ) (x : ℕ) → IsRepeatFree (list ++ x ∷ []) → IsRepeatFree list × (is_listed list x ≡ false)
-once-front [] x once = (tt, refl)
-once-front (y ∷ list) x once =
-    let rest = once-front list x once.1 in
-    let differ : x ≢ y = λ same. false≢true (sym once.0 ∙ (ap (is_listed (list ++ x ∷ [])) (sym same) ∙ pushed-last list x)) in (
-      (false_from_ne_true (is_listed list y) (λ there. false≢true (sym once.0 ∙ pushed-front list x y there)), rest.0),
-      listed-other x y list differ ∙ rest.1,
-    )
+use Rattle.hz_lists.proofs.ListedLemmas.{All-listed, All-each, is_repeat_free-front, is_repeat_free-push, listed-left, pushed-cases, pushed-last}
 
 -- a fresh set marks nothing
 pub unmarked : (count var : ℕ) → bit_at (replicate count false) var ≡ false
@@ -94,9 +53,9 @@ AreMembers-insert marks members var are inside new =
       marked = All-each (λ (v : ℕ). bit_at (set marks var true) v ≡ true) (members ++ var ∷ []) (λ i there. (at i there).1);
       every = λ i marked. elim (cases_eq i var) [
         | inl same ↦ ap (is_listed (members ++ var ∷ [])) same ∙ pushed-last members var
-        | inr other ↦ pushed-front members var i (are.every i (sym (get_or-set_other marks var i true false other) ∙ marked))
+        | inr other ↦ listed-left members (var ∷ []) i (are.every i (sym (get_or-set_other marks var i true false other) ∙ marked))
       ];
-      once = once-pushed members var are.once (false_from_ne_true (is_listed members var) (λ there. false≢true (sym new ∙ All-listed (λ (v : ℕ). bit_at marks v ≡ true) members var are.marked there)));
+      once = is_repeat_free-push members var are.once (false_from_ne_true (is_listed members var) (λ there. false≢true (sym new ∙ All-listed (λ (v : ℕ). bit_at marks v ≡ true) members var are.marked there)));
     }
 
 pub counted-insert : (marks : List Bool) (members : List ℕ) (var : ℕ) → var < length marks → bit_at marks var ≡ false → length members ≡ count_by (λ mark. mark) marks → length (members ++ var ∷ []) ≡ count_by (λ mark. mark) (set marks var true)
@@ -115,9 +74,9 @@ room-left marks members var inside new counted =
 pub AreMembers-pop : (marks : List Bool) (members rest : List ℕ) (var : ℕ) → AreMembers marks members → members ≡ rest ++ var ∷ [] → AreMembers (set marks var false) rest
 AreMembers-pop marks members rest var are whole =
     let long = length-set marks var false in
-    let once = once-front rest var (subst IsRepeatFree whole are.once) in
+    let once = is_repeat_free-front rest var (subst IsRepeatFree whole are.once) in
     let front : (i : ℕ) → is_listed rest i ≡ true → is_listed members i ≡ true =
-    λ i there. ap (λ (list : List ℕ). is_listed list i) whole ∙ pushed-front rest var i there in
+    λ i there. ap (λ (list : List ℕ). is_listed list i) whole ∙ listed-left rest (var ∷ []) i there in
     record {
       inside = All-each (λ (v : ℕ). v < length (set marks var false)) rest (λ i there.
           let below : i < length marks = All-listed (λ (v : ℕ). v < length marks) members i are.inside (front i there) in

@@ -9,20 +9,21 @@ use Rattle.hz_net.specs.Network.{Driver, External, Function, Source, network_of,
 use Rattle.hz_net.specs.Reads.{Reads, readers_of}
 use Rattle.hz_net.proofs.Places.{driver_at-input, driver_at-gate, driver_at-wire}
 use Rattle.hz_net.proofs.Readers.{reads-or-not, driver_value-same, reads-reader, node-readers}
-use Rattle.hz_gmw.specs.Runs.{is_listed, state_after}
+use Rattle.hz_lists.specs.Listed.{is_listed}
+use Rattle.hz_gmw.specs.Runs.{state_after}
 use Rattle.hz_gmw.specs.Instability.{is_unstable}
 use Rattle.hz_gmw.specs.CurrentState.{with_readers}
 use Rattle.hz_gmw.proofs.Flips.{length-state_after, at-state_after}
 use Rattle.hz_gmw.proofs.DriverLemmas.{fan-above}
-use Rattle.hz_gmw.proofs.LeastLemmas.{listed-head, listed-tail, listed-cases, listed-append, listed-Contains}
+use Rattle.hz_lists.proofs.ListedLemmas.{listed-first, listed-tail, first-or-later, listed-append, listed-Contains}
 
 -- a driver reads a listed variable, or none
 pub some-read : (driver : Driver) (flips : List ℕ) → ((i : ℕ) → IsTrue (is_listed flips i) → Reads driver i → ⊥) ⊎ ((i : ℕ) × IsTrue (is_listed flips i) × Reads driver i)
 some-read driver [] = inl (λ i listed reads. false≢true listed)
 some-read driver (x ∷ flips) = elim (reads-or-not driver x) [
-  | inl reads ↦ inr (x, listed-head x x flips refl, reads)
+  | inl reads ↦ inr (x, listed-first x x flips refl, reads)
   | inr other ↦ elim (some-read driver flips) [
-    | inl none ↦ inl (λ i listed reads. elim (listed-cases i x flips listed) [
+    | inl none ↦ inl (λ i listed reads. elim (first-or-later i x flips listed) [
       | inl same ↦ other (subst (Reads driver) same reads)
       | inr rest ↦ none i rest reads
     ])
@@ -56,7 +57,7 @@ is_unstable-input netlist input state number i bit circuit inside differ =
 
 listed-flat : (f : ℕ → List ℕ) (flips : List ℕ) (i j : ℕ) → is_listed flips i ≡ true → is_listed (f i) j ≡ true → is_listed (flat_map f flips) j ≡ true
 listed-flat f [] i j there inside = absurd (false≢true there)
-listed-flat f (x ∷ flips) i j there inside = listed-append (f x) (flat_map f flips) j ∙ (elim (listed-cases i x flips there) [
+listed-flat f (x ∷ flips) i j there inside = listed-append (f x) (flat_map f flips) j ∙ (elim (first-or-later i x flips there) [
   | inl same ↦ or_left (is_listed (f x) j) (is_listed (flat_map f flips) j) (ap (λ (y : ℕ). is_listed (f y) j) (sym same) ∙ inside)
   | inr rest ↦ or_right (is_listed (f x) j) (is_listed (flat_map f flips) j) (listed-flat f flips i j rest inside)
 ])
@@ -84,7 +85,7 @@ is_unstable-unread net input state flips j still none =
 pub is_unstable-state_after : (netlist : Netlist) (input state : List Bool) (flips : List ℕ) (j : ℕ) → IsCircuit netlist → is_listed (flat_map (with_readers netlist) flips) j ≡ false → is_unstable (network_of netlist) input (state_after flips state) j ≡ is_unstable (network_of netlist) input state j
 is_unstable-state_after netlist input state flips j circuit apart =
     is_unstable-unread (network_of netlist) input state flips j
-    (false_from_ne_true (is_listed flips j) (λ there. false≢true (sym apart ∙ listed-flat (with_readers netlist) flips j j there (listed-head j j (readers_of netlist j) refl))))
+    (false_from_ne_true (is_listed flips j) (λ there. false≢true (sym apart ∙ listed-flat (with_readers netlist) flips j j there (listed-first j j (readers_of netlist j) refl))))
     (λ i there reads. false≢true (sym apart ∙ listed-flat (with_readers netlist) flips i j there (listed-tail j i (readers_of netlist i) (listed-Contains (readers_of netlist i) j (reads-reader netlist circuit i j reads)))))
 
 -- A node doesn't read itself: when it changes, its excitation stays.

@@ -8,26 +8,28 @@ use Rattle.std.proofs.lemmas.List.{length-set, get_or-set_same, get_or-set_other
 use Rattle.std.proofs.lemmas.List.FromFn.{get_or-map-range_with_len}
 use Rattle.std.proofs.lemmas.List.Elements.{All-head, All-tail}
 use Rattle.std.proofs.lemmas.List.Sums.{sum_by-cons}
+use Rattle.hz_net.specs.declared.variable.VarKind.TheVariants.{Input, Gate as GateVariable, Wire as WireVariable}
 use Rattle.hz_core.specs.declared.kind.Kind.{Kind}
 use Rattle.hz_core.specs.Netlist.{Netlist, IsCircuit}
 use Rattle.hz_net.specs.Network.{Driver, External, Function, Source, network_of, driver_at, bit_at, excitation, IsUnstable}
 use Rattle.hz_net.specs.Variables.{fan_out_of}
 use Rattle.hz_net.specs.Reads.{Reads, IsWireInto, IsWired}
 use Rattle.hz_net.specs.declared.variable.VarKind.{VarKind}
-use Rattle.hz_net.specs.declared.variable.VarKind.TheVariants.{Input, Gate as GateVariable, Wire as WireVariable}
 use Rattle.hz_net.proofs.Places.{length-network_of, driver_at-wire}
 use Rattle.hz_net.proofs.Wires.{IsWireFrom-node, IsWireFrom-driver_at}
 use Rattle.hz_net.proofs.Wired.{wired-network_of, is_gate_of}
-use Rattle.hz_gmw.specs.Runs.{is_listed, IsRepeatFree, IsStep, state_after}
+use Rattle.hz_lists.specs.Listed.{is_listed, IsRepeatFree}
+use Rattle.hz_gmw.specs.Runs.{IsStep, state_after}
 use Rattle.hz_gmw.specs.Instability.{is_unstable, unstable_variables, unstable_count}
 use Rattle.hz_gmw.specs.VariableSets.{AreMembers}
-use Rattle.hz_gmw.specs.CurrentState.{IsKindAt, unstable_from, with_marks}
+use Rattle.hz_gmw.specs.CurrentState.{unstable_from, with_marks}
+use Rattle.hz_net.specs.Driven.{IsDrivenAs}
 use Rattle.hz_gmw.specs.Replayer.{Replayer, watched_after}
 use Rattle.hz_gmw.specs.Watches.{lapses, is_watched, watched_variables, unstable_unchanged, RecordsStable}
 use Rattle.hz_gmw.proofs.Bits.{beq-same}
 use Rattle.hz_gmw.proofs.Flips.{at-state_after}
 use Rattle.hz_gmw.proofs.Marks.{at-with_marks}
-use Rattle.hz_gmw.proofs.LeastLemmas.{listed-head, listed-tail, listed-cases, listed-other, All-listed}
+use Rattle.hz_lists.proofs.ListedLemmas.{listed-first, listed-tail, first-or-later, listed-other, All-listed}
 use Rattle.hz_gmw.proofs.Counting.{weight, range-same, range-none, range-one, range-listed, list-same}
 use Rattle.hz_gmw.proofs.SetLemmas.{unmarked}
 use Rattle.hz_gmw.proofs.DriverLemmas.{fan-driver, driver-fan, node-once, node-inside}
@@ -52,8 +54,8 @@ notes-then net input state first now next x list one rest = record {
     | inl before ↦ one.only i before
     | inr stable ↦ inr stable
   ];
-  every = λ gate wire there into stable. elim (listed-cases wire x list there) [
-    | inl here ↦ rest.kept gate (one.every gate wire (listed-head wire x [] here) into stable)
+  every = λ gate wire there into stable. elim (first-or-later wire x list there) [
+    | inl here ↦ rest.kept gate (one.every gate wire (listed-first wire x [] here) into stable)
     | inr later ↦ rest.every gate wire later into stable
   ];
 }
@@ -64,7 +66,7 @@ notes-node net input state marks var none = record {
   long = refl;
   kept = λ i marked. marked;
   only = λ i marked. inl marked;
-  every = λ gate wire there into stable. elim (listed-cases wire var [] there) [
+  every = λ gate wire there into stable. elim (first-or-later wire var [] there) [
     | inl here ↦ absurd (none gate (subst (IsWireInto net gate) here into))
     | inr rest ↦ absurd (false≢true rest)
   ];
@@ -78,9 +80,9 @@ node-into netlist node gate circuit inside into =
     omega (arith, place, above, inside)
 
 -- a variable that is no wire goes into none
-pub no-wire-into : (netlist : Netlist) (var : ℕ) (kind : VarKind) → IsCircuit netlist → IsKindAt netlist var kind → ((gate pin source : ℕ) → kind ≡ WireVariable gate pin source → ⊥) → (gate : ℕ) → IsWireInto (network_of netlist) gate var → ⊥
-no-wire-into netlist var (Input number) circuit at other gate into = node-into netlist var gate circuit at.2 into
-no-wire-into netlist var (GateVariable kind) circuit at other gate into = node-into netlist var gate circuit at.1.1 into
+pub no-wire-into : (netlist : Netlist) (var : ℕ) (kind : VarKind) → IsCircuit netlist → IsDrivenAs netlist var kind → ((gate pin source : ℕ) → kind ≡ WireVariable gate pin source → ⊥) → (gate : ℕ) → IsWireInto (network_of netlist) gate var → ⊥
+no-wire-into netlist var (Input number) circuit at other gate into = node-into netlist var gate circuit at.is_node into
+no-wire-into netlist var (GateVariable kind) circuit at other gate into = node-into netlist var gate circuit at.is_gate.1 into
 no-wire-into netlist var (WireVariable named pin source) circuit at other gate into = other named pin source refl
 
 -- a wire whose gate is unstable
@@ -89,7 +91,7 @@ notes-unstable netlist input state marks gate wire circuit into unstable = recor
   long = refl;
   kept = λ i marked. marked;
   only = λ i marked. inl marked;
-  every = λ other listed there its stable. elim (listed-cases listed wire [] there) [
+  every = λ other listed there its stable. elim (first-or-later listed wire [] there) [
     | inl here ↦ (
         let wired : IsWired (network_of netlist) = wired-network_of netlist circuit in
         let same : other ≡ gate = wired.own other gate wire (subst (IsWireInto (network_of netlist) other) here its) into in
@@ -111,7 +113,7 @@ notes-stable netlist input state marks gate wire circuit into inside stable = re
     | inl same ↦ inr (ap (is_unstable (network_of netlist) input state) same ∙ stable)
     | inr other ↦ inl (sym (get_or-set_other marks gate i true false other) ∙ marked)
   ];
-  every = λ other listed there its still. elim (listed-cases listed wire [] there) [
+  every = λ other listed there its still. elim (first-or-later listed wire [] there) [
     | inl here ↦ (
         let wired : IsWired (network_of netlist) = wired-network_of netlist circuit in
         let same : other ≡ gate = wired.own other gate wire (subst (IsWireInto (network_of netlist) other) here its) into in
@@ -165,21 +167,21 @@ watched-none net input state c s i left right =
 
 -- a listed node lapses, and so do the wires from it; where it is not listed they don't, on its account
 node-lapses : (netlist : Netlist) (x : ℕ) (list : List ℕ) (i : ℕ) → IsCircuit netlist → x < length netlist.names → is_listed (x ∷ fan_out_of netlist x) i ≡ true → lapses (driver_at (network_of netlist) i) (is_listed (x ∷ list)) never i ≡ true
-node-lapses netlist x list i circuit inside there = elim (listed-cases i x (fan_out_of netlist x) there) [
+node-lapses netlist x list i circuit inside there = elim (first-or-later i x (fan_out_of netlist x) there) [
   | inl same ↦ subst (λ (j : ℕ). lapses (driver_at (network_of netlist) j) (is_listed (x ∷ list)) never j ≡ true) (sym same) (own (driver_at (network_of netlist) x) refl)
-  | inr wire ↦ ap (λ (d : Driver). lapses d (is_listed (x ∷ list)) never i) (fan-driver netlist x i circuit wire) ∙ listed-head x x list refl
+  | inr wire ↦ ap (λ (d : Driver). lapses d (is_listed (x ∷ list)) never i) (fan-driver netlist x i circuit wire) ∙ listed-first x x list refl
 ]
   where
     own : (driver : Driver) → driver_at (network_of netlist) x ≡ driver → lapses driver (is_listed (x ∷ list)) never x ≡ true
-    own (External place) e = or-false (is_listed (x ∷ list) x) ∙ listed-head x x list refl
-    own (Function kind first pins) e = or-false (is_listed (x ∷ list) x) ∙ listed-head x x list refl
+    own (External place) e = or-false (is_listed (x ∷ list) x) ∙ listed-first x x list refl
+    own (Function kind first pins) e = or-false (is_listed (x ∷ list) x) ∙ listed-first x x list refl
     own (Source node) e = (
         let into = (wired-network_of netlist circuit).gate x node e in
         absurd (node-into netlist x into.0 circuit inside into.1)
         )
 
 node-stays : (netlist : Netlist) (x : ℕ) (list : List ℕ) (i : ℕ) → IsCircuit netlist → x < length netlist.names → is_listed list x ≡ false → is_listed (x ∷ fan_out_of netlist x) i ≡ true → lapses (driver_at (network_of netlist) i) (is_listed list) never i ≡ false
-node-stays netlist x list i circuit inside new there = elim (listed-cases i x (fan_out_of netlist x) there) [
+node-stays netlist x list i circuit inside new there = elim (first-or-later i x (fan_out_of netlist x) there) [
   | inl same ↦ subst (λ (j : ℕ). lapses (driver_at (network_of netlist) j) (is_listed list) never j ≡ false) (sym same) (own (driver_at (network_of netlist) x) refl)
   | inr wire ↦ ap (λ (d : Driver). lapses d (is_listed list) never i) (fan-driver netlist x i circuit wire) ∙ new
 ]
@@ -197,7 +199,7 @@ node-apart : (netlist : Netlist) (x : ℕ) (list : List ℕ) (i : ℕ) → IsCir
 node-apart netlist x list i circuit missing = by (driver_at (network_of netlist) i) refl
   where
     other : i ≢ x
-    other same = false≢true (sym missing ∙ listed-head i x (fan_out_of netlist x) same)
+    other same = false≢true (sym missing ∙ listed-first i x (fan_out_of netlist x) same)
 
     by : (driver : Driver) → driver_at (network_of netlist) i ≡ driver → lapses driver (is_listed (x ∷ list)) never i ≡ lapses driver (is_listed list) never i
     by (External place) e = ap (λ (b : Bool). b || false) (listed-other i x list other)
@@ -263,8 +265,8 @@ module _ (netlist : Netlist) (circuit : IsCircuit netlist) (input state : List B
   stable-lapse changed x list inside = by (driver_at (network_of netlist) x) refl
     where
       by : (driver : Driver) → driver_at (network_of netlist) x ≡ driver → lapses driver changed (is_listed (x ∷ list)) x ≡ true
-      by (External place) e = or_right (changed x) (is_listed (x ∷ list) x) (listed-head x x list refl)
-      by (Function kind first pins) e = or_right (changed x) (is_listed (x ∷ list) x) (listed-head x x list refl)
+      by (External place) e = or_right (changed x) (is_listed (x ∷ list) x) (listed-first x x list refl)
+      by (Function kind first pins) e = or_right (changed x) (is_listed (x ∷ list) x) (listed-first x x list refl)
       by (Source node) e = (
           let into = (wired-network_of netlist circuit).gate x node e in
           absurd (node-into netlist x into.0 circuit inside into.1)

@@ -1,37 +1,32 @@
 -- The current state of a network as a replayer keeps it, and what is counted of it.
-use Rattle.std.specs.Prelude.{◌≡◌, ℕ, ◌+◌, ◌<◌, ◌≤◌, Bool, true, List, ◌∷◌, length, fold, count_by, slice_set, slice_index_or, IsTrue, nat_lt, if◌then◌else◌}
+use Rattle.std.specs.Prelude.{◌≡◌, ℕ, ◌<◌, Bool, true, not, List, ◌∷◌, length, fold, count_by, slice_set, slice_index_or, nat_lt, if◌then◌else◌}
 use Rattle.std.specs.List.{range_with_len}
 use Rattle.hz_core.specs.declared.kind.Kind.{Kind}
-use Rattle.hz_core.specs.Gate.{takes}
-use Rattle.hz_core.specs.Netlist.{Netlist, IsCircuit, IsWhole, IsGateNumber, gate_at}
-use Rattle.hz_net.specs.Network.{External, Function, Source, network_of, driver_at, bit_at}
-use Rattle.hz_net.specs.Variables.{first_wire, fan_out_of}
-use Rattle.hz_net.specs.Reads.{IsWireInto, readers_of}
-use Rattle.hz_net.specs.declared.variable.VarKind.{VarKind}
-use Rattle.hz_net.specs.declared.variable.VarKind.TheVariants.{Input, Gate as GateVariable, Wire as WireVariable}
+use Rattle.hz_core.specs.Netlist.{Netlist, IsCircuit, IsWhole}
+use Rattle.hz_net.specs.Network.{Function, network_of, driver_at, bit_at, excitation, IsState, IsInput}
+use Rattle.hz_net.specs.Variables.{fan_out_of}
+use Rattle.hz_net.specs.Reads.{readers_of}
 use Rattle.hz_gmw.specs.Instability.{is_unstable, unstable_count}
 use Rattle.hz_gmw.specs.declared.current_state.CurrentState.{CurrentState}
 
--- How a variable is driven by what it is: an input by its place, a gate by its function of its own wires, a wire by its source.
--- All of these are there, and a wire goes into its gate.
-abbrev pub IsKindAt : Netlist → ℕ → VarKind → Type 0
-IsKindAt netlist var (Input number) =
-    (driver_at (network_of netlist) var ≡ External number) × (number < netlist.inputs) × (var < length netlist.names)
-IsKindAt netlist var (GateVariable kind) =
-    (driver_at (network_of netlist) var ≡ Function kind (first_wire netlist var) (length (gate_at netlist var).sources))
-    × IsGateNumber netlist var
-    × (first_wire netlist var + length (gate_at netlist var).sources ≤ length (network_of netlist))
-    × IsTrue (takes kind (length (gate_at netlist var).sources))
-IsKindAt netlist var (WireVariable gate pin source) =
-    (driver_at (network_of netlist) var ≡ Source source) × (source < length netlist.names)
-    × IsWireInto (network_of netlist) gate var × (gate < length netlist.names) × (length netlist.names ≤ var)
+-- whether variable i is unstable in the current state
+abbrev pub lags_in : Netlist → CurrentState → ℕ → Bool
+lags_in netlist current = is_unstable (network_of netlist) current.input.items current.state.items
+
+-- the excitation of variable i in the current state
+abbrev pub excitation_in : Netlist → CurrentState → ℕ → Bool
+excitation_in netlist current = excitation (network_of netlist) current.input.items current.state.items
+
+-- a state with one variable flipped
+abbrev pub with_flip : List Bool → ℕ → List Bool
+with_flip state var = slice_set state var (not (bit_at state var))
 
 -- one bit for each input and each variable of a whole circuit, and two counts for each node
 pub record Fits (netlist : Netlist) (current : CurrentState) : Type 0 where
   pub circuit : IsCircuit netlist
   pub whole : IsWhole netlist
-  pub input : length current.input.items ≡ netlist.inputs
-  pub state : length current.state.items ≡ length (network_of netlist)
+  pub input : IsInput netlist current.input.items
+  pub state : IsState netlist current.state.items
   pub ones : length current.ones.items ≡ length netlist.names
   pub wires : length current.unstable_wires.items ≡ length netlist.names
 

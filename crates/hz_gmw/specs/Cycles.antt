@@ -1,13 +1,10 @@
 -- Cycles of the multiple-winner relation, the transient ones among them, and the outcome states.
-use Rattle.std.specs.Prelude.{◌≡◌, ℕ, ◌<◌, Bool, List, [], ◌∷◌, length, Contains}
+use Rattle.std.specs.Prelude.{◌≡◌, ℕ, ◌<◌, Bool, List, [], length, Contains}
 use Rattle.std.specs.List.{AllByRecursion}
 use Rattle.hz_net.specs.Network.{Driver, bit_at, IsUnstable, IsStable}
-use Rattle.hz_gmw.specs.Runs.{state_after, IsRun, end_of, IsReachable}
-
--- the states of a run, its first one included
-abbrev pub states_of : List Bool → List (List ℕ) → List (List Bool)
-states_of state [] = state ∷ []
-states_of state (flips ∷ steps) = state ∷ states_of (state_after flips state) steps
+use Rattle.hz_gmw.specs.Runs.{IsRun, end_of, IsReachable}
+-- the states of a run, for those who speak of cycles
+pub use Rattle.hz_gmw.specs.Runs.{states_of}
 
 -- A cycle: a run with a step that ends where it began, or one stable state alone.
 pub record IsCycle (net : List Driver) (input state : List Bool) (steps : List (List ℕ)) : Type 0 where
@@ -15,14 +12,18 @@ pub record IsCycle (net : List Driver) (input state : List Bool) (steps : List (
   pub closed : end_of state steps ≡ state
   pub alone : steps ≡ [] → IsStable net input state
 
--- variable i waits in a run: it has one value in all its states, and is unstable in all of them
+-- variable i waits in a run at a value: it has this value in all its states, and is unstable in all of them
 abbrev pub WaitsAt : List Driver → List Bool → List Bool → List (List ℕ) → ℕ → Bool → Type 0
 WaitsAt net input state steps i bit =
     AllByRecursion (λ now. (bit_at now i ≡ bit) × IsUnstable net input now i) (states_of state steps)
 
--- a cycle is transient where some variable waits all around it: its delay would have to be without end
+-- variable i waits in a run: at one value or the other
+abbrev pub Waits : List Driver → List Bool → List Bool → List (List ℕ) → ℕ → Type 0
+Waits net input state steps i = (bit : Bool) × WaitsAt net input state steps i bit
+
+-- a cycle is transient if some variable waits all around it: its delay would have to be without end
 abbrev pub IsTransient : List Driver → List Bool → List Bool → List (List ℕ) → Type 0
-IsTransient net input state steps = (i : ℕ) × (i < length net) × (bit : Bool) × WaitsAt net input state steps i bit
+IsTransient net input state steps = (i : ℕ) × (i < length net) × Waits net input state steps i
 
 -- a cycle that is not transient
 pub record IsNontransient (net : List Driver) (input state : List Bool) (steps : List (List ℕ)) : Type 0 where

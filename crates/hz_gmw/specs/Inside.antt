@@ -2,7 +2,7 @@
 use Rattle.std.specs.Prelude.{◌+◌, ◌≤◌, ◌<◌, ◌^◌, length}
 use Rattle.std.specs.Vec.{vec_len, vec_capacity}
 use Rattle.hz_gmw.specs.RunRecord.{RunRecord}
-use Rattle.hz_net.specs.Parts.{parts_from, EndsAt}
+use Rattle.hz_lists.specs.Parts.{parts_from, EndsAt}
 use Rattle.hz_gmw.specs.declared.run.Run.TheInside.{Inside}
 
 -- the run that the fields hold

@@ -1,6 +1,6 @@
 -- What a replayer's fields stand for.
 use Rattle.std.specs.Prelude.{◌≡◌, ℕ, false, length, replicate}
-use Rattle.hz_net.specs.Network.{network_of, bit_at}
+use Rattle.hz_net.specs.Network.{network_of, bit_at, AreByVariable}
 use Rattle.hz_gmw.specs.Replayer.{Replayer}
 use Rattle.hz_gmw.specs.CurrentState.{IsExact}
 use Rattle.hz_gmw.specs.Watches.{WatchFits, watched_variables}
@@ -23,9 +23,9 @@ replayer_of fields = record {
 pub record HoldsReplay (fields : Inside) : Type 0 where
   pub exact : IsExact fields.net.now fields.current
   pub watch : WatchFits fields.net.now fields.watch
-  pub marked : length fields.marked.items ≡ length (network_of fields.net.now)
+  pub marked : AreByVariable fields.net.now fields.marked.items
   pub same : (i : ℕ) → bit_at fields.watch.changed i ≡ false → bit_at fields.marked.items i ≡ bit_at fields.current.state.items i
-  pub begun : length fields.begun.items ≡ length (network_of fields.net.now)
-  pub moved : length fields.moved ≡ length (network_of fields.net.now)
+  pub begun : AreByVariable fields.net.now fields.begun.items
+  pub moved : AreByVariable fields.net.now fields.moved
   pub back : (i : ℕ) → bit_at fields.moved i ≡ false → bit_at fields.begun.items i ≡ bit_at fields.current.state.items i
   pub named : fields.named ≡ replicate (length (network_of fields.net.now)) false

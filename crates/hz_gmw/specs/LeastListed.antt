@@ -1,6 +1,6 @@
 -- The least of listed numbers that pass a test, and the least that is listed twice.
 use Rattle.std.specs.Prelude.{ℕ, Bool, true, List, [], ◌∷◌, Option, Some, slice_set, if◌then◌else◌}
-use Rattle.hz_core.specs.Least.{option_min}
+use Rattle.hz_lists.specs.Least.{option_min}
 use Rattle.hz_net.specs.Network.{bit_at}
 
 -- the least of what was found before and of the numbers in a list that pass a test

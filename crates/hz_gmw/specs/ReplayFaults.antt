@@ -1,9 +1,10 @@
 -- Why a list is no step, and why the states since a mark are no nontransient cycle.
 use Rattle.std.specs.Prelude.{◌≡◌, ◌≢◌, ℕ, ◌<◌, ◌≤◌, Bool, List, [], length, IsTrue, nat_eq, count_by}
 use Rattle.hz_net.specs.Network.{Driver, bit_at, excitation, IsUnstable}
-use Rattle.hz_gmw.specs.Runs.{is_listed, IsRepeatFree, end_of}
-use Rattle.hz_gmw.specs.Cycles.{WaitsAt}
-use Rattle.hz_core.specs.Least.{IsLeast}
+use Rattle.hz_lists.specs.Listed.{is_listed, IsRepeatFree}
+use Rattle.hz_gmw.specs.Runs.{end_of}
+use Rattle.hz_gmw.specs.Cycles.{Waits}
+use Rattle.hz_lists.specs.Least.{IsLeast}
 use Rattle.hz_gmw.specs.declared.replay_fault.StepFault.{StepFault}
 use Rattle.hz_gmw.specs.declared.replay_fault.StepFault.TheVariants.{Empty, Repeated, Stable}
 use Rattle.hz_gmw.specs.declared.replay_fault.CycleFault.{CycleFault}
@@ -30,4 +31,4 @@ IsCycleFault net input state steps (NotStable var) =
     (steps ≡ []) × IsLeast (λ i. (i < length net) × IsUnstable net input state i) var
 IsCycleFault net input state steps (Transient var) =
     (end_of state steps ≡ state) × (steps ≢ [])
-    × IsLeast (λ i. (i < length net) × ((bit : Bool) × WaitsAt net input state steps i bit)) var
+    × IsLeast (λ i. (i < length net) × Waits net input state steps i) var

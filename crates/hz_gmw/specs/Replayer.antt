@@ -2,9 +2,10 @@
 use Rattle.std.specs.Prelude.{◌≡◌, ◌≢◌, ◌↔◌, ℕ, ◌<◌, Bool, true, false, not, ◌&&◌, List, [], length, map, IsTrue}
 use Rattle.std.specs.List.{range_with_len}
 use Rattle.hz_core.specs.Netlist.{Netlist}
-use Rattle.hz_net.specs.Network.{network_of, bit_at}
-use Rattle.hz_gmw.specs.Runs.{is_listed, state_after, IsRun, end_of}
-use Rattle.hz_gmw.specs.Cycles.{WaitsAt}
+use Rattle.hz_net.specs.Network.{network_of, bit_at, IsVariable}
+use Rattle.hz_lists.specs.Listed.{is_listed}
+use Rattle.hz_gmw.specs.Runs.{state_after, IsRun, end_of}
+use Rattle.hz_gmw.specs.Cycles.{Waits}
 use Rattle.hz_gmw.specs.Instability.{is_unstable, unstable_variables}
 
 -- What a replayer keeps: the circuit, the external input, the state in which it began, the current state, the marked
@@ -18,17 +19,14 @@ pub record Replayer : Type 0 where
   pub stepped : Bool
   pub watched : List Bool
 
--- a variable waits all along a run: it has one value in all its states, and is unstable in all of them
-abbrev pub Waits : Replayer → List (List ℕ) → ℕ → Type 0
-Waits now steps i = (bit : Bool) × WaitsAt (network_of now.circuit) now.input now.marked steps i bit
-
 -- A replayer stands for a run from its marked state to its current one, which has a step exactly where one was made since
 -- the mark, and all along which exactly the watched variables wait.
 pub record StandsFor (now : Replayer) (steps : List (List ℕ)) : Type 0 where
   pub run : IsRun (network_of now.circuit) now.input now.marked steps
   pub ends : end_of now.marked steps ≡ now.state
   pub stepped : IsTrue now.stepped ↔ (steps ≢ [])
-  pub watched : (i : ℕ) → i < length (network_of now.circuit) → IsTrue (bit_at now.watched i) ↔ Waits now steps i
+  pub watched : (i : ℕ) → IsVariable now.circuit i →
+      IsTrue (bit_at now.watched i) ↔ Waits (network_of now.circuit) now.input now.marked steps i
 
 -- a replayer that began in one state, and whose current state is marked, with no step since
 abbrev pub replayer_at : Netlist → List Bool → List Bool → List Bool → Replayer

@@ -1,18 +1,9 @@
 -- The general multiple-winner model: steps, runs and reachable states under an input that stays.
-use Rattle.std.specs.Prelude.{◌≡◌, ◌≢◌, ℕ, suc, ◌<◌, Bool, false, not, if◌then◌else◌, List, [], ◌∷◌, length, IsTrue, nat_eq}
-use Rattle.std.specs.List.{list_any}
+use Rattle.std.specs.Prelude.{◌≡◌, ◌≢◌, ℕ, suc, ◌<◌, Bool, false, not, if◌then◌else◌, List, [], ◌∷◌, length, IsTrue}
+use Rattle.hz_lists.specs.Listed.{is_listed, IsRepeatFree}
 use Rattle.hz_core.specs.declared.tri.Tri.{Tri}
 use Rattle.hz_core.specs.Ternary.{IsJoinOf}
 use Rattle.hz_net.specs.Network.{Driver, bit_at, IsUnstable}
-
--- whether a list names a variable
-abbrev pub is_listed : List ℕ → ℕ → Bool
-is_listed flips i = list_any (nat_eq i) flips
-
--- a list names no variable twice
-abbrev pub IsRepeatFree : List ℕ → Type 0
-IsRepeatFree [] = Unit {0}
-IsRepeatFree (i ∷ flips) = (is_listed flips i ≡ false) × IsRepeatFree flips
 
 -- Some variables may change at once: at least one, each named once, and only variables that are unstable.
 pub record IsStep (net : List Driver) (input state : List Bool) (flips : List ℕ) : Type 0 where
@@ -40,6 +31,11 @@ IsRun net input state (flips ∷ steps) = IsStep net input state flips × IsRun 
 abbrev pub end_of : List Bool → List (List ℕ) → List Bool
 end_of state [] = state
 end_of state (flips ∷ steps) = end_of (state_after flips state) steps
+
+-- the states of a run, its first one included
+abbrev pub states_of : List Bool → List (List ℕ) → List (List Bool)
+states_of state [] = state ∷ []
+states_of state (flips ∷ steps) = state ∷ states_of (state_after flips state) steps
 
 -- some run from the start ends in the state
 abbrev pub IsReachable : List Driver → List Bool → List Bool → List Bool → Type 0

@@ -1,7 +1,7 @@
 -- Sets of variables: what their fields hold, and what their members are.
 use Rattle.std.specs.Prelude.{◌≡◌, ℕ, ◌<◌, ◌≤◌, Bool, true, List, length, All, count_by, vec_capacity}
 use Rattle.hz_net.specs.Network.{bit_at}
-use Rattle.hz_gmw.specs.Runs.{is_listed, IsRepeatFree}
+use Rattle.hz_lists.specs.Listed.{is_listed, IsRepeatFree}
 use Rattle.hz_gmw.specs.declared.variable_set.VariableSet.TheInside.{Inside}
 
 -- a list has the variables that are marked, each once, and no others

@@ -2,15 +2,16 @@
 use Rattle.std.specs.Prelude.{◌≡◌, ℕ, ◌⊎◌, Bool, true, false, not, ◌&&◌, ◌||◌, List, length, map}
 use Rattle.std.specs.List.{range_with_len}
 use Rattle.hz_core.specs.Netlist.{Netlist}
-use Rattle.hz_net.specs.Network.{Driver, External, Function, Source, network_of, driver_at, bit_at}
+use Rattle.hz_net.specs.Network.{Driver, External, Function, Source, driver_at, bit_at, AreByVariable, network_of}
 use Rattle.hz_net.specs.Reads.{IsWireInto}
-use Rattle.hz_gmw.specs.Runs.{is_listed}
+use Rattle.hz_lists.specs.Listed.{is_listed}
 use Rattle.hz_gmw.specs.Instability.{is_unstable}
+use Rattle.hz_gmw.specs.declared.current_state.CurrentState.{CurrentState}
 use Rattle.hz_gmw.specs.declared.watch.Watch.{Watch}
 
 -- one mark for each variable, and one for each node
 pub record WatchFits (netlist : Netlist) (watch : Watch) : Type 0 where
-  pub changed : length watch.changed ≡ length (network_of netlist)
+  pub changed : AreByVariable netlist watch.changed
   pub been_stable : length watch.been_stable ≡ length netlist.names
 
 -- Whether variable i can't have waited since the mark, by the variables that changed since and the gates that were stable: a
@@ -31,6 +32,11 @@ abbrev pub watched_variables : List Driver → List Bool → List Bool → (ℕ 
 watched_variables net input state changed been_stable =
     map (is_watched net input state changed been_stable) (range_with_len 0 (length net))
 
+-- of each variable whether it is watched, in the current state
+abbrev pub watched_in : Netlist → CurrentState → Watch → ℕ → Bool
+watched_in netlist current watch =
+    is_watched (network_of netlist) current.input.items current.state.items (bit_at watch.changed) (bit_at watch.been_stable)
+
 -- whether variable i is unstable and did not change
 abbrev pub unstable_unchanged : List Driver → List Bool → List Bool → (ℕ → Bool) → ℕ → Bool
 unstable_unchanged net input state changed i = is_unstable net input state i && not (changed i)
@@ -42,3 +48,8 @@ pub record RecordsStable (net : List Driver) (input state : List Bool) (flips : 
   pub kept : (i : ℕ) → bit_at before i ≡ true → bit_at after i ≡ true
   pub only : (i : ℕ) → bit_at after i ≡ true → (bit_at before i ≡ true) ⊎ (is_unstable net input state i ≡ false)
   pub every : (gate wire : ℕ) → is_listed flips wire ≡ true → IsWireInto net gate wire → is_unstable net input state gate ≡ false → bit_at after gate ≡ true
+
+-- the same before the listed variables of the current state change
+abbrev pub NotesStable : Netlist → CurrentState → List ℕ → List Bool → List Bool → Type 0
+NotesStable netlist current flips before after =
+    RecordsStable (network_of netlist) current.input.items current.state.items flips before after

@@ -13,23 +13,25 @@
 //! add a kind of variable with readers of its own: `change_node`, `unstable_from` and `unstable_into` do not count them.
 ghost use Rattle.std.specs.Prelude.{◌≡◌, ◌<◌, ◌≤◌, ◌-◌, ◌+◌, ◌∷◌, true, false, not, length, count_by, sum_by, All, IfOk, slice_set, replicate, if◌then◌else◌};
 ghost use Rattle.hz_core.specs.Netlist.{IsCircuit};
-ghost use Rattle.hz_net.specs.Network.{network_of, driver_at, excitation, Source, bit_at};
+ghost use Rattle.hz_net.specs.Network.{network_of, driver_at, excitation, Source, IsState, IsInput, IsVariable};
 ghost use Rattle.hz_net.specs.Reads.{IsWireInto};
 ghost use Rattle.hz_net.specs.Variables.{fan_out_of};
-ghost use Rattle.hz_gmw.specs.Runs.{IsRepeatFree, state_after};
+ghost use Rattle.hz_lists.specs.Listed.{IsRepeatFree};
+ghost use Rattle.hz_gmw.specs.Runs.{state_after};
 ghost use Rattle.hz_gmw.specs.Instability.{is_unstable, unstable_count};
 ghost use Rattle.hz_gmw.specs.LeastListed.{least_from};
-ghost use Rattle.hz_gmw.specs.CurrentState.{IsKindAt};
+ghost use Rattle.hz_net.specs.Driven.{IsDrivenAs};
 ghost use Rattle.hz_core.specs.Limits.{most_variables};
 
 use crate::ones::value_of_ones;
-use hz_core::{Memory, lesser};
+use hz_core::Memory;
+use hz_lists::lesser;
 use hz_net::{Net, VarKind};
 use std::alloc::Global;
 
-// The external input and the state, of each node how many of its pins are 1 and how many of the wires from it are
-// unstable, and how many variables are unstable in all. With these counts a variable changes in constant time, whatever
-// its fan-out, and whether a variable is unstable is told in constant time too.
+/// The external input and the state, of each node how many of its pins are 1 and how many of the wires from it are
+/// unstable, and how many variables are unstable in all. With these counts a variable changes in constant time, whatever
+/// its fan-out, and whether a variable is unstable is told in constant time too.
 #[derive(Debug, Drop)]
 pub(crate) struct CurrentState {
     pub input: Vec<bool>,
@@ -40,26 +42,20 @@ pub(crate) struct CurrentState {
 }
 
 impl CurrentState {
-    ghost use Rattle.hz_gmw.specs.CurrentState.{IsCounted, IsExact, with_readers, with_bits_of, unstable_from};
+    ghost use Rattle.hz_gmw.specs.CurrentState.{IsCounted, IsExact, lags_in, excitation_in, with_flip, with_readers, with_bits_of, unstable_from};
 
-    // Every input and every variable is 0.
+    /// Every input and every variable is 0.
     pub(crate) fn new(alloc: Global, net: &Net) -> Result<CurrentState, Memory>
         ensures exact { IfOk result (λ current. IsExact net.now current) }
-        ensures input { IfOk result (λ current. current.input.items ≡ replicate net.now.inputs false) }
-        ensures state { IfOk result (λ current. current.state.items ≡ replicate (length (network_of net.now)) false) }
+        ensures input { IfOk result
+            (λ current. current.input.items ≡ replicate net.now.inputs false) }
+        ensures state { IfOk result
+            (λ current. current.state.items ≡ replicate (length (network_of net.now)) false) }
     {
-        let Ok(input) = vec![in alloc; false; net.circuit().inputs() as usize] else {
-            return Err(Memory);
-        };
-        let Ok(state) = vec![in alloc; false; net.len() as usize] else {
-            return Err(Memory);
-        };
-        let Ok(ones) = vec![in alloc; 0; net.circuit().nodes() as usize] else {
-            return Err(Memory);
-        };
-        let Ok(unstable_wires) = vec![in alloc; 0; net.circuit().nodes() as usize] else {
-            return Err(Memory);
-        };
+        let input = vec![in alloc; false; net.circuit().inputs() as usize]?;
+        let state = vec![in alloc; false; net.len() as usize]?;
+        let ones = vec![in alloc; 0; net.circuit().nodes() as usize]?;
+        let unstable_wires = vec![in alloc; 0; net.circuit().nodes() as usize]?;
         let mut current = CurrentState {
             input,
             state,
@@ -71,10 +67,10 @@ impl CurrentState {
         Ok(current)
     }
 
-    // Changes the listed variables, each once.
+    /// Changes the listed variables, each once.
     pub(crate) fn advance(&mut self, net: &Net, flips: &[u32])
         requires exact { IsExact net.now self.old }
-        requires inside { All (λ var. var < length (network_of net.now)) flips.now }
+        requires inside { All (IsVariable net.now) flips.now }
         requires once { IsRepeatFree flips.now }
         ensures exact { IsExact net.now self.new }
         ensures input { self.new.input.items ≡ self.old.input.items }
@@ -85,10 +81,10 @@ impl CurrentState {
         }
     }
 
-    // Turns the state into a given one. Only variables that differ are changed.
+    /// Turns the state into a given one. Only variables that differ are changed.
     pub(crate) fn turn_to(&mut self, net: &Net, state: &[bool])
         requires exact { IsExact net.now self.old }
-        requires state { length state.now ≡ length (network_of net.now) }
+        requires state { IsState net.now state.now }
         ensures exact { IsExact net.now self.new }
         ensures input { self.new.input.items ≡ self.old.input.items }
         ensures state { self.new.state.items ≡ state.now }
@@ -102,7 +98,7 @@ impl CurrentState {
     // The same, variable by variable.
     fn turn_each(&mut self, net: &Net, state: &[bool])
         requires exact { IsExact net.now self.old }
-        requires state { length state.now ≡ length (network_of net.now) }
+        requires state { IsState net.now state.now }
         ensures exact { IsExact net.now self.new }
         ensures input { self.new.input.items ≡ self.old.input.items }
         ensures state { self.new.state.items ≡ state.now }
@@ -112,24 +108,25 @@ impl CurrentState {
         }
     }
 
-    // Gives the listed variables the values that they have in a given state.
+    /// Gives the listed variables the values that they have in a given state.
     pub(crate) fn turn_back(&mut self, net: &Net, list: &[u32], state: &[bool])
         requires exact { IsExact net.now self.old }
-        requires inside { All (λ var. var < length (network_of net.now)) list.now }
-        requires state { length state.now ≡ length (network_of net.now) }
+        requires inside { All (IsVariable net.now) list.now }
+        requires state { IsState net.now state.now }
         ensures exact { IsExact net.now self.new }
         ensures input { self.new.input.items ≡ self.old.input.items }
-        ensures state { self.new.state.items ≡ with_bits_of state.now self.old.state.items list.now }
+        ensures state { self.new.state.items
+            ≡ with_bits_of state.now self.old.state.items list.now }
     {
         for var in list {
             self.turn(net, *var, state[*var as usize]);
         }
     }
 
-    // Turns the external input into a given one.
+    /// Turns the external input into a given one.
     pub(crate) fn turn_input(&mut self, net: &Net, input: &[bool])
         requires exact { IsExact net.now self.old }
-        requires input { length input.now ≡ net.now.inputs }
+        requires input { IsInput net.now input.now }
         ensures exact { IsExact net.now self.new }
         ensures input { self.new.input.items ≡ input.now }
         ensures state { self.new.state.items ≡ self.old.state.items }
@@ -139,20 +136,20 @@ impl CurrentState {
         }
     }
 
-    // Whether a variable is unstable.
+    /// Whether a variable is unstable.
     pub(crate) fn is_unstable(&self, net: &Net, var: u32) -> bool
         requires counted { IsCounted net.now self.now }
-        requires var { var < length (network_of net.now) }
-        ensures { result ≡ is_unstable (network_of net.now) self.now.input.items self.now.state.items var }
+        requires var { IsVariable net.now var }
+        ensures { result ≡ lags_in net.now self.now var }
     {
         self.state[var as usize] != self.excited(net, var)
     }
 
-    // The least listed variable that is stable.
+    /// The least listed variable that is stable.
     pub(crate) fn least_stable(&self, net: &Net, list: &[u32]) -> Option<u32>
         requires counted { IsCounted net.now self.now }
-        requires inside { All (λ var. var < length (network_of net.now)) list.now }
-        ensures { result ≡ least_from None (λ var. not (is_unstable (network_of net.now) self.now.input.items self.now.state.items var)) list.now }
+        requires inside { All (IsVariable net.now) list.now }
+        ensures { result ≡ least_from None (λ var. not (lags_in net.now self.now var)) list.now }
     {
         let mut found = None;
         for var in list {
@@ -163,12 +160,14 @@ impl CurrentState {
         found
     }
 
-    // A number less how many of the listed nodes and of the wires from them are unstable. Wires may be listed too; they
-    // count with their nodes.
+    /// A number less how many of the listed nodes and of the wires from them are unstable. Wires may be listed too; they
+    /// count with their nodes.
     pub(crate) fn without_nodes(&self, net: &Net, number: u32, list: &[u32]) -> u32
         requires counted { IsCounted net.now self.now }
-        requires inside { All (λ var. var < length (network_of net.now)) list.now }
-        ensures { result ≡ number - sum_by (unstable_from net.now self.now.input.items self.now.state.items) list.now }
+        requires inside { All (IsVariable net.now) list.now }
+        ensures { result
+            ≡ number - sum_by
+            (unstable_from net.now self.now.input.items self.now.state.items) list.now }
     {
         let mut left = number;
         for var in list {
@@ -183,7 +182,7 @@ impl CurrentState {
     // Gives a variable a value. If it has it nothing is done.
     fn turn(&mut self, net: &Net, var: u32, value: bool)
         requires exact { IsExact net.now self.old }
-        requires var { var < length (network_of net.now) }
+        requires var { IsVariable net.now var }
         ensures exact { IsExact net.now self.new }
         ensures input { self.new.input.items ≡ self.old.input.items }
         ensures state { self.new.state.items ≡ slice_set self.old.state.items var value }
@@ -209,10 +208,10 @@ impl CurrentState {
     // Changes a variable. Only the variable and those that read it may become stable or unstable.
     fn flip(&mut self, net: &Net, var: u32)
         requires exact { IsExact net.now self.old }
-        requires var { var < length (network_of net.now) }
+        requires var { IsVariable net.now var }
         ensures exact { IsExact net.now self.new }
         ensures input { self.new.input.items ≡ self.old.input.items }
-        ensures state { self.new.state.items ≡ slice_set self.old.state.items var (not (bit_at self.old.state.items var)) }
+        ensures state { self.new.state.items ≡ with_flip self.old.state.items var }
     {
         let kind = kind_at(net, var);
         match kind {
@@ -225,11 +224,11 @@ impl CurrentState {
     // Changes a node. Its excitation stays, since a node doesn't read itself.
     fn flip_node(&mut self, net: &Net, node: u32, kind: VarKind)
         requires exact { IsExact net.now self.old }
-        requires kind { IsKindAt net.now node kind }
+        requires kind { IsDrivenAs net.now node kind }
         requires node { node < length net.now.names }
         ensures exact { IsExact net.now self.new }
         ensures input { self.new.input.items ≡ self.old.input.items }
-        ensures state { self.new.state.items ≡ slice_set self.old.state.items node (not (bit_at self.old.state.items node)) }
+        ensures state { self.new.state.items ≡ with_flip self.old.state.items node }
     {
         let excited = self.excited_as(net, node, kind);
         self.unstable -= self.unstable_from(net, node, excited);
@@ -244,10 +243,10 @@ impl CurrentState {
         requires from { driver_at (network_of net.now) wire ≡ Source source }
         requires gate { gate < length net.now.names }
         requires source { source < length net.now.names }
-        requires wire { wire < length (network_of net.now) }
+        requires wire { IsVariable net.now wire }
         ensures exact { IsExact net.now self.new }
         ensures input { self.new.input.items ≡ self.old.input.items }
-        ensures state { self.new.state.items ≡ slice_set self.old.state.items wire (not (bit_at self.old.state.items wire)) }
+        ensures state { self.new.state.items ≡ with_flip self.old.state.items wire }
     {
         let kind = kind_at(net, gate);
         self.unstable -= self.unstable_into(net, wire, source, gate, kind);
@@ -261,7 +260,7 @@ impl CurrentState {
         requires node { node < length net.now.names }
         ensures counted { IsCounted net.now self.new }
         ensures input { self.new.input.items ≡ self.old.input.items }
-        ensures state { self.new.state.items ≡ slice_set self.old.state.items node (not (bit_at self.old.state.items node)) }
+        ensures state { self.new.state.items ≡ with_flip self.old.state.items node }
         ensures unstable { self.new.unstable ≡ self.old.unstable }
     {
         let wires = net.fan_out(node).len() as u32;
@@ -276,10 +275,10 @@ impl CurrentState {
         requires from { driver_at (network_of net.now) wire ≡ Source source }
         requires gate { gate < length net.now.names }
         requires source { source < length net.now.names }
-        requires wire { wire < length (network_of net.now) }
+        requires wire { IsVariable net.now wire }
         ensures counted { IsCounted net.now self.new }
         ensures input { self.new.input.items ≡ self.old.input.items }
-        ensures state { self.new.state.items ≡ slice_set self.old.state.items wire (not (bit_at self.old.state.items wire)) }
+        ensures state { self.new.state.items ≡ with_flip self.old.state.items wire }
         ensures unstable { self.new.unstable ≡ self.old.unstable }
     {
         let value = !self.state[wire as usize];
@@ -295,8 +294,8 @@ impl CurrentState {
     // The excitation of a variable: of a gate by its count of ones.
     fn excited(&self, net: &Net, var: u32) -> bool
         requires counted { IsCounted net.now self.now }
-        requires var { var < length (network_of net.now) }
-        ensures { result ≡ excitation (network_of net.now) self.now.input.items self.now.state.items var }
+        requires var { IsVariable net.now var }
+        ensures { result ≡ excitation_in net.now self.now var }
     {
         self.excited_as(net, var, kind_at(net, var))
     }
@@ -304,8 +303,8 @@ impl CurrentState {
     // The excitation of a variable of which it is known what it is.
     fn excited_as(&self, net: &Net, var: u32, kind: VarKind) -> bool
         requires counted { IsCounted net.now self.now }
-        requires kind { IsKindAt net.now var kind }
-        ensures { result ≡ excitation (network_of net.now) self.now.input.items self.now.state.items var }
+        requires kind { IsDrivenAs net.now var kind }
+        ensures { result ≡ excitation_in net.now self.now var }
     {
         match kind {
             VarKind::Input { number } => self.input[number as usize],
@@ -323,10 +322,10 @@ impl CurrentState {
         requires into { IsWireInto (network_of net.now) gate wire }
         requires from { driver_at (network_of net.now) wire ≡ Source source }
         requires source { source < length net.now.names }
-        requires wire { wire < length (network_of net.now) }
-        requires kind { IsKindAt net.now gate kind }
+        requires wire { IsVariable net.now wire }
+        requires kind { IsDrivenAs net.now gate kind }
         requires gate { gate < length net.now.names }
-        ensures { result ≡ count_by (is_unstable (network_of net.now) self.now.input.items self.now.state.items) (with_readers net.now wire) }
+        ensures { result ≡ count_by (lags_in net.now self.now) (with_readers net.now wire) }
     {
         let excited = self.excited_as(net, gate, kind);
         one_if(self.state[wire as usize] != self.state[source as usize])
@@ -337,8 +336,8 @@ impl CurrentState {
     fn unstable_from(&self, net: &Net, node: u32, excited: bool) -> u32
         requires counted { IsCounted net.now self.now }
         requires node { node < length net.now.names }
-        requires excited { excited ≡ excitation (network_of net.now) self.now.input.items self.now.state.items node }
-        ensures { result ≡ count_by (is_unstable (network_of net.now) self.now.input.items self.now.state.items) (node ∷ fan_out_of net.now node) }
+        requires excited { excited ≡ excitation_in net.now self.now node }
+        ensures { result ≡ count_by (lags_in net.now self.now) (node ∷ fan_out_of net.now node) }
     {
         one_if(self.state[node as usize] != excited) + self.unstable_wires[node as usize]
     }
@@ -346,7 +345,8 @@ impl CurrentState {
     // How many variables are unstable, by a look at each.
     fn count_unstable(&self, net: &Net) -> u32
         requires { IsCounted net.now self.now }
-        ensures { result ≡ unstable_count (network_of net.now) self.now.input.items self.now.state.items }
+        ensures { result
+            ≡ unstable_count (network_of net.now) self.now.input.items self.now.state.items }
     {
         let mut count = 0;
         for var in 0..net.len() {
@@ -369,10 +369,10 @@ fn are_same(one: &[bool], other: &[bool]) -> bool
     same
 }
 
-// What a variable is.
+/// What a variable is.
 pub(crate) fn kind_at(net: &Net, var: u32) -> VarKind
-    requires { var < length (network_of net.now) }
-    ensures kind { IsKindAt net.now var result }
+    requires { IsVariable net.now var }
+    ensures kind { IsDrivenAs net.now var result }
     ensures circuit { IsCircuit net.now }
     ensures bound { length (network_of net.now) ≤ most_variables }
 {
@@ -380,7 +380,7 @@ pub(crate) fn kind_at(net: &Net, var: u32) -> VarKind
     net.kind_of(var)
 }
 
-// 1 for what is counted, else 0.
+/// 1 for what is counted, else 0.
 pub(crate) fn one_if(counts: bool) -> u32
     ensures { result ≡ (if counts then 1 else 0) }
 {

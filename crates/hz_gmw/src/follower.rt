@@ -1,7 +1,7 @@
 //! Following runs.
-ghost use Rattle.std.specs.Prelude.{◌≡◌, ◌<◌, false, length, replicate, All, IfOk};
-ghost use Rattle.hz_net.specs.Network.{network_of};
-ghost use Rattle.hz_gmw.specs.Runs.{IsRepeatFree};
+ghost use Rattle.std.specs.Prelude.{◌≡◌, false, length, replicate, All, IfOk};
+ghost use Rattle.hz_net.specs.Network.{network_of, IsState, IsInput, IsVariable};
+ghost use Rattle.hz_lists.specs.Listed.{IsRepeatFree};
 ghost use Rattle.hz_gmw.specs.Instability.{unstable_count};
 ghost use Rattle.hz_gmw.specs.Follower.{follower_at, follower_after};
 
@@ -37,7 +37,8 @@ impl<'n> Model for Follower<'n> {
 impl<'n> Follower<'n> {
     /// It begins where every input and every variable is 0.
     pub fn new(alloc: Global, net: &'n Net) -> Result<Follower<'n>, Memory>
-        ensures { IfOk result (λ follower. follower ≡ follower_at net.now (replicate net.now.inputs false) (replicate (length (network_of net.now)) false)) }
+        ensures { IfOk result (λ follower. follower ≡ follower_at net.now
+            (replicate net.now.inputs false) (replicate (length (network_of net.now)) false)) }
     {
         let current = CurrentState::new(alloc, net)?;
         Ok(Follower { net, current })
@@ -45,8 +46,8 @@ impl<'n> Follower<'n> {
 
     /// Sets the external input and the state, one bit for each input and each variable.
     pub fn begin(&mut self, input: &[bool], state: &[bool])
-        requires input { length input.now ≡ self.old.circuit.inputs }
-        requires state { length state.now ≡ length (network_of self.old.circuit) }
+        requires input { IsInput self.old.circuit input.now }
+        requires state { IsState self.old.circuit state.now }
         ensures { self.new ≡ follower_at self.old.circuit input.now state.now }
     {
         self.current.turn_input(self.net, input);
@@ -55,7 +56,7 @@ impl<'n> Follower<'n> {
 
     /// Makes a step: changes the listed variables, each of which is listed once.
     pub fn step(&mut self, flips: &[u32])
-        requires inside { All (λ var. var < length (network_of self.old.circuit)) flips.now }
+        requires inside { All (IsVariable self.old.circuit) flips.now }
         requires once { IsRepeatFree flips.now }
         ensures { self.new ≡ follower_after self.old flips.now }
     {
@@ -64,7 +65,8 @@ impl<'n> Follower<'n> {
 
     /// How many variables are unstable in the current state.
     pub fn unstable_count(&self) -> u32
-        ensures { result ≡ unstable_count (network_of self.now.circuit) self.now.input self.now.state }
+        ensures { result
+            ≡ unstable_count (network_of self.now.circuit) self.now.input self.now.state }
     {
         self.current.unstable
     }

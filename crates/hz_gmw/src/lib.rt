@@ -13,14 +13,7 @@
 //! | `ones` | the value of a gate by how many of its pins are 1 |
 #![tactic(auto)]
 
-ghost use Rattle.std.specs.Prelude.{◌≡◌, ℕ, List, Bool, length};
-ghost use Rattle.hz_core.specs.declared.tri.Tri.{Tri};
-ghost use Rattle.hz_core.specs.Ternary.{Refines};
-ghost use Rattle.hz_net.specs.Network.{Driver};
-ghost use Rattle.hz_net.specs.Passes.{algorithm_a, algorithm_b, AreRounds};
-ghost use Rattle.hz_net.specs.TernaryStarts.{algorithm_a_from, SettlesTo};
-ghost use Rattle.hz_gmw.specs.Runs.{IsReachable};
-ghost use Rattle.hz_gmw.specs.Cycles.{IsOutcome};
+ghost use Rattle.hz_gmw.specs.Covers.{ACovers, BCovers, ACoversFrom, BCoversFrom, SettledCovers};
 
 mod current_state;
 mod follower;
@@ -40,22 +33,22 @@ pub use run::Run;
 /// Algorithm A covers: if its result is 0 or 1 at a variable, every reachable state has this value there.
 #[tactic(auto, using(crate::proofs::CoverA::covers))]
 pub fn a_covers()
-    ensures { (net : List Driver) (input start state : List Bool) (rounds : ℕ) → length start ≡ length net → AreRounds (algorithm_a net input start) rounds → IsReachable net input start state → Refines state (algorithm_a net input start rounds) }
+    ensures { ACovers }
 {}
 
 /// Algorithm B covers: if a state of its sequence from the result of Algorithm A is 0 or 1 at a variable, every
 /// outcome state has this value there.
 #[tactic(auto, using(crate::proofs::CoverB::covers_outcomes))]
 pub fn b_covers()
-    ensures { (net : List Driver) (input start state : List Bool) (rounds round : ℕ) → length start ≡ length net → AreRounds (algorithm_a net input start) rounds → IsOutcome net input start state → Refines state (algorithm_b net input (algorithm_a net input start rounds) round) }
+    ensures { BCovers }
 {}
 
 /// Both algorithms cover from a ternary state, as it stands for each binary state that refines it: if Algorithm A's result is
 /// 0 or 1 at a variable, every state that is reachable from such a start has this value there. If a state of Algorithm
 /// B's sequence is, every outcome has this value, and so for what the ternary state settles to.
-#[tactic(auto, using(crate::proofs::CoverFrom::covers_reached, crate::proofs::CoverFrom::covers_outcomes_from, crate::proofs::CoverFrom::covers_settled))]
+#[tactic(auto, using(crate::proofs::CoverFrom::covers_reached, crate::proofs::CoverFrom::covers_outcomes_from, crate::proofs::CoverFrom::covers_settled,))]
 pub fn ternary_starts_cover()
-    ensures a { (net : List Driver) (input : List Bool) (first : List Tri) (start state : List Bool) (rounds : ℕ) → length first ≡ length net → Refines start first → AreRounds (algorithm_a_from net input first) rounds → IsReachable net input start state → Refines state (algorithm_a_from net input first rounds) }
-    ensures b { (net : List Driver) (input : List Bool) (first : List Tri) (start state : List Bool) (rounds round : ℕ) → length first ≡ length net → Refines start first → AreRounds (algorithm_a_from net input first) rounds → IsOutcome net input start state → Refines state (algorithm_b net input (algorithm_a_from net input first rounds) round) }
-    ensures settled { (net : List Driver) (input : List Bool) (first settled : List Tri) (start state : List Bool) → length first ≡ length net → Refines start first → SettlesTo net input first settled → IsOutcome net input start state → Refines state settled }
+    ensures a { ACoversFrom }
+    ensures b { BCoversFrom }
+    ensures settled { SettledCovers }
 {}

@@ -1,12 +1,10 @@
 //! The replayer of runs.
 ghost use Rattle.std.specs.Prelude.{◌≡◌, ◌<◌, ◌↔◌, ◌≢◌, ℕ, List, [], ◌∷◌, ◌++◌, false, length, replicate, All, MatchOption, IfOk, IfErr, OnOk, IsTrue, is_ok, if◌then◌else◌};
-ghost use Rattle.hz_net.specs.Network.{network_of, bit_at, IsUnstable};
-ghost use Rattle.hz_gmw.specs.Runs.{IsStep};
-ghost use Rattle.hz_gmw.specs.Cycles.{IsNontransient};
+ghost use Rattle.hz_net.specs.Network.{network_of, bit_at, IsUnstable, IsState, IsInput, IsVariable};
 ghost use Rattle.hz_gmw.specs.Instability.{unstable_count};
-ghost use Rattle.hz_core.specs.Least.{IsLeastOf};
+ghost use Rattle.hz_lists.specs.Least.{IsLeastOf};
 ghost use Rattle.hz_gmw.specs.Replayer.{StandsFor, replayer_at, initial_replayer, replayer_after};
-ghost use Rattle.hz_gmw.specs.ReplayFaults.{IsStepFault, IsCycleFault};
+ghost use Rattle.hz_gmw.specs.ReplayAnswers.{IsStepFor, IsStepFaultFor, IsCycleFor, IsCycleFaultFor};
 ghost use Rattle.hz_gmw.specs.CurrentState.{with_bits_of};
 
 use crate::current_state::CurrentState;
@@ -57,18 +55,15 @@ impl<'n> Model for Replay<'n> {
 impl<'n> Replay<'n> {
     /// The current state, in which every input and every variable is 0, is marked.
     pub fn new(alloc: Global, net: &'n Net) -> Result<Replay<'n>, Memory>
-        ensures at { IfOk result (λ replay. replay ≡ initial_replayer net.now (replicate net.now.inputs false) (replicate (length (network_of net.now)) false)) }
+        ensures at { IfOk result (λ replay. replay ≡ initial_replayer net.now
+            (replicate net.now.inputs false) (replicate (length (network_of net.now)) false)) }
         ensures stands { IfOk result (λ replay. StandsFor replay []) }
     {
         let variables = net.len();
         let current = CurrentState::new(alloc, net)?;
-        let Ok(marked) = vec![in alloc; false; variables as usize] else {
-            return Err(Memory);
-        };
+        let marked = vec![in alloc; false; variables as usize]?;
         let watch = Watch::new(alloc, net)?;
-        let Ok(begun) = vec![in alloc; false; variables as usize] else {
-            return Err(Memory);
-        };
+        let begun = vec![in alloc; false; variables as usize]?;
         let moved = VariableSet::new(alloc, variables)?;
         let named = VariableSet::new(alloc, variables)?;
         Ok(Replay {
@@ -86,8 +81,8 @@ impl<'n> Replay<'n> {
     /// Sets the external input and the state, one bit for each input and each variable, and marks the state, with no step
     /// since.
     pub fn begin(&mut self, input: &[bool], state: &[bool])
-        requires input { length input.now ≡ self.old.circuit.inputs }
-        requires state { length state.now ≡ length (network_of self.old.circuit) }
+        requires input { IsInput self.old.circuit input.now }
+        requires state { IsState self.old.circuit state.now }
         ensures at { self.new ≡ initial_replayer self.old.circuit input.now state.now }
         ensures stands { StandsFor self.new [] }
     {
@@ -114,7 +109,8 @@ impl<'n> Replay<'n> {
 
     /// Marks the current state, with no step since.
     pub fn mark(&mut self)
-        ensures at { self.new ≡ replayer_at self.old.circuit self.old.input self.old.begun self.old.state }
+        ensures at { self.new
+            ≡ replayer_at self.old.circuit self.old.input self.old.begun self.old.state }
         ensures stands { StandsFor self.new [] }
     {
         take_over(
@@ -129,11 +125,13 @@ impl<'n> Replay<'n> {
     /// Makes a step of the multiple-winner relation: changes the listed variables at once. It is refused exactly if they
     /// are no step from the current state, by the first fault that stands; the replayer is then as before.
     pub fn step(&mut self, flips: &[u32]) -> Result<(), StepFault>
-        requires { All (λ var. var < length (network_of self.old.circuit)) flips.now }
-        ensures exact { IsTrue (is_ok result) ↔ IsStep (network_of self.old.circuit) self.old.input self.old.state flips.now }
-        ensures fault { IfErr result (IsStepFault (network_of self.old.circuit) self.old.input self.old.state flips.now) }
-        ensures after { self.new ≡ (if is_ok result then replayer_after self.old flips.now else self.old) }
-        ensures stands { OnOk result ((steps : List (List ℕ)) → StandsFor self.old steps → StandsFor self.new (steps ++ flips.now ∷ [])) }
+        requires { All (IsVariable self.old.circuit) flips.now }
+        ensures exact { IsTrue (is_ok result) ↔ IsStepFor self.old flips.now }
+        ensures fault { IfErr result (IsStepFaultFor self.old flips.now) }
+        ensures after { self.new
+            ≡ (if is_ok result then replayer_after self.old flips.now else self.old) }
+        ensures stands { OnOk result ((steps : List (List ℕ)) → StandsFor self.old steps
+            → StandsFor self.new (steps ++ flips.now ∷ [])) }
     {
         if let Some(fault) = self.step_fault(flips) {
             return Err(fault);
@@ -149,8 +147,10 @@ impl<'n> Replay<'n> {
     /// which no variable waits, or one stable state alone. It is refused exactly if they are not, by the first fault
     /// that stands. The replayer is as before.
     pub fn close(&mut self) -> Result<(), CycleFault>
-        ensures exact { (steps : List (List ℕ)) → StandsFor self.old steps → IsTrue (is_ok result) ↔ IsNontransient (network_of self.old.circuit) self.old.input self.old.marked steps }
-        ensures fault { (steps : List (List ℕ)) → StandsFor self.old steps → IfErr result (IsCycleFault (network_of self.old.circuit) self.old.input self.old.marked steps) }
+        ensures exact { (steps : List (List ℕ)) → StandsFor self.old steps
+            → IsTrue (is_ok result) ↔ IsCycleFor self.old steps }
+        ensures fault { (steps : List (List ℕ)) → StandsFor self.old steps
+            → IfErr result (IsCycleFaultFor self.old steps) }
         ensures same { self.new ≡ self.old }
     {
         match self.cycle_fault() {
@@ -161,7 +161,7 @@ impl<'n> Replay<'n> {
 
     /// The current value of a variable.
     pub fn value(&self, var: u32) -> bool
-        requires { var < length (network_of self.now.circuit) }
+        requires { IsVariable self.now.circuit var }
         ensures { result ≡ bit_at self.now.state var }
     {
         self.current.state[var as usize]
@@ -169,23 +169,26 @@ impl<'n> Replay<'n> {
 
     /// Whether a variable is unstable in the current state.
     pub fn unstable(&self, var: u32) -> bool
-        requires { var < length (network_of self.now.circuit) }
-        ensures { IsTrue result ↔ IsUnstable (network_of self.now.circuit) self.now.input self.now.state var }
+        requires { IsVariable self.now.circuit var }
+        ensures { IsTrue result
+            ↔ IsUnstable (network_of self.now.circuit) self.now.input self.now.state var }
     {
         self.current.is_unstable(self.net, var)
     }
 
     /// How many variables are unstable in the current state.
     pub fn unstable_count(&self) -> u32
-        ensures { result ≡ unstable_count (network_of self.now.circuit) self.now.input self.now.state }
+        ensures { result
+            ≡ unstable_count (network_of self.now.circuit) self.now.input self.now.state }
     {
         self.current.unstable
     }
 
     // Why the listed variables are no step, if they are none.
     fn step_fault(&mut self, flips: &[u32]) -> Option<StepFault>
-        requires { All (λ var. var < length (network_of self.old.circuit)) flips.now }
-        ensures answer { MatchOption result (IsStep (network_of self.old.circuit) self.old.input self.old.state flips.now) (IsStepFault (network_of self.old.circuit) self.old.input self.old.state flips.now) }
+        requires { All (IsVariable self.old.circuit) flips.now }
+        ensures answer { MatchOption result
+            (IsStepFor self.old flips.now) (IsStepFaultFor self.old flips.now) }
         ensures same { self.new ≡ self.old }
     {
         if flips.is_empty() {
@@ -202,7 +205,8 @@ impl<'n> Replay<'n> {
 
     // Why the states since the mark are no nontransient cycle, if they are none.
     fn cycle_fault(&self) -> Option<CycleFault>
-        ensures { (steps : List (List ℕ)) → StandsFor self.now steps → MatchOption result (IsNontransient (network_of self.now.circuit) self.now.input self.now.marked steps) (IsCycleFault (network_of self.now.circuit) self.now.input self.now.marked steps) }
+        ensures { (steps : List (List ℕ)) → StandsFor self.now steps
+            → MatchOption result (IsCycleFor self.now steps) (IsCycleFaultFor self.now steps) }
     {
         if let Some(var) = self.least_moved() {
             return Some(CycleFault::Differs { var });
@@ -232,7 +236,8 @@ impl<'n> Replay<'n> {
 
     // The least unstable variable. The variables are searched only if some are unstable.
     fn least_unstable(&self) -> Option<u32>
-        ensures { IsLeastOf (λ i. (i < length (network_of self.now.circuit)) × IsUnstable (network_of self.now.circuit) self.now.input self.now.state i) result }
+        ensures { IsLeastOf (λ i. (IsVariable self.now.circuit i)
+            × IsUnstable (network_of self.now.circuit) self.now.input self.now.state i) result }
     {
         if self.current.unstable == 0 {
             return None;
@@ -247,7 +252,8 @@ impl<'n> Replay<'n> {
 
     // The least watched variable.
     fn least_watched(&self) -> Option<u32>
-        ensures { IsLeastOf (λ i. (i < length (network_of self.now.circuit)) × IsTrue (bit_at self.now.watched i)) result }
+        ensures { IsLeastOf (λ i. (IsVariable self.now.circuit i)
+            × IsTrue (bit_at self.now.watched i)) result }
     {
         self.watch.least(self.net, &self.current)
     }

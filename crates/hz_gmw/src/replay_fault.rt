@@ -1,4 +1,4 @@
-// Why a replayer refuses a step or a cycle.
+//! Why a replayer refuses a step or a cycle.
 
 use thiserror::Error;
 

@@ -4,7 +4,7 @@ ghost use Rattle.std.specs.Vec.{vec_len, vec_capacity};
 ghost use Rattle.hz_gmw.specs.RunRecord.{flip_count, no_steps};
 
 use hz_core::Memory;
-use hz_net::part_at;
+use hz_lists::part_at;
 use std::alloc::Global;
 use std::marker::Model;
 
@@ -74,12 +74,8 @@ impl Run {
         if flips > MAX_FLIPS - self.flips.len() {
             return Err(Memory);
         }
-        let Ok(()) = self.flips.reserve(flips) else {
-            return Err(Memory);
-        };
-        let Ok(()) = self.ends.reserve(steps) else {
-            return Err(Memory);
-        };
+        self.flips.reserve(flips)?;
+        self.ends.reserve(steps)?;
         self.spare_flips = self.spare_flips.max(flips);
         self.spare_steps = self.spare_steps.max(steps);
         Ok(())
@@ -102,7 +98,8 @@ impl Run {
     /// Empties the run. What its steps and flips took is room again.
     pub fn clear(&mut self)
         ensures steps { self.new.steps ≡ [] }
-        ensures spare_flips { self.new.spare_flips ≡ self.old.spare_flips + flip_count self.old.steps }
+        ensures spare_flips { self.new.spare_flips
+            ≡ self.old.spare_flips + flip_count self.old.steps }
         ensures spare_steps { self.new.spare_steps ≡ self.old.spare_steps + length self.old.steps }
     {
         self.spare_flips += self.flips.len();
@@ -113,11 +110,15 @@ impl Run {
 
     /// Takes over the steps of another run, in place of those that were there. What these took is room again.
     pub fn copy_from(&mut self, other: &Run)
-        requires room_for_flips { flip_count other.now.steps ≤ self.old.spare_flips + flip_count self.old.steps }
-        requires room_for_steps { length other.now.steps ≤ self.old.spare_steps + length self.old.steps }
+        requires room_for_flips { flip_count other.now.steps
+            ≤ self.old.spare_flips + flip_count self.old.steps }
+        requires room_for_steps { length other.now.steps
+            ≤ self.old.spare_steps + length self.old.steps }
         ensures steps { self.new.steps ≡ other.now.steps }
-        ensures spare_flips { self.new.spare_flips + flip_count other.now.steps ≡ self.old.spare_flips + flip_count self.old.steps }
-        ensures spare_steps { self.new.spare_steps + length other.now.steps ≡ self.old.spare_steps + length self.old.steps }
+        ensures spare_flips { self.new.spare_flips + flip_count other.now.steps
+            ≡ self.old.spare_flips + flip_count self.old.steps }
+        ensures spare_steps { self.new.spare_steps + length other.now.steps
+            ≡ self.old.spare_steps + length self.old.steps }
     {
         self.clear();
         append(&mut self.flips, other.flips.as_slice());

@@ -8,8 +8,8 @@ use hz_core::Memory;
 use std::alloc::Global;
 use std::marker::Model;
 
-// A set of the variables below a number: a mark for each variable, and the marked ones in a list. A test and an insertion
-// take constant time, and clearing takes the time of the members.
+/// A set of the variables below a number: a mark for each variable, and the marked ones in a list. A test and an insertion
+/// take constant time, and clearing takes the time of the members.
 #[derive(Debug, Drop)]
 pub(crate) struct VariableSet {
     marks: Vec<bool>,
@@ -29,16 +29,12 @@ impl Model for VariableSet {
 }
 
 impl VariableSet {
-    // No variable, with room for that many.
+    /// No variable, with room for that many.
     pub(crate) fn new(alloc: Global, count: u32) -> Result<VariableSet, Memory>
         ensures { IfOk result (λ set. set ≡ replicate count false) }
     {
-        let Ok(marks) = vec![in alloc; false; count as usize] else {
-            return Err(Memory);
-        };
-        let Ok(members) = Vec::with_capacity(alloc, count as usize) else {
-            return Err(Memory);
-        };
+        let marks = vec![in alloc; false; count as usize]?;
+        let members = Vec::with_capacity(alloc, count as usize)?;
         Ok(VariableSet { marks, members })
     }
 
@@ -49,14 +45,14 @@ impl VariableSet {
         self.marks[var as usize]
     }
 
-    // The variables in the set, in no order.
+    /// The variables in the set, in no order.
     pub(crate) fn members(&self) -> &[u32]
         ensures { AreMembers self.now result.now }
     {
         self.members.as_slice()
     }
 
-    // Puts a variable into the set, unless it is there already.
+    /// Puts a variable into the set, unless it is there already.
     pub(crate) fn insert(&mut self, var: u32)
         requires { var < length self.old }
         ensures { self.new ≡ slice_set self.old var true }
@@ -67,7 +63,7 @@ impl VariableSet {
         }
     }
 
-    // Takes out all variables.
+    /// Takes out all variables.
     pub(crate) fn clear(&mut self)
         ensures { self.new ≡ replicate (length self.old) false }
     {
@@ -77,7 +73,7 @@ impl VariableSet {
     }
 }
 
-// Puts the listed variables into a set.
+/// Puts the listed variables into a set.
 pub(crate) fn insert_each(set: &mut VariableSet, list: &[u32])
     requires { All (λ var. var < length set.old) list.now }
     ensures { set.new ≡ with_marks set.old list.now }

@@ -1,10 +1,10 @@
 //! The variables that are watched: those that may have waited ever since the mark.
 ghost use Rattle.std.specs.Prelude.{◌≡◌, ◌<◌, ◌-◌, false, [], ◌∷◌, length, count_by, All, IfOk, IsTrue, replicate};
 ghost use Rattle.std.specs.List.{range_with_len};
-ghost use Rattle.hz_net.specs.Network.{network_of, driver_at, bit_at};
-ghost use Rattle.hz_core.specs.Least.{IsLeastOf};
+ghost use Rattle.hz_net.specs.Network.{network_of, driver_at, bit_at, IsVariable};
+ghost use Rattle.hz_lists.specs.Least.{IsLeastOf};
 ghost use Rattle.hz_gmw.specs.CurrentState.{IsCounted, IsExact, with_marks};
-ghost use Rattle.hz_gmw.specs.Watches.{WatchFits, lapses, is_watched, watched_variables, unstable_unchanged, RecordsStable};
+ghost use Rattle.hz_gmw.specs.Watches.{WatchFits, NotesStable, lapses, watched_in, watched_variables, unstable_unchanged};
 
 use crate::current_state::{CurrentState, kind_at, one_if};
 use crate::variable_set::{VariableSet, insert_each};
@@ -12,9 +12,9 @@ use hz_core::Memory;
 use hz_net::{Net, VarKind};
 use std::alloc::Global;
 
-// What happened since the mark: which variables changed, and which gates were stable when a wire into them changed. An
-// unstable wire is watched unless its source changed: had the wire changed and its source not, the wire would be stable. An
-// unstable node is watched unless it changed or was stable.
+/// What happened since the mark: which variables changed, and which gates were stable when a wire into them changed. An
+/// unstable wire is watched unless its source changed: had the wire changed and its source not, the wire would be stable. An
+/// unstable node is watched unless it changed or was stable.
 #[derive(Debug, Drop)]
 pub(crate) struct Watch {
     pub changed: VariableSet,
@@ -22,10 +22,12 @@ pub(crate) struct Watch {
 }
 
 impl Watch {
-    // Nothing happened.
+    /// Nothing happened.
     pub(crate) fn new(alloc: Global, net: &Net) -> Result<Watch, Memory>
-        ensures changed { IfOk result (λ watch. watch.changed ≡ replicate (length (network_of net.now)) false) }
-        ensures been_stable { IfOk result (λ watch. watch.been_stable ≡ replicate (length net.now.names) false) }
+        ensures changed { IfOk result
+            (λ watch. watch.changed ≡ replicate (length (network_of net.now)) false) }
+        ensures been_stable { IfOk result
+            (λ watch. watch.been_stable ≡ replicate (length net.now.names) false) }
     {
         let changed = VariableSet::new(alloc, net.len())?;
         let been_stable = VariableSet::new(alloc, net.circuit().nodes())?;
@@ -35,13 +37,14 @@ impl Watch {
         })
     }
 
-    // Notes the listed variables, which are about to change.
+    /// Notes the listed variables, which are about to change.
     pub(crate) fn note(&mut self, net: &Net, current: &CurrentState, flips: &[u32])
         requires counted { IsCounted net.now current.now }
         requires fits { WatchFits net.now self.old }
-        requires inside { All (λ var. var < length (network_of net.now)) flips.now }
+        requires inside { All (IsVariable net.now) flips.now }
         ensures changed { self.new.changed ≡ with_marks self.old.changed flips.now }
-        ensures been_stable { RecordsStable (network_of net.now) current.now.input.items current.now.state.items flips.now self.old.been_stable self.new.been_stable }
+        ensures been_stable { NotesStable net.now current.now flips.now
+            self.old.been_stable self.new.been_stable }
     {
         for var in flips {
             self.note_gate(net, current, *var);
@@ -49,7 +52,7 @@ impl Watch {
         insert_each(&mut self.changed, flips);
     }
 
-    // Forgets what happened.
+    /// Forgets what happened.
     pub(crate) fn clear(&mut self)
         ensures changed { self.new.changed ≡ replicate (length self.old.changed) false }
         ensures been_stable { self.new.been_stable ≡ replicate (length self.old.been_stable) false }
@@ -58,11 +61,14 @@ impl Watch {
         self.been_stable.clear();
     }
 
-    // The least watched variable. The variables are searched only if some are watched.
+    /// The least watched variable. The variables are searched only if some are watched.
     pub(crate) fn least(&self, net: &Net, current: &CurrentState) -> Option<u32>
         requires exact { IsExact net.now current.now }
         requires fits { WatchFits net.now self.now }
-        ensures { IsLeastOf (λ i. (i < length (network_of net.now)) × IsTrue (bit_at (watched_variables (network_of net.now) current.now.input.items current.now.state.items (bit_at self.now.changed) (bit_at self.now.been_stable)) i)) result }
+        ensures { IsLeastOf (λ i. (IsVariable net.now i)
+            × IsTrue (bit_at (watched_variables (network_of net.now)
+            current.now.input.items current.now.state.items
+            (bit_at self.now.changed) (bit_at self.now.been_stable)) i)) result }
     {
         if self.count(net, current) == 0 {
             return None;
@@ -79,7 +85,8 @@ impl Watch {
     fn count(&self, net: &Net, current: &CurrentState) -> u32
         requires exact { IsExact net.now current.now }
         requires fits { WatchFits net.now self.now }
-        ensures { result ≡ count_by (is_watched (network_of net.now) current.now.input.items current.now.state.items (bit_at self.now.changed) (bit_at self.now.been_stable)) (range_with_len 0 (length (network_of net.now))) }
+        ensures { result ≡ count_by (watched_in net.now current.now self.now)
+            (range_with_len 0 (length (network_of net.now))) }
     {
         let unstable = current.unstable;
         let unchanged = current.without_nodes(net, unstable, self.changed.members());
@@ -91,7 +98,8 @@ impl Watch {
         requires counted { IsCounted net.now current.now }
         requires fits { WatchFits net.now self.now }
         requires inside { All (λ node. node < length net.now.names) list.now }
-        ensures { result ≡ number - count_by (unstable_unchanged (network_of net.now) current.now.input.items current.now.state.items (bit_at self.now.changed)) list.now }
+        ensures { result ≡ number - count_by (unstable_unchanged (network_of net.now)
+            current.now.input.items current.now.state.items (bit_at self.now.changed)) list.now }
     {
         let mut left = number;
         for node in list {
@@ -105,8 +113,8 @@ impl Watch {
     fn contains(&self, net: &Net, current: &CurrentState, var: u32) -> bool
         requires counted { IsCounted net.now current.now }
         requires fits { WatchFits net.now self.now }
-        requires var { var < length (network_of net.now) }
-        ensures { result ≡ is_watched (network_of net.now) current.now.input.items current.now.state.items (bit_at self.now.changed) (bit_at self.now.been_stable) var }
+        requires var { IsVariable net.now var }
+        ensures { result ≡ watched_in net.now current.now self.now var }
     {
         current.is_unstable(net, var) && !self.lapsed(net, var)
     }
@@ -114,8 +122,9 @@ impl Watch {
     // Whether something happened for which a variable is watched no longer.
     fn lapsed(&self, net: &Net, var: u32) -> bool
         requires fits { WatchFits net.now self.now }
-        requires var { var < length (network_of net.now) }
-        ensures { result ≡ lapses (driver_at (network_of net.now) var) (bit_at self.now.changed) (bit_at self.now.been_stable) var }
+        requires var { IsVariable net.now var }
+        ensures { result ≡ lapses (driver_at (network_of net.now) var)
+            (bit_at self.now.changed) (bit_at self.now.been_stable) var }
     {
         match kind_at(net, var) {
             VarKind::Wire { source, .. } => self.changed.contains(source),
@@ -128,9 +137,10 @@ impl Watch {
     fn note_gate(&mut self, net: &Net, current: &CurrentState, var: u32)
         requires counted { IsCounted net.now current.now }
         requires fits { WatchFits net.now self.old }
-        requires var { var < length (network_of net.now) }
+        requires var { IsVariable net.now var }
         ensures changed { self.new.changed ≡ self.old.changed }
-        ensures been_stable { RecordsStable (network_of net.now) current.now.input.items current.now.state.items (var ∷ []) self.old.been_stable self.new.been_stable }
+        ensures been_stable { NotesStable net.now current.now (var ∷ [])
+            self.old.been_stable self.new.been_stable }
     {
         if let VarKind::Wire { gate, .. } = kind_at(net, var) {
             if !current.is_unstable(net, gate) {

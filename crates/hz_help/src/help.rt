@@ -1,6 +1,6 @@
 //! What a person needs next after a refusal, on standard error. No contract speaks of it.
 
-use hz_outside::{DiskFiles, Files, Place};
+use hz_outside::Place;
 use hz_words::Job;
 use std::alloc::{AllocError, Global};
 use std::fs;
@@ -11,6 +11,9 @@ const VERSION: &str = "1.0.0";
 
 /// How many bytes of a line are shown.
 const SHOWN: usize = 120;
+
+/// How many bytes of a file one read asks for.
+const READ_SIZE: usize = 65_536;
 
 /// The most bytes of a file that is read.
 const MOST: usize = 16_777_216;
@@ -107,13 +110,10 @@ fn tell_line(rt: &HostRuntime, words: &[String], first: &[u8], place: Place) {
         let _ = eprintln!(rt; "{shown}:{number}: (no plain file, so its line can't be shown)");
         return;
     }
-    let Ok(file) = DiskFiles::new(rt).load(rt.alloc(), place, name, MOST) else {
+    let Some(line) = read_line(rt, name, number) else {
         return;
     };
-    let Some(line) = line_at(file.as_slice(), number) else {
-        return;
-    };
-    let Ok(line) = visible(rt.alloc(), line) else {
+    let Ok(line) = visible(rt.alloc(), shown_of(line.as_slice())) else {
         return;
     };
     let _ = eprintln!(rt; "{shown}:{number}: {line}");
@@ -179,12 +179,62 @@ fn line_number(first: &[u8]) -> Option<usize> {
     }
 }
 
-// The first bytes of the line with a number, which is counted from 1.
-fn line_at(text: &[u8], number: usize) -> Option<&[u8]> {
-    let mut lines = text.split(|byte| *byte == b'\n');
-    let line = lines.nth(number.checked_sub(1)?)?;
+// The first bytes of the line with a number, which is counted from 1. The file is read part by part, since only that line is
+// wanted of it.
+fn read_line(rt: &HostRuntime, name: &str, number: usize) -> Option<Vec<u8>> {
+    let mut file = fs::open(rt, name).ok()?;
+    let mut part = [0; READ_SIZE];
+    let mut before = number.checked_sub(1)?;
+    let mut line = Vec::new(rt.alloc());
+    for _read in 0..MOST {
+        let count = file.read(&mut part).ok()?;
+        let bytes = &part[..count];
+        let feeds = count_line_feeds(bytes);
+        if feeds < before && count != 0 {
+            before -= feeds;
+        } else {
+            let rest = behind_line_feeds(bytes, before)?;
+            before = 0;
+            if count == 0 || add_line(&mut line, rest).ok()? {
+                return Some(line);
+            }
+        }
+    }
+    None
+}
+
+// How many line feeds bytes have.
+fn count_line_feeds(bytes: &[u8]) -> usize {
+    let mut feeds = 0u32;
+    for byte in bytes {
+        feeds = feeds.wrapping_add(u32::from(*byte == b'\n'));
+    }
+    feeds as usize
+}
+
+// What stands behind the first so many line feeds, if there are as many.
+fn behind_line_feeds(bytes: &[u8], feeds: usize) -> Option<&[u8]> {
+    let mut rest = bytes;
+    for _feed in 0..feeds {
+        let place = rest.iter().position(|byte| *byte == b'\n')?;
+        rest = &rest[place + 1..];
+    }
+    Some(rest)
+}
+
+// Adds the bytes before the first line feed. Returns whether the line ends there, or is longer than what is shown.
+fn add_line(line: &mut Vec<u8>, bytes: &[u8]) -> Result<bool, AllocError> {
+    let end = bytes.iter().position(|byte| *byte == b'\n');
+    let room = (SHOWN + 1).saturating_sub(line.len());
+    let count = end.unwrap_or(bytes.len()).min(room);
+    line.extend_from_slice(&bytes[..count])?;
+    Ok(end.is_some() || line.len() > SHOWN)
+}
+
+// What is shown of a line of which at least one byte more is given, if it has more.
+fn shown_of(line: &[u8]) -> &[u8] {
     let line = line.strip_suffix(b"\r").unwrap_or(line);
-    Some(line.get(..SHOWN).unwrap_or(line))
+    line.get(..SHOWN).unwrap_or(line)
 }
 
 // Bytes as text in which no byte acts on a terminal.

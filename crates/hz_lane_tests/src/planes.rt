@@ -1,5 +1,6 @@
 //! Patterns worked by hand, in lanes at the borders of words.
 ghost use Rattle.std.specs.Prelude.{◌≡◌, ◌≢◌, ◌<◌, ◌≤◌, IsTrue, length};
+ghost use Rattle.hz_net.specs.Network.{IsInput};
 ghost use Rattle.hz_plane.specs.Lanes.{ListsAllInputs};
 ghost use Rattle.hz_plane.specs.View.{AreOf, variables_of};
 ghost use Rattle.hz_plane.specs.declared.stage.Stage.TheVariants.{Loading, Settled};
@@ -99,7 +100,7 @@ fn listed_of(
 
 // Whether these are an input and a listed start of a network.
 fn fits(net: &Net, input: &[bool], listed: &[Option<bool>]) -> bool
-    ensures input { IsTrue result → length input.now ≡ net.now.inputs }
+    ensures input { IsTrue result → IsInput net.now input.now }
     ensures listed { IsTrue result → length listed.now ≡ length net.now.names }
     ensures inputs { IsTrue result → ListsAllInputs net.now listed.now }
 {

@@ -1,6 +1,6 @@
 //! What inputs bring about where nobody knows the start. What the job prints of it stands in `tests/run`.
 ghost use Rattle.std.specs.Prelude.{◌≡◌, ◌≤◌, length};
-ghost use Rattle.hz_net.specs.Network.{network_of};
+ghost use Rattle.hz_net.specs.Network.{network_of, IsInput};
 
 use hz_net::{Net, each_settles};
 use hz_reset::Reset;
@@ -39,7 +39,7 @@ fn push_both(
 ) -> Result<(), Fail>
     requires reset { length (network_of net.now) ≡ length reset.old }
     requires held { length held.now ≡ length net.now.names }
-    requires input { length input.now ≡ net.now.inputs }
+    requires input { IsInput net.now input.now }
 {
     reset.begin(net, held);
     push_values(text, reset, net.len())?;

@@ -10,7 +10,7 @@ use Rattle.hz_net.specs.Inside.{HoldsNetwork}
 use Rattle.hz_net.specs.declared.net.Net.TheInside.{Inside}
 use Rattle.hz_net.specs.declared.entry.Entry.{Entry}
 use Rattle.hz_net.proofs.Places.{length-entries_of, length-network_of, driver_at-entry, variable_kinds-entry, IsEntryAt-entries_of}
-use Rattle.hz_net.proofs.PartLemmas.{length-parts_from, IsPart, is_part}
+use Rattle.hz_lists.proofs.PartLemmas.{length-parts_from, IsPart, is_part}
 use Rattle.hz_net.proofs.FanOutLemmas.{length-readers_by_node, at-readers_by_node}
 use Rattle.hz_core.specs.Limits.{most_variables}
 

@@ -1,7 +1,5 @@
 -- Where each variable of a circuit's network stands, and what drives it there
 pub mod Places
--- Parts of a list by their elements, and a list that is cut into parts: one part more, and the part with a number
-pub mod PartLemmas
 -- The fan-outs of all nodes: how they are gathered, and that they are those of the circuit
 pub mod FanOutLemmas
 -- What a network's fields tell of each variable
@@ -24,3 +22,5 @@ pub mod Readers
 pub mod StartLemmas
 -- Algorithm A from a ternary state: how long its states are, how they grow, and where the sequences of both passes stop
 pub mod TernaryStarts
+-- What a variable is says how it is driven
+pub mod DrivenLemmas

@@ -16,7 +16,7 @@ use Rattle.hz_net.specs.Reads.{Reads, AreReaders, readers_by, readers_of, IsWire
 use Rattle.hz_net.specs.Entries.{entry_kind, IsEntryAt}
 use Rattle.hz_net.specs.declared.entry.Entry.{Entry}
 use Rattle.hz_net.specs.declared.entry.Entry.TheVariants.{Input as InputEntry, Gate as GateEntry}
-use Rattle.hz_net.proofs.PartLemmas.{same-parts}
+use Rattle.hz_lists.proofs.PartLemmas.{same-parts}
 use Rattle.hz_net.proofs.Places.{no_wire, length-network_of, driver_at-input, driver_at-gate, driver_at-wire, first_wire-bound, at-entries_of-input, at-entries_of-gate, variable_kinds-entry}
 use Rattle.hz_net.proofs.Wires.{IsWireFrom, IsWireFrom-node, IsWireFrom-fan_out_of, Contains-fan_out_of, driver_at-IsWireFrom, variable_kinds-wire}
 use Rattle.hz_net.specs.Inside.{HoldsNetwork}

@@ -10,7 +10,7 @@ use Rattle.hz_net.specs.Variables.{variable_kinds, first_wire, at_wires, readers
 use Rattle.hz_net.specs.declared.variable.VarKind.TheVariants.{Wire as WireKind}
 use Rattle.hz_net.specs.Entries.{wire_entry}
 use Rattle.hz_net.proofs.Places.{no_wire, All-wires_of, length-network_of, length-wires_of, driver_at-input, driver_at-gate, driver_at-wire, at-entries_of-wire, variable_kinds-entry, first_wire-bound}
-use Rattle.hz_net.proofs.PartLemmas.{length-part, at-part}
+use Rattle.hz_lists.proofs.PartLemmas.{length-part, at-part}
 
 -- a variable is a wire from a node
 pub record IsWireFrom (netlist : Netlist) (wire node : ℕ) : Type 0 where

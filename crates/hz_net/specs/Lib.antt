@@ -12,6 +12,7 @@
 -- algorithm_a net input start round, algorithm_b net input first round: the ternary states of both algorithms
 -- AreRounds sequence rounds: the sequence comes to rest in this round
 -- IsResult sequence result: its state then
+-- IsFirstRoundIf test sequence i has round: the first round in which variable i has a property, if the test holds, else 0
 -- IsRank sequence i value rank: the first round in which an X of Algorithm A is X
 -- IsSettlingRound sequence i first value round: the first round in which an X settles in Algorithm B
 -- Reads driver i: a driver reads variable i
@@ -27,17 +28,17 @@
 -- IsStableStart netlist state: a state that is stable under its own inputs
 -- IsAcceptedStart netlist listed state: a completed start that is stable
 -- IsLeastOpen netlist listed node, IsLeastUnstable netlist listed gate: why a start is refused
+-- IsDrivenAs netlist var kind: how a variable is driven, by what it is
 -- algorithm_a_from net input first round: the states of Algorithm A from a ternary state
 -- SettlesTo net input first settled: Algorithm A from a ternary state, and Algorithm B from its result, lead to another
 -- unknown_start net held: each held node has its bit, and every other variable is X
--- parts_from start ends list: a list that is cut into parts
 -- HoldsNetwork fields: the fields of the code's Net stand for the network
 
 pub mod Network
 pub mod Variables
 pub mod Reads
+pub mod Driven
 pub mod Entries
-pub mod Parts
 pub mod FanOuts
 pub mod Inside
 pub mod Passes

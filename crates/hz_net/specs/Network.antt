@@ -49,6 +49,22 @@ network_of netlist =
     map External (range_with_len 0 netlist.inputs) ++ gate_drivers (length netlist.names) netlist.gates
     ++ map (λ wire. Source wire.source) (wires_of netlist)
 
+-- a number is that of a variable of the complete network
+abbrev pub IsVariable : Netlist → ℕ → Type 0
+IsVariable netlist i = i < length (network_of netlist)
+
+-- a list has one item for each variable: marks, ranks, rows
+abbrev pub AreByVariable : {T : Type 0} → Netlist → List T → Type 0
+AreByVariable netlist list = length list ≡ length (network_of netlist)
+
+-- a state, also a ternary one: one value for each variable
+abbrev pub IsState : {T : Type 0} → Netlist → List T → Type 0
+IsState netlist state = length state ≡ length (network_of netlist)
+
+-- an external input: one value for each input
+abbrev pub IsInput : {T : Type 0} → Netlist → List T → Type 0
+IsInput netlist input = length input ≡ netlist.inputs
+
 -- what drives variable i
 abbrev pub driver_at : List Driver → ℕ → Driver
 driver_at net i = slice_index_or net i (External 0)

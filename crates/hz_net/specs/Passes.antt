@@ -1,8 +1,8 @@
 -- Algorithms A and B: two sequences of ternary states, each state made from the one before it at all variables at once.
-use Rattle.std.specs.Prelude.{◌≡◌, ◌≢◌, ℕ, zero, suc, ◌-◌, ◌<◌, ◌≤◌, Bool, List, [], ◌∷◌, length, map, slice_index}
+use Rattle.std.specs.Prelude.{◌≡◌, ◌≢◌, ℕ, zero, suc, ◌-◌, ◌<◌, ◌≤◌, Bool, true, false, not, ◌&&◌, List, [], ◌∷◌, length, map, slice_index}
 use Rattle.hz_core.specs.declared.tri.Tri.{Tri}
-use Rattle.hz_core.specs.declared.tri.Tri.TheVariants.{Zero, One, Unknown}
-use Rattle.hz_core.specs.Ternary.{tri_of, join_of}
+use Rattle.hz_core.specs.declared.tri.Tri.TheVariants.{Unknown}
+use Rattle.hz_core.specs.Ternary.{tri_of, is_unknown, join_of}
 use Rattle.hz_net.specs.Network.{Driver, driver_value3, value_at}
 
 -- the ternary excitations of all variables
@@ -49,20 +49,19 @@ IsUnknown value = value ≡ Unknown
 abbrev pub IsKnown : Tri → Type 0
 IsKnown value = value ≢ Unknown
 
--- The rank of a variable, by its value in the result: of an X the first round in which it is X, else 0.
-abbrev pub IsRank : (ℕ → List Tri) → ℕ → Tri → ℕ → Type 0
-IsRank sequence i Zero rank = rank ≡ 0
-IsRank sequence i One rank = rank ≡ 0
-IsRank sequence i Unknown rank = IsFirstRound sequence i IsUnknown rank
+-- The first round in which a variable has a value with a property, if it has such a round to tell, else 0.
+abbrev pub IsFirstRoundIf : Bool → (ℕ → List Tri) → ℕ → (Tri → Type 0) → ℕ → Type 0
+IsFirstRoundIf true sequence i has round = IsFirstRound sequence i has round
+IsFirstRoundIf false sequence i has round = round ≡ 0
 
--- The settling round of a variable, by its first value and its value in the result: of an X that becomes 0 or 1 the
--- first round in which it is 0 or 1, else 0.
+-- the rank of a variable, by its value in the result: an X tells the first round in which it is X
+abbrev pub IsRank : (ℕ → List Tri) → ℕ → Tri → ℕ → Type 0
+IsRank sequence i result = IsFirstRoundIf (is_unknown result) sequence i IsUnknown
+
+-- the settling round of a variable, by its first value and its value in the result: an X that becomes 0 or 1 tells the
+-- first round in which it is 0 or 1
 abbrev pub IsSettlingRound : (ℕ → List Tri) → ℕ → Tri → Tri → ℕ → Type 0
-IsSettlingRound sequence i Unknown Zero round = IsFirstRound sequence i IsKnown round
-IsSettlingRound sequence i Unknown One round = IsFirstRound sequence i IsKnown round
-IsSettlingRound sequence i Unknown Unknown round = round ≡ 0
-IsSettlingRound sequence i Zero result round = round ≡ 0
-IsSettlingRound sequence i One result round = round ≡ 0
+IsSettlingRound sequence i first result = IsFirstRoundIf (is_unknown first && not (is_unknown result)) sequence i IsKnown
 
 -- each variable's rank
 pub record AreRanks (sequence : ℕ → List Tri) (result : List Tri) (ranks : List ℕ) : Type 0 where

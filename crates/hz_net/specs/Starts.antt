@@ -2,7 +2,7 @@
 use Rattle.std.specs.Prelude.{◌≡◌, ℕ, ◌<◌, ◌≤◌, ◌⊎◌, Bool, Option, Some, None, List, [], ◌∷◌, length, take, Contains, slice_get}
 use Rattle.hz_core.specs.Gate.{gate_value}
 use Rattle.hz_core.specs.Netlist.{Netlist, IsCutNumber, IsGateNumber, IsPrimaryInput, data_of, gate_at}
-use Rattle.hz_net.specs.Network.{bit_at, network_of, excitation, IsUnstable, IsStable}
+use Rattle.hz_net.specs.Network.{bit_at, network_of, excitation, IsUnstable, IsStable, IsState}
 use Rattle.hz_net.specs.Variables.{expansion_of}
 
 -- bits for a gate's pins that agree with pairs of a node and its bit: at a source that a pair names, the bit is the pair's
@@ -55,13 +55,13 @@ ListsInputs netlist listed =
 -- The completed start, which is there where no node is open: each node has the bit to which it is forced, each wire its
 -- source's.
 pub record IsCompletedStart (netlist : Netlist) (listed : List (Option Bool)) (state : List Bool) : Type 0 where
-  pub long : length state ≡ length (network_of netlist)
+  pub long : IsState netlist state
   pub forced : (node : ℕ) → node < length netlist.names → IsForced netlist listed node (bit_at state node)
   pub wires : state ≡ expansion_of netlist (take (length netlist.names) state)
 
 -- a state of the network that is stable under its own inputs: a change may start from it
 pub record IsStableStart (netlist : Netlist) (state : List Bool) : Type 0 where
-  pub long : length state ≡ length (network_of netlist)
+  pub long : IsState netlist state
   pub stable : IsStable (network_of netlist) (take netlist.inputs state) state
 
 -- a completed start that is accepted: it is stable under its own inputs

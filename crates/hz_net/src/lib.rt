@@ -6,7 +6,6 @@
 //! | `variable` | what a variable is |
 //! | `laws` | what holds of the networks of all circuits |
 //! | `ternary_starts` | what holds of both algorithms where the start is known in part |
-//! | `parts` | parts of a list |
 //! | `entry`, `fan_out` | how the network keeps its variables and the wires from each node |
 #![tactic(auto)]
 
@@ -14,12 +13,10 @@ mod entry;
 mod fan_out;
 mod laws;
 mod net;
-mod parts;
 mod ternary_starts;
 mod variable;
 
 pub use laws::{network_is_wired, values_read_decide};
 pub use net::Net;
-pub use parts::part_at;
 pub use ternary_starts::{bits_are_a_case, each_settles};
 pub use variable::VarKind;

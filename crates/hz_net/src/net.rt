@@ -1,7 +1,7 @@
 //! The complete network of a circuit.
 ghost use Rattle.std.specs.Prelude.{◌≡◌, ◌+◌, ◌<◌, ◌≤◌, ◌↔◌, length, slice_get, Some, All, IfOk, IsTrue};
 ghost use Rattle.hz_core.specs.Netlist.{IsCircuit, IsWhole, IsGateNumber, variable_count, gate_at};
-ghost use Rattle.hz_net.specs.Network.{network_of, driver_at, bit_at, excitation, excitation3, IsStable};
+ghost use Rattle.hz_net.specs.Network.{network_of, driver_at, bit_at, excitation, excitation3, IsStable, IsState, IsInput, IsVariable};
 ghost use Rattle.hz_net.specs.Variables.{variable_kinds, first_wire, fan_out_of, expansion_of};
 ghost use Rattle.hz_net.specs.Reads.{readers_of};
 ghost use Rattle.hz_net.specs.Entries.{driver_of, entry_kind, IsEntryAt};
@@ -10,9 +10,8 @@ ghost use Rattle.hz_core.specs.Limits.{most_variables};
 use crate::VarKind;
 use crate::entry::{Entry, list_entries};
 use crate::fan_out::{FanOut, list_fan_out};
-use crate::parts::part;
 use hz_core::{Circuit, Memory, Tri};
-use hz_outside::Steps;
+use hz_lists::{Steps, part};
 use std::alloc::Global;
 use std::marker::Model;
 use std::slice;
@@ -79,7 +78,7 @@ impl Net {
 
     /// What a variable is.
     pub fn kind_of(&self, var: u32) -> VarKind
-        requires { var < length (network_of self.now) }
+        requires { IsVariable self.now var }
         ensures { slice_get (variable_kinds self.now) var ≡ Some result }
     {
         match self.entry(var) {
@@ -119,9 +118,9 @@ impl Net {
 
     /// The variables that read a variable: the wires from a node, ascending, or the gate that a wire goes into.
     pub fn readers(&self, var: u32) -> &[u32]
-        requires { var < length (network_of self.now) }
+        requires { IsVariable self.now var }
         ensures readers { result.now ≡ readers_of self.now var }
-        ensures inside { All (λ reader. reader < length (network_of self.now)) result.now }
+        ensures inside { All (IsVariable self.now) result.now }
     {
         match &self.entries[var as usize] {
             Entry::Input { .. } => self.fan_out(var),
@@ -133,9 +132,9 @@ impl Net {
     /// The excitation of a variable: the external input for an input, the gate function of its own wires for a gate, the
     /// value of its source for a wire.
     pub fn excite(&self, input: &[bool], state: &[bool], var: u32) -> bool
-        requires var { var < length (network_of self.now) }
-        requires input { length input.now ≡ self.now.inputs }
-        requires state { length state.now ≡ length (network_of self.now) }
+        requires var { IsVariable self.now var }
+        requires input { IsInput self.now input.now }
+        requires state { IsState self.now state.now }
         ensures { result ≡ excitation (network_of self.now) input.now state.now var }
     {
         match self.entry(var) {
@@ -155,9 +154,9 @@ impl Net {
         var: u32,
         steps: &mut Steps<L>,
     ) -> Tri
-        requires var { var < length (network_of self.now) }
-        requires input { length input.now ≡ self.now.inputs }
-        requires state { length state.now ≡ length (network_of self.now) }
+        requires var { IsVariable self.now var }
+        requires input { IsInput self.now input.now }
+        requires state { IsState self.now state.now }
         ensures value { result ≡ excitation3 (network_of self.now) input.now state.now var }
         ensures steps { steps.new ≡ steps.old + 1 }
     {
@@ -174,7 +173,7 @@ impl Net {
     /// Sets each node to its given value and each wire to its source's.
     pub fn expand(&self, nodes: &[bool], state: &mut [bool])
         requires nodes { length nodes.now ≡ length self.now.names }
-        requires state { length state.old ≡ length (network_of self.now) }
+        requires state { IsState self.now state.old }
         ensures { state.new ≡ expansion_of self.now nodes.now }
     {
         for var in 0..self.len() {
@@ -184,8 +183,8 @@ impl Net {
 
     /// Whether each variable has the value of its excitation.
     pub fn settled(&self, input: &[bool], state: &[bool]) -> bool
-        requires input { length input.now ≡ self.now.inputs }
-        requires state { length state.now ≡ length (network_of self.now) }
+        requires input { IsInput self.now input.now }
+        requires state { IsState self.now state.now }
         ensures { IsTrue result ↔ IsStable (network_of self.now) input.now state.now }
     {
         for var in 0..self.len() {
@@ -198,7 +197,7 @@ impl Net {
 
     // The value of a variable where each node has its given value and each wire its source's.
     fn expanded_value(&self, nodes: &[bool], var: u32) -> bool
-        requires var { var < length (network_of self.now) }
+        requires var { IsVariable self.now var }
         requires nodes { length nodes.now ≡ length self.now.names }
         ensures { result ≡ bit_at (expansion_of self.now nodes.now) var }
     {
@@ -211,7 +210,7 @@ impl Net {
 
     // What the network keeps of a variable.
     fn entry(&self, var: u32) -> Entry
-        requires { var < length (network_of self.now) }
+        requires { IsVariable self.now var }
         ensures driver { driver_at (network_of self.now) var ≡ driver_of result }
         ensures seen { slice_get (variable_kinds self.now) var ≡ Some (entry_kind result) }
         ensures place { IsEntryAt self.now var result }

@@ -1,10 +1,8 @@
 -- Lemmas on the table of names.
-use Rattle.std.proofs.Common.{◌≡◌, ◌∙◌, refl, sym, ap, subst, ℕ, zero, suc, ◌+◌, ◌<◌, ◌++◌, ◌∷◌, List, [], false, cond, map, length, set, get_or, Option, None, Some, position, is_some, arith}
+use Rattle.std.proofs.Common.{◌≡◌, ◌∙◌, refl, sym, ap, subst, ℕ, zero, suc, ◌+◌, ◌<◌, ◌++◌, ◌∷◌, List, [], false, cond, map, length, set, get_or, Option, None, Some, position, is_some, arith, not, ltb, length-append}
 use Rattle.std.proofs.lemmas.Slice.Eq.{bytes_eq-Decides}
-use Rattle.std.specs.List.{IsDistinct}
+use Rattle.std.specs.List.{IsDistinct, AllByRecursion, list_any, position_or_len}
 use Rattle.std.specs.Str.{bytes_eq}
-use Rattle.std.proofs.Common.{not, ltb, length-append}
-use Rattle.std.specs.List.{AllByRecursion, list_any, position_or_len}
 use Rattle.std.proofs.lemmas.Bool.{lt-ltb}
 use Rattle.hz_netlist.proofs.Tests.{either}
 use Rattle.std.proofs.Math.Seq.{map-set_same}
@@ -13,7 +11,7 @@ use Rattle.hz_core.specs.NameHash.{hash_of}
 use Rattle.hz_core.proofs.ListLemmas.{list_any-from_position_none}
 use Rattle.std.specs.Cmp.Lexicographic.{nat_list_eq_equiv}
 use Rattle.std.proofs.lemmas.Map.Keys.{IsDistinct-head, IsDistinct-push, IsDistinct-tail}
-use Rattle.hz_core.specs.Least.{option_min}
+use Rattle.hz_lists.specs.Least.{option_min}
 use Rattle.hz_netlist.specs.declared.names.Entry.{Entry}
 use Rattle.hz_netlist.specs.declared.names.NameTable.TheInside.{Inside}
 use Rattle.hz_netlist.specs.Names.{Names, Seen, seen_at, seen_names, fresh, with_change, with_sight}

@@ -7,7 +7,8 @@ ghost use Rattle.hz_core.specs.NameHash.{hash_of};
 ghost use Rattle.hz_netlist.specs.Names.{definer_in, first_undefined, place_in, seen_at, seen_names, undefined_line, with_definition, with_sight, with_use};
 ghost use Rattle.hz_netlist.specs.Table.{IsSearched, entry_names, entry_of, seen_of};
 
-use hz_core::{Chains, Memory, NameHashing, Named, lesser};
+use hz_core::{Chains, Memory, NameHashing, Named};
+use hz_lists::lesser;
 use sha2::{Digest, Sha256};
 use std::alloc::Global;
 use std::marker::Model;

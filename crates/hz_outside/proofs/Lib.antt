@@ -2,3 +2,5 @@
 pub mod WrittenLemmas
 -- What the files of the file system count gives what every store of files ensures
 mod CountLemmas
+-- What a reader lost in one read and then in another
+mod ReadLemmas

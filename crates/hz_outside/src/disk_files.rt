@@ -1,16 +1,18 @@
 //! Files of the file system: the trusted edge.
-ghost use Rattle.std.specs.Prelude.{◌≡◌, ◌<◌, ◌≤◌, length, vec_len, IfOk, IfSome, MatchResult};
+ghost use Rattle.std.specs.Prelude.{◌≡◌, ◌<◌, ◌≤◌, ◌+◌, length, vec_len, take, drop, IfOk, IfSome, OnOk, MatchResult};
+ghost use Rattle.std.specs.Io.KnownBytes.{Consumes, IsAtEnd};
 ghost use Rattle.hz_outside.specs.DiskFiles.{empty_disk, disk_after_fault};
 
 use super::counts::PlaceCounts;
-use super::fault::{LoadFault, Place};
+use super::fault::{LoadFault, Memory, Place};
 use super::files::Files;
 use std::alloc::Global;
+use std::fs::OpenFile;
 use std::io::Read;
 use std::marker::Model;
-use std::{fs, rt};
+use std::{fs, io, rt};
 
-/// How many bytes one read asks for.
+/// How many bytes the first read asks for, if the file doesn't say how many it has.
 const READ_SIZE: usize = 65_536;
 
 /// Files of the file system. They show no contents, and every load is granted.
@@ -80,7 +82,10 @@ impl<'r, R: rt::Files> Files for DiskFiles<'r, R> {
         ensures counts { MatchResult result (λ _. self.new ≡ self.old) (λ fault. self.new ≡ disk_after_fault self.old place fault) }
     {
         let loaded = match fs::open(self.rt, name) {
-            Ok(mut file) => read_up_to(alloc, &mut file, most),
+            Ok(mut file) => {
+                let told = told_size(&file);
+                read_up_to(alloc, &mut file, told, most)
+            }
             Err(_) => Err(LoadFault::Failed),
         };
         if let Err(fault) = &loaded {
@@ -90,24 +95,81 @@ impl<'r, R: rt::Files> Files for DiskFiles<'r, R> {
     }
 }
 
-/// Reads until a read gives nothing or more than `most` bytes came.
-fn read_up_to<R: Read>(alloc: Global, reader: &mut R, most: usize) -> Result<Vec<u8>, LoadFault>
+// How many bytes a file says that it has. A pipe says 0, and a file may be changed while it is read.
+fn told_size<F: OpenFile>(file: &F) -> usize {
+    match file.metadata() {
+        Ok(found) => usize::try_from(found.len()).unwrap_or(0),
+        Err(_) => 0,
+    }
+}
+
+/// Reads until a read gives nothing or more than `most` bytes came. There is room for the bytes that are told from the first
+/// read on, so that these are read to where they stay.
+fn read_up_to<R: Read>(
+    alloc: Global,
+    reader: &mut R,
+    told: usize,
+    most: usize,
+) -> Result<Vec<u8>, LoadFault>
     ensures short { IfOk result (λ file. vec_len file ≤ most) }
     ensures whole { IfOk result (λ file. IfSome (R.remaining reader.old) (λ left. file.items ≡ left)) }
     ensures over { result ≡ Err LoadFault.TooLong → IfSome (R.remaining reader.old) (λ left. most < length left) }
 {
     let mut file = Vec::new(alloc);
-    let mut buffer = [0; READ_SIZE];
-    while file.len() <= most {
-        let Ok(count) = reader.read(&mut buffer) else {
+    let mut filled = 0;
+    while filled <= most {
+        let Ok(()) = make_room(&mut file, filled, told, most) else {
+            return Err(LoadFault::Memory);
+        };
+        let Ok(count) = read_at(reader, file.as_mut_slice(), filled) else {
             return Err(LoadFault::Failed);
         };
         if count == 0 {
+            file.truncate(filled);
             return Ok(file);
         }
-        let Ok(_) = file.extend_from_slice(&buffer[..count]) else {
-            return Err(LoadFault::Memory);
-        };
+        filled += count;
     }
     Err(LoadFault::TooLong)
+}
+
+// Makes room behind the first so many bytes, which stay, if there is none.
+fn make_room(file: &mut Vec<u8>, filled: usize, told: usize, most: usize) -> Result<(), Memory>
+    requires { filled ≤ vec_len file.old }
+    ensures front { OnOk result (take filled file.new.items ≡ take filled file.old.items) }
+    ensures room { OnOk result (filled < vec_len file.new) }
+{
+    if filled < file.len() {
+        return Ok(());
+    }
+    let len = next_len(filled, told).min(most.saturating_add(1));
+    if len <= filled {
+        return Err(Memory);
+    }
+    let Ok(()) = file.resize(len, 0) else {
+        return Err(Memory);
+    };
+    Ok(())
+}
+
+// How much room there is to be if so many bytes are read: one byte more than is told, for the read that finds the end, or
+// twice as much.
+fn next_len(filled: usize, told: usize) -> usize {
+    if filled == 0 && told != 0 {
+        told.saturating_add(1)
+    } else {
+        filled.saturating_add(filled.max(READ_SIZE))
+    }
+}
+
+// One read behind the first so many bytes, which stay.
+fn read_at<R: Read>(reader: &mut R, file: &mut [u8], at: usize) -> io::Result<usize>
+    requires { at < length file.old }
+    ensures long { length file.new ≡ length file.old }
+    ensures front { take at file.new ≡ take at file.old }
+    ensures fits { IfOk result (λ count. at + count ≤ length file.new) }
+    ensures read { IfOk result (λ count. Consumes (R.remaining reader.old) (R.remaining reader.new) (take count (drop at file.new))) }
+    ensures end { IfOk result (λ count. count ≡ 0 → IsAtEnd (R.remaining reader.new)) }
+{
+    reader.read(&mut file[at..])
 }

@@ -10,7 +10,6 @@
 //! | `shelf` | named files in memory |
 //! | `mem_files`, `plain_files` | files in memory, with and without loads that fail |
 //! | `mem_sink`, `plain_sink` | sinks in memory, with and without puts that fail |
-//! | `steps` | a counter of steps that only contracts see |
 //! | `disk_files`, `std_sink` | the trusted edge: the file system and standard output |
 #![tactic(auto)]
 
@@ -26,7 +25,6 @@ mod plain_sink;
 mod shelf;
 mod sink;
 mod std_sink;
-mod steps;
 
 pub use disk_files::DiskFiles;
 pub use fault::{LoadFault, Memory, Place, PutFault};
@@ -38,4 +36,3 @@ pub use plain_files::PlainFiles;
 pub use plain_sink::PlainSink;
 pub use sink::Sink;
 pub use std_sink::StdSink;
-pub use steps::Steps;

@@ -14,7 +14,7 @@ use Rattle.hz_net.specs.Variables.{fan_out_of}
 use Rattle.hz_net.specs.Reads.{IsWireInto}
 use Rattle.hz_net.proofs.Places.{length-network_of}
 use Rattle.hz_net.proofs.Wires.{IsWireFrom, IsWireFrom-fan_out_of, driver_at-IsWireFrom}
-use Rattle.hz_pass.specs.Forcing.{gate_extension, SetsNode, ForcedSoFar, IsTaken}
+use Rattle.hz_pass.specs.Forcing.{gate_extension, SetsNode, ForcedSoFar, IsTaken, carrying, only_waiting}
 use Rattle.hz_pass.specs.CutLists.{IsDataOf}
 use Rattle.hz_pass.proofs.ForcingLoop.{forced-wire, forced-gate, forced-cut}
 
@@ -71,7 +71,7 @@ pub record DeliveredSoFar (netlist : Netlist) (node : ℕ) (value : Tri) (first 
   pub long : length values ≡ length (network_of netlist)
   pub is : value_at values node ≡ value
   pub known : value ≢ Unknown
-  pub forced : (listed : List (Option Bool)) → length listed ≡ length netlist.names → ForcedSoFar netlist listed first first_waiting (fan_out_of netlist node) [] [] → ForcedSoFar netlist listed values waiting (drop count (fan_out_of netlist node)) [] []
+  pub forced : (listed : List (Option Bool)) → length listed ≡ length netlist.names → ForcedSoFar netlist listed first (carrying first_waiting (fan_out_of netlist node) []) → ForcedSoFar netlist listed values (carrying waiting (drop count (fan_out_of netlist node)) [])
   pub fewer : unknown_count values + length waiting ≤ unknown_count first + length first_waiting
 
 pub delivered-begin : (netlist : Netlist) (node : ℕ) (values : List Tri) (waiting : List ℕ) → length values ≡ length (network_of netlist) → value_at values node ≢ Unknown → DeliveredSoFar netlist node (value_at values node) values values waiting waiting 0
@@ -104,7 +104,7 @@ delivered-step netlist node value first values values' first_waiting waiting wai
       forced = λ listed same begun.
           forced-gate netlist listed circuit same (set values wire value) values' waiting waiting' (drop (count + 1) (fan_out_of netlist node)) [] gate
           (forced-wire netlist listed circuit same values waiting (drop (count + 1) (fan_out_of netlist node)) [] wire node gate value
-          (subst (λ (d : List ℕ). ForcedSoFar netlist listed values waiting d [] []) due (so_far.forced listed same begun)) so_far.is driven into)
+          (subst (λ (d : List ℕ). ForcedSoFar netlist listed values (carrying waiting d [])) due (so_far.forced listed same begun)) so_far.is driven into)
           is_gate sets;
       fewer = omega (
         arith,
@@ -115,9 +115,9 @@ delivered-step netlist node value first values values' first_waiting waiting wai
     }
 
 -- all wires are done
-pub delivered-end : (netlist : Netlist) (node : ℕ) (value : Tri) (first values : List Tri) (first_waiting waiting : List ℕ) (count : ℕ) (listed : List (Option Bool)) → DeliveredSoFar netlist node value first values first_waiting waiting count → length (fan_out_of netlist node) ≤ count → length listed ≡ length netlist.names → ForcedSoFar netlist listed first first_waiting (fan_out_of netlist node) [] [] → ForcedSoFar netlist listed values waiting [] [] []
+pub delivered-end : (netlist : Netlist) (node : ℕ) (value : Tri) (first values : List Tri) (first_waiting waiting : List ℕ) (count : ℕ) (listed : List (Option Bool)) → DeliveredSoFar netlist node value first values first_waiting waiting count → length (fan_out_of netlist node) ≤ count → length listed ≡ length netlist.names → ForcedSoFar netlist listed first (carrying first_waiting (fan_out_of netlist node) []) → ForcedSoFar netlist listed values (only_waiting waiting)
 delivered-end netlist node value first values first_waiting waiting count listed so_far end same begun =
-    subst (λ (d : List ℕ). ForcedSoFar netlist listed values waiting d [] []) (drop_all count (fan_out_of netlist node) end) (so_far.forced listed same begun)
+    subst (λ (d : List ℕ). ForcedSoFar netlist listed values (carrying waiting d [])) (drop_all count (fan_out_of netlist node) end) (so_far.forced listed same begun)
 
 -- no cut has taken the value yet
 pub taken-begin : (cuts : List ℕ) (value : Tri) (values : List Tri) (waiting : List ℕ) → IsTaken cuts value values values waiting waiting 0
@@ -136,7 +136,7 @@ taken-step cuts value first values values' first_waiting waiting waiting' count 
       forced = λ netlist listed node due_wires circuit same are data_is begun.
           let is : IsDataOf netlist node cut = subst (IsDataOf netlist node) (sym at) (are count 0 few) in
           forced-cut netlist listed circuit same values values' waiting waiting' due_wires (drop (count + 1) cuts) node cut value
-          (subst (λ (c : List ℕ). ForcedSoFar netlist listed values waiting due_wires c []) due (so_far.forced netlist listed node due_wires circuit same are data_is begun))
+          (subst (λ (c : List ℕ). ForcedSoFar netlist listed values (carrying waiting due_wires c)) due (so_far.forced netlist listed node due_wires circuit same are data_is begun))
           is (so_far.kept node (λ e. known (sym data_is ∙ e)) ∙ data_is) known sets;
       fewer = omega (arith, so_far.fewer, SetsNode-count was value cut values values' waiting waiting' inside refl sets);
     }

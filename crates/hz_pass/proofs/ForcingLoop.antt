@@ -17,12 +17,12 @@ use Rattle.hz_net.specs.Reads.{IsWireInto}
 use Rattle.hz_net.proofs.Wired.{pin-into, wired-network_of}
 use Rattle.hz_net.specs.Starts.{IsForced}
 use Rattle.hz_net.proofs.Places.{length-network_of, driver_at-pin}
-use Rattle.hz_net.proofs.PartLemmas.{same-parts}
+use Rattle.hz_lists.proofs.PartLemmas.{same-parts}
 use Rattle.hz_net.proofs.Derivations.{AreForced, IsClosed, forced_once, forced-listed, forced-data, forced-extension, closed-forced}
 use Rattle.hz_net.proofs.Wires.{IsWireFrom, IsWireFrom-driver_at, IsWireFrom-node, Contains-fan_out_of, length-at_wires, get_or-at_wires}
 use Rattle.hz_core.proofs.CircuitLemmas.{data_of-node}
 use Rattle.hz_pass.specs.CutLists.{IsDataOf}
-use Rattle.hz_pass.specs.Forcing.{listed_value, HasListedValues, gate_extension, SetsNode, ForcedSoFar, AreForcedValues}
+use Rattle.hz_pass.specs.Forcing.{listed_value, HasListedValues, gate_extension, SetsNode, ForcedSoFar, AreForcedValues, touching, carrying, only_waiting}
 use Rattle.hz_pass.proofs.Places.{same-values}
 use Rattle.hz_pass.proofs.AllOpen.{extension-unknown}
 
@@ -74,7 +74,7 @@ module _ (netlist : Netlist) (listed : List (Option Bool)) (circuit : IsCircuit 
   listed-node node entry e = let inside : node < length listed = slice_get_within listed node entry e in omega arith
 
   -- before any value is carried on: the listed values are set, and their nodes wait
-  pub forced-begin : (values : List Tri) (waiting : List ℕ) → IsWhole netlist → length values ≡ length (network_of netlist) → HasListedValues listed values waiting → ForcedSoFar netlist listed values waiting [] [] []
+  pub forced-begin : (values : List Tri) (waiting : List ℕ) → IsWhole netlist → length values ≡ length (network_of netlist) → HasListedValues listed values waiting → ForcedSoFar netlist listed values (only_waiting waiting)
   forced-begin values waiting whole long set_values =
       let inside : (node : ℕ) → node < length netlist.names → node < length values = λ node few. omega (arith, few, long, length-network_of netlist circuit) in
       let given : (node : ℕ) (bit : Bool) → slice_get listed node ≡ Some (Some bit) → value_at values node ≡ tri_of bit =
@@ -116,7 +116,7 @@ module _ (netlist : Netlist) (listed : List (Option Bool)) (circuit : IsCircuit 
       }
 
   -- a wire's value is set
-  pub forced-wire : (values : List Tri) (waiting due cuts : List ℕ) (wire node gate : ℕ) (value : Tri) → ForcedSoFar netlist listed values waiting (wire ∷ due) cuts [] → value_at values node ≡ value → driver_at (network_of netlist) wire ≡ Source node → IsWireInto (network_of netlist) gate wire → ForcedSoFar netlist listed (set values wire value) waiting due cuts (gate ∷ [])
+  pub forced-wire : (values : List Tri) (waiting due cuts : List ℕ) (wire node gate : ℕ) (value : Tri) → ForcedSoFar netlist listed values (carrying waiting (wire ∷ due) cuts) → value_at values node ≡ value → driver_at (network_of netlist) wire ≡ Source node → IsWireInto (network_of netlist) gate wire → ForcedSoFar netlist listed (set values wire value) (touching waiting due cuts (gate ∷ []))
   forced-wire values waiting due cuts wire node gate value so_far is driven into =
       let from : IsWireFrom netlist wire node = IsWireFrom-driver_at netlist wire node circuit driven in
       let above : length netlist.names ≤ wire = from.above in
@@ -170,7 +170,7 @@ module _ (netlist : Netlist) (listed : List (Option Bool)) (circuit : IsCircuit 
       }
 
   -- a gate's pins are forced
-  pins-forced : (values : List Tri) (waiting due cuts touched : List ℕ) (gate : ℕ) → ForcedSoFar netlist listed values waiting due cuts touched → IsGateNumber netlist gate → AreForced netlist listed (gate_at netlist gate).sources (at_wires netlist gate values)
+  pins-forced : (values : List Tri) (waiting due cuts touched : List ℕ) (gate : ℕ) → ForcedSoFar netlist listed values (touching waiting due cuts touched) → IsGateNumber netlist gate → AreForced netlist listed (gate_at netlist gate).sources (at_wires netlist gate values)
   pins-forced values waiting due cuts touched gate so_far is_gate =
       AreForced-places netlist listed (gate_at netlist gate).sources (at_wires netlist gate values) (length-at_wires netlist gate values circuit is_gate so_far.long)
       (λ k bit few known.
@@ -183,7 +183,7 @@ module _ (netlist : Netlist) (listed : List (Option Bool)) (circuit : IsCircuit 
       ])
 
   -- a node that is X is not listed
-  unlisted : (values : List Tri) (waiting due cuts touched : List ℕ) (node : ℕ) → ForcedSoFar netlist listed values waiting due cuts touched → node < length netlist.names → value_at values node ≡ Unknown → slice_get listed node ≡ Some None
+  unlisted : (values : List Tri) (waiting due cuts touched : List ℕ) (node : ℕ) → ForcedSoFar netlist listed values (touching waiting due cuts touched) → node < length netlist.names → value_at values node ≡ Unknown → slice_get listed node ≡ Some None
   unlisted values waiting due cuts touched node so_far few unknown =
       let inside : node < length listed = omega (arith, few, listed_long) in
       entry (get_or listed node None) (slice_get-get_or listed node None inside)
@@ -193,7 +193,7 @@ module _ (netlist : Netlist) (listed : List (Option Bool)) (circuit : IsCircuit 
       entry (Some bit) e = absurd (known≢unknown (value_at values node) bit (so_far.agrees node bit e) unknown)
 
   -- the node that is next does not wait any more: its wires are due, and the cuts that are not listed and whose data node it is
-  pub forced-pop : (values : List Tri) (waiting cuts : List ℕ) (node : ℕ) → ForcedSoFar netlist listed values (waiting ++ node ∷ []) [] [] [] → ((cut : ℕ) → IsDataOf netlist node cut → slice_get listed cut ≡ Some None → Contains cuts cut) → ForcedSoFar netlist listed values waiting (fan_out_of netlist node) cuts []
+  pub forced-pop : (values : List Tri) (waiting cuts : List ℕ) (node : ℕ) → ForcedSoFar netlist listed values (only_waiting (waiting ++ node ∷ [])) → ((cut : ℕ) → IsDataOf netlist node cut → slice_get listed cut ≡ Some None → Contains cuts cut) → ForcedSoFar netlist listed values (carrying waiting (fan_out_of netlist node) cuts)
   forced-pop values waiting cuts node so_far there_all =
       record {
         long = so_far.long;
@@ -222,9 +222,9 @@ module _ (netlist : Netlist) (listed : List (Option Bool)) (circuit : IsCircuit 
       }
 
   -- a node that is X becomes known, and waits
-  forced-known : (values : List Tri) (waiting due cuts cuts' touched touched' : List ℕ) (node : ℕ) (bit : Bool) → ForcedSoFar netlist listed values waiting due cuts touched → node < length netlist.names → value_at values node ≡ Unknown → IsForced netlist listed node bit
+  forced-known : (values : List Tri) (waiting due cuts cuts' touched touched' : List ℕ) (node : ℕ) (bit : Bool) → ForcedSoFar netlist listed values (touching waiting due cuts touched) → node < length netlist.names → value_at values node ≡ Unknown → IsForced netlist listed node bit
       → ((cut : ℕ) → Contains cuts cut → (node ≡ cut) ⊎ Contains cuts' cut) → ((gate : ℕ) → Contains touched gate → (node ≡ gate) ⊎ Contains touched' gate)
-      → ForcedSoFar netlist listed (set values node (tri_of bit)) (waiting ++ node ∷ []) due cuts' touched'
+      → ForcedSoFar netlist listed (set values node (tri_of bit)) (touching (waiting ++ node ∷ []) due cuts' touched')
   forced-known values waiting due cuts cuts' touched touched' node bit so_far few_node unknown forced less_cuts less_touched =
       let value = tri_of bit in
       let inside : node < length values = omega (arith, few_node, so_far.long, length-network_of netlist circuit) in
@@ -293,7 +293,7 @@ module _ (netlist : Netlist) (listed : List (Option Bool)) (circuit : IsCircuit 
       }
 
   -- a gate stays as it is: it was known, or its extension is X
-  forced-same : (values : List Tri) (waiting due cuts : List ℕ) (gate : ℕ) → ForcedSoFar netlist listed values waiting due cuts (gate ∷ []) → (value_at values gate ≢ Unknown) ⊎ (gate_extension netlist values gate ≡ Unknown) → ForcedSoFar netlist listed values waiting due cuts []
+  forced-same : (values : List Tri) (waiting due cuts : List ℕ) (gate : ℕ) → ForcedSoFar netlist listed values (touching waiting due cuts (gate ∷ [])) → (value_at values gate ≢ Unknown) ⊎ (gate_extension netlist values gate ≡ Unknown) → ForcedSoFar netlist listed values (carrying waiting due cuts)
   forced-same values waiting due cuts gate so_far why =
       record {
         long = so_far.long;
@@ -316,14 +316,14 @@ module _ (netlist : Netlist) (listed : List (Option Bool)) (circuit : IsCircuit 
       }
 
   -- a gate becomes known, and waits
-  gate-known : (values : List Tri) (waiting due cuts : List ℕ) (gate : ℕ) (bit : Bool) → ForcedSoFar netlist listed values waiting due cuts (gate ∷ []) → IsGateNumber netlist gate → value_at values gate ≡ Unknown → gate_extension netlist values gate ≡ tri_of bit → ForcedSoFar netlist listed (set values gate (tri_of bit)) (waiting ++ gate ∷ []) due cuts []
+  gate-known : (values : List Tri) (waiting due cuts : List ℕ) (gate : ℕ) (bit : Bool) → ForcedSoFar netlist listed values (touching waiting due cuts (gate ∷ [])) → IsGateNumber netlist gate → value_at values gate ≡ Unknown → gate_extension netlist values gate ≡ tri_of bit → ForcedSoFar netlist listed (set values gate (tri_of bit)) (carrying (waiting ++ gate ∷ []) due cuts)
   gate-known values waiting due cuts gate bit so_far is_gate unknown extended =
       forced-known values waiting due cuts cuts (gate ∷ []) [] gate bit so_far is_gate.1 unknown
       (forced-extension netlist listed gate (at_wires netlist gate values) bit is_gate (unlisted values waiting due cuts (gate ∷ []) gate so_far is_gate.1 unknown) (pins-forced values waiting due cuts (gate ∷ []) gate so_far is_gate) extended)
       (λ cut there. inr there) (λ other there. Contains-head gate other [] there)
 
   -- a cut becomes known, and waits
-  cut-known : (values : List Tri) (waiting due cuts : List ℕ) (node cut : ℕ) (bit : Bool) → ForcedSoFar netlist listed values waiting due (cut ∷ cuts) [] → IsDataOf netlist node cut → value_at values cut ≡ Unknown → value_at values node ≡ tri_of bit → ForcedSoFar netlist listed (set values cut (tri_of bit)) (waiting ++ cut ∷ []) due cuts []
+  cut-known : (values : List Tri) (waiting due cuts : List ℕ) (node cut : ℕ) (bit : Bool) → ForcedSoFar netlist listed values (carrying waiting due (cut ∷ cuts)) → IsDataOf netlist node cut → value_at values cut ≡ Unknown → value_at values node ≡ tri_of bit → ForcedSoFar netlist listed (set values cut (tri_of bit)) (carrying (waiting ++ cut ∷ []) due cuts)
   cut-known values waiting due cuts node cut bit so_far is unknown known =
       let few : cut < length netlist.names = omega (arith, is.is_cut.1, circuit.nodes) in
       forced-known values waiting due (cut ∷ cuts) cuts [] [] cut bit so_far few unknown
@@ -332,7 +332,7 @@ module _ (netlist : Netlist) (listed : List (Option Bool)) (circuit : IsCircuit 
       (λ other there. Contains-head cut other cuts there) (λ gate there. inr there)
 
   -- a cut that is known stays as it is
-  cut-same : (values : List Tri) (waiting due cuts : List ℕ) (cut : ℕ) → ForcedSoFar netlist listed values waiting due (cut ∷ cuts) [] → value_at values cut ≢ Unknown → ForcedSoFar netlist listed values waiting due cuts []
+  cut-same : (values : List Tri) (waiting due cuts : List ℕ) (cut : ℕ) → ForcedSoFar netlist listed values (carrying waiting due (cut ∷ cuts)) → value_at values cut ≢ Unknown → ForcedSoFar netlist listed values (carrying waiting due cuts)
   cut-same values waiting due cuts cut so_far known =
       record {
         long = so_far.long;
@@ -352,50 +352,50 @@ module _ (netlist : Netlist) (listed : List (Option Bool)) (circuit : IsCircuit 
         waits = so_far.waits;
       }
 
-  sets-cut : (was value : Tri) (values values' : List Tri) (waiting waiting' due cuts : List ℕ) (node cut : ℕ) → ForcedSoFar netlist listed values waiting due (cut ∷ cuts) [] → IsDataOf netlist node cut → value_at values cut ≡ was → value_at values node ≡ value → value ≢ Unknown → SetsNode was value cut values values' waiting waiting' → ForcedSoFar netlist listed values' waiting' due cuts []
+  sets-cut : (was value : Tri) (values values' : List Tri) (waiting waiting' due cuts : List ℕ) (node cut : ℕ) → ForcedSoFar netlist listed values (carrying waiting due (cut ∷ cuts)) → IsDataOf netlist node cut → value_at values cut ≡ was → value_at values node ≡ value → value ≢ Unknown → SetsNode was value cut values values' waiting waiting' → ForcedSoFar netlist listed values' (carrying waiting' due cuts)
   sets-cut Zero value values values' waiting waiting' due cuts node cut so_far is was data_is known sets =
-      subst (λ (v : List Tri). ForcedSoFar netlist listed v waiting' due cuts []) (sym sets.0) (subst (λ (w : List ℕ). ForcedSoFar netlist listed values w due cuts []) (sym sets.1)
+      subst (λ (v : List Tri). ForcedSoFar netlist listed v (carrying waiting' due cuts)) (sym sets.0) (subst (λ (w : List ℕ). ForcedSoFar netlist listed values (carrying w due cuts)) (sym sets.1)
       (cut-same values waiting due cuts cut so_far (λ u. (let wrong : ⊥ = cc in wrong))))
   sets-cut One value values values' waiting waiting' due cuts node cut so_far is was data_is known sets =
-      subst (λ (v : List Tri). ForcedSoFar netlist listed v waiting' due cuts []) (sym sets.0) (subst (λ (w : List ℕ). ForcedSoFar netlist listed values w due cuts []) (sym sets.1)
+      subst (λ (v : List Tri). ForcedSoFar netlist listed v (carrying waiting' due cuts)) (sym sets.0) (subst (λ (w : List ℕ). ForcedSoFar netlist listed values (carrying w due cuts)) (sym sets.1)
       (cut-same values waiting due cuts cut so_far (λ u. (let wrong : ⊥ = cc in wrong))))
   sets-cut Unknown Unknown values values' waiting waiting' due cuts node cut so_far is was data_is known sets = absurd (known refl)
   sets-cut Unknown Zero values values' waiting waiting' due cuts node cut so_far is was data_is known sets =
-      subst (λ (v : List Tri). ForcedSoFar netlist listed v waiting' due cuts []) (sym sets.0) (subst (λ (w : List ℕ). ForcedSoFar netlist listed (set values cut Zero) w due cuts []) (sym sets.1)
+      subst (λ (v : List Tri). ForcedSoFar netlist listed v (carrying waiting' due cuts)) (sym sets.0) (subst (λ (w : List ℕ). ForcedSoFar netlist listed (set values cut Zero) (carrying w due cuts)) (sym sets.1)
       (cut-known values waiting due cuts node cut false so_far is was data_is))
   sets-cut Unknown One values values' waiting waiting' due cuts node cut so_far is was data_is known sets =
-      subst (λ (v : List Tri). ForcedSoFar netlist listed v waiting' due cuts []) (sym sets.0) (subst (λ (w : List ℕ). ForcedSoFar netlist listed (set values cut One) w due cuts []) (sym sets.1)
+      subst (λ (v : List Tri). ForcedSoFar netlist listed v (carrying waiting' due cuts)) (sym sets.0) (subst (λ (w : List ℕ). ForcedSoFar netlist listed (set values cut One) (carrying w due cuts)) (sym sets.1)
       (cut-known values waiting due cuts node cut true so_far is was data_is))
 
   -- what is done to a cut whose data node has this value
-  pub forced-cut : (values values' : List Tri) (waiting waiting' due cuts : List ℕ) (node cut : ℕ) (value : Tri) → ForcedSoFar netlist listed values waiting due (cut ∷ cuts) [] → IsDataOf netlist node cut → value_at values node ≡ value → value ≢ Unknown → SetsNode (value_at values cut) value cut values values' waiting waiting' → ForcedSoFar netlist listed values' waiting' due cuts []
+  pub forced-cut : (values values' : List Tri) (waiting waiting' due cuts : List ℕ) (node cut : ℕ) (value : Tri) → ForcedSoFar netlist listed values (carrying waiting due (cut ∷ cuts)) → IsDataOf netlist node cut → value_at values node ≡ value → value ≢ Unknown → SetsNode (value_at values cut) value cut values values' waiting waiting' → ForcedSoFar netlist listed values' (carrying waiting' due cuts)
   forced-cut values values' waiting waiting' due cuts node cut value so_far is data_is known sets =
       sets-cut (value_at values cut) value values values' waiting waiting' due cuts node cut so_far is refl data_is known sets
 
-  sets-gate : (was extended : Tri) (values values' : List Tri) (waiting waiting' due cuts : List ℕ) (gate : ℕ) → ForcedSoFar netlist listed values waiting due cuts (gate ∷ []) → IsGateNumber netlist gate → value_at values gate ≡ was → gate_extension netlist values gate ≡ extended → SetsNode was extended gate values values' waiting waiting' → ForcedSoFar netlist listed values' waiting' due cuts []
+  sets-gate : (was extended : Tri) (values values' : List Tri) (waiting waiting' due cuts : List ℕ) (gate : ℕ) → ForcedSoFar netlist listed values (touching waiting due cuts (gate ∷ [])) → IsGateNumber netlist gate → value_at values gate ≡ was → gate_extension netlist values gate ≡ extended → SetsNode was extended gate values values' waiting waiting' → ForcedSoFar netlist listed values' (carrying waiting' due cuts)
   sets-gate Zero extended values values' waiting waiting' due cuts gate so_far is_gate was is sets =
-      subst (λ (v : List Tri). ForcedSoFar netlist listed v waiting' due cuts []) (sym sets.0) (subst (λ (w : List ℕ). ForcedSoFar netlist listed values w due cuts []) (sym sets.1)
+      subst (λ (v : List Tri). ForcedSoFar netlist listed v (carrying waiting' due cuts)) (sym sets.0) (subst (λ (w : List ℕ). ForcedSoFar netlist listed values (carrying w due cuts)) (sym sets.1)
       (forced-same values waiting due cuts gate so_far (inl (λ u. (let wrong : ⊥ = cc in wrong)))))
   sets-gate One extended values values' waiting waiting' due cuts gate so_far is_gate was is sets =
-      subst (λ (v : List Tri). ForcedSoFar netlist listed v waiting' due cuts []) (sym sets.0) (subst (λ (w : List ℕ). ForcedSoFar netlist listed values w due cuts []) (sym sets.1)
+      subst (λ (v : List Tri). ForcedSoFar netlist listed v (carrying waiting' due cuts)) (sym sets.0) (subst (λ (w : List ℕ). ForcedSoFar netlist listed values (carrying w due cuts)) (sym sets.1)
       (forced-same values waiting due cuts gate so_far (inl (λ u. (let wrong : ⊥ = cc in wrong)))))
   sets-gate Unknown Unknown values values' waiting waiting' due cuts gate so_far is_gate was is sets =
-      subst (λ (v : List Tri). ForcedSoFar netlist listed v waiting' due cuts []) (sym sets.0) (subst (λ (w : List ℕ). ForcedSoFar netlist listed values w due cuts []) (sym sets.1)
+      subst (λ (v : List Tri). ForcedSoFar netlist listed v (carrying waiting' due cuts)) (sym sets.0) (subst (λ (w : List ℕ). ForcedSoFar netlist listed values (carrying w due cuts)) (sym sets.1)
       (forced-same values waiting due cuts gate so_far (inr is)))
   sets-gate Unknown Zero values values' waiting waiting' due cuts gate so_far is_gate was is sets =
-      subst (λ (v : List Tri). ForcedSoFar netlist listed v waiting' due cuts []) (sym sets.0) (subst (λ (w : List ℕ). ForcedSoFar netlist listed (set values gate Zero) w due cuts []) (sym sets.1)
+      subst (λ (v : List Tri). ForcedSoFar netlist listed v (carrying waiting' due cuts)) (sym sets.0) (subst (λ (w : List ℕ). ForcedSoFar netlist listed (set values gate Zero) (carrying w due cuts)) (sym sets.1)
       (gate-known values waiting due cuts gate false so_far is_gate was is))
   sets-gate Unknown One values values' waiting waiting' due cuts gate so_far is_gate was is sets =
-      subst (λ (v : List Tri). ForcedSoFar netlist listed v waiting' due cuts []) (sym sets.0) (subst (λ (w : List ℕ). ForcedSoFar netlist listed (set values gate One) w due cuts []) (sym sets.1)
+      subst (λ (v : List Tri). ForcedSoFar netlist listed v (carrying waiting' due cuts)) (sym sets.0) (subst (λ (w : List ℕ). ForcedSoFar netlist listed (set values gate One) (carrying w due cuts)) (sym sets.1)
       (gate-known values waiting due cuts gate true so_far is_gate was is))
 
   -- what is done to a gate one of whose wires was set
-  pub forced-gate : (values values' : List Tri) (waiting waiting' due cuts : List ℕ) (gate : ℕ) → ForcedSoFar netlist listed values waiting due cuts (gate ∷ []) → IsGateNumber netlist gate → SetsNode (value_at values gate) (gate_extension netlist values gate) gate values values' waiting waiting' → ForcedSoFar netlist listed values' waiting' due cuts []
+  pub forced-gate : (values values' : List Tri) (waiting waiting' due cuts : List ℕ) (gate : ℕ) → ForcedSoFar netlist listed values (touching waiting due cuts (gate ∷ [])) → IsGateNumber netlist gate → SetsNode (value_at values gate) (gate_extension netlist values gate) gate values values' waiting waiting' → ForcedSoFar netlist listed values' (carrying waiting' due cuts)
   forced-gate values values' waiting waiting' due cuts gate so_far is_gate sets =
       sets-gate (value_at values gate) (gate_extension netlist values gate) values values' waiting waiting' due cuts gate so_far is_gate refl refl sets
 
   -- where all is delivered, a gate's wires have the values of its sources
-  pins-delivered : (values : List Tri) (gate : ℕ) → ForcedSoFar netlist listed values [] [] [] [] → IsGateNumber netlist gate → at_wires netlist gate values ≡ map (value_at values) (gate_at netlist gate).sources
+  pins-delivered : (values : List Tri) (gate : ℕ) → ForcedSoFar netlist listed values (only_waiting []) → IsGateNumber netlist gate → at_wires netlist gate values ≡ map (value_at values) (gate_at netlist gate).sources
   pins-delivered values gate so_far is_gate =
       let sources = (gate_at netlist gate).sources in
       let long : length (at_wires netlist gate values) ≡ length sources = length-at_wires netlist gate values circuit is_gate so_far.long in
@@ -411,7 +411,7 @@ module _ (netlist : Netlist) (listed : List (Option Bool)) (circuit : IsCircuit 
       ] ∙ sym (get_or-map (value_at values) sources k 0 Zero inside)))
 
   -- at the end the values are closed
-  values-closed : (values : List Tri) → ForcedSoFar netlist listed values [] [] [] [] → IsClosed netlist listed (value_at values)
+  values-closed : (values : List Tri) → ForcedSoFar netlist listed values (only_waiting []) → IsClosed netlist listed (value_at values)
   values-closed values so_far =
       record {
         agrees = so_far.agrees;
@@ -441,7 +441,7 @@ module _ (netlist : Netlist) (listed : List (Option Bool)) (circuit : IsCircuit 
       }
 
   -- what is set is forced, and what is X is open
-  pub forced-end : (values : List Tri) → ForcedSoFar netlist listed values [] [] [] [] → AreForcedValues netlist listed values
+  pub forced-end : (values : List Tri) → ForcedSoFar netlist listed values (only_waiting []) → AreForcedValues netlist listed values
   forced-end values so_far =
       record {
         long = so_far.long;
@@ -451,6 +451,6 @@ module _ (netlist : Netlist) (listed : List (Option Bool)) (circuit : IsCircuit 
       }
 
   -- the node that is next is a node, and known
-  pub next-waits : (values : List Tri) (waiting due cuts touched : List ℕ) (node : ℕ) → ForcedSoFar netlist listed values (waiting ++ node ∷ []) due cuts touched → (node < length netlist.names) × (value_at values node ≢ Unknown)
+  pub next-waits : (values : List Tri) (waiting due cuts touched : List ℕ) (node : ℕ) → ForcedSoFar netlist listed values (touching (waiting ++ node ∷ []) due cuts touched) → (node < length netlist.names) × (value_at values node ≢ Unknown)
   next-waits values waiting due cuts touched node so_far =
       All-contains (λ (n : ℕ). (n < length netlist.names) × (value_at values n ≢ Unknown)) (waiting ++ node ∷ []) node so_far.waits (Contains-push waiting node)

@@ -1,21 +1,21 @@
 //! Algorithm B.
 ghost use Rattle.std.specs.Prelude.{◌≡◌, ◌+◌, ◌*◌, ◌≤◌, length};
 ghost use Rattle.hz_core.specs.Ternary.{AllBelow};
-ghost use Rattle.hz_net.specs.Network.{network_of, wires_of};
+ghost use Rattle.hz_net.specs.Network.{network_of, wires_of, IsState, AreByVariable, IsInput};
 ghost use Rattle.hz_net.specs.Passes.{excitations, algorithm_b, AreRounds, AreSettlingRounds};
 ghost use Rattle.hz_pass.specs.Changes.{differing_count};
 
 use crate::front::Front;
 use crate::round::Rule;
-use crate::rounds::make_rounds;
+use crate::rounds::Pass;
 use hz_core::Tri;
+use hz_lists::Steps;
 use hz_net::Net;
-use hz_outside::Steps;
 use std::sync::ledger::Ledger;
 
-/// Algorithm B of Brzozowski and Seger: each round puts the ternary excitations in place of the state, until a round
-/// changes nothing. From the result of Algorithm A it finds the values that may persist. The excitations of the state that
-/// it begins with lie below that state.
+/// Algorithm B of Brzozowski and Seger (*Asynchronous Circuits*, Springer 1995): each round puts the ternary excitations in
+/// place of the state, until a round changes nothing. From the result of Algorithm A it finds the values that may persist.
+/// The excitations of the state that it begins with lie below that state.
 ///
 /// Turns `state` into the result, writes into `when` the first round in which a variable that was X is 0 or 1, and 0
 /// for every other variable, and returns the rounds, the last one included, which changes nothing. The first round
@@ -31,30 +31,28 @@ pub fn settle<L: Ledger>(
     front: &mut Front,
     steps: &mut Steps<L>,
 ) -> u32
-    requires input { length input.now ≡ net.now.inputs }
-    requires state { length state.old ≡ length (network_of net.now) }
-    requires when { length when.old ≡ length (network_of net.now) }
-    requires work { length work.old ≡ length (network_of net.now) }
+    requires input { IsInput net.now input.now }
+    requires state { IsState net.now state.old }
+    requires when { AreByVariable net.now when.old }
+    requires work { IsState net.now work.old }
     requires below { AllBelow (excitations (network_of net.now) input.now state.old) state.old }
     requires front { front.old ≡ length (network_of net.now) }
     ensures rounds { AreRounds (algorithm_b (network_of net.now) input.now state.old) result }
     ensures state { state.new ≡ algorithm_b (network_of net.now) input.now state.old result }
-    ensures when { AreSettlingRounds (algorithm_b (network_of net.now) input.now state.old) state.old state.new when.new }
+    ensures when { AreSettlingRounds
+        (algorithm_b (network_of net.now) input.now state.old) state.old state.new when.new }
     ensures bound { result ≤ length (network_of net.now) + 1 }
     ensures front { front.new ≡ front.old }
     ensures least_steps { steps.old + differing_count state.old state.new ≤ steps.new }
-    ensures most_steps { steps.new ≤ steps.old + (length (network_of net.now) + 2 * length (wires_of net.now)) }
+    ensures most_steps { steps.new
+        ≤ steps.old + (length (network_of net.now) + 2 * length (wires_of net.now)) }
 {
     let variables = net.len();
-    make_rounds(
-        Rule::Replace,
+    let pass = Pass {
+        rule: Rule::Replace,
         net,
-        variables,
         input,
-        state,
-        when,
-        work,
-        front,
-        steps,
-    )
+        first: variables,
+    };
+    pass.make_rounds(state, when, work, front, steps)
 }

@@ -2,7 +2,7 @@
 ghost use Rattle.std.specs.Prelude.{◌≡◌, ◌≢◌, ℕ, ◌<◌, ◌≤◌, length, map, take, MatchResult, MatchOption, IfOk};
 ghost use Rattle.hz_core.specs.declared.tri.Tri.TheVariants.{Unknown};
 ghost use Rattle.hz_core.specs.Netlist.{IsCircuit, IsGateNumber, primary_inputs};
-ghost use Rattle.hz_net.specs.Network.{network_of, value_at, bit_at, excitation};
+ghost use Rattle.hz_net.specs.Network.{network_of, value_at, bit_at, excitation, IsState};
 ghost use Rattle.hz_net.specs.Variables.{expansion_of};
 ghost use Rattle.hz_net.specs.Starts.{ListsInputs, IsAcceptedStart};
 ghost use Rattle.hz_pass.specs.Completed.{IsStartFault, bit_or_zero, IsLeastUnknown, IsLeastUnstableIn};
@@ -35,7 +35,8 @@ pub enum StartFault {
 pub fn complete(alloc: Global, net: &Net, listed: &[Option<bool>]) -> Result<Vec<bool>, StartFault>
     requires listed { length listed.now ≡ length net.now.names }
     requires inputs { ListsInputs net.now listed.now }
-    ensures start { MatchResult result (λ state. IsAcceptedStart net.now listed.now state.items) (IsStartFault net.now listed.now) }
+    ensures start { MatchResult result (λ state. IsAcceptedStart net.now listed.now state.items)
+        (IsStartFault net.now listed.now) }
 {
     let Ok(values) = forced_values(alloc, net, listed) else {
         return Err(StartFault::Memory);
@@ -56,8 +57,9 @@ pub fn complete(alloc: Global, net: &Net, listed: &[Option<bool>]) -> Result<Vec
 // The least node that is X. The primary inputs are listed.
 fn least_open(net: &Net, values: &[Tri]) -> Option<u32>
     requires circuit { IsCircuit net.now }
-    requires values { length values.now ≡ length (network_of net.now) }
-    ensures { MatchOption result ((node : ℕ) → primary_inputs net.now ≤ node → node < length net.now.names → value_at values.now node ≢ Unknown)
+    requires values { IsState net.now values.now }
+    ensures { MatchOption result ((node : ℕ) → primary_inputs net.now ≤ node
+        → node < length net.now.names → value_at values.now node ≢ Unknown)
         (λ node. IsLeastUnknown net.now values.now node) }
 {
     let circuit = net.circuit();
@@ -72,13 +74,12 @@ fn least_open(net: &Net, values: &[Tri]) -> Option<u32>
 // The state in which each node has its value and each wire its source's.
 fn state_of(alloc: Global, net: &Net, values: &[Tri]) -> Result<Vec<bool>, Memory>
     requires circuit { IsCircuit net.now }
-    requires values { length values.now ≡ length (network_of net.now) }
-    ensures { IfOk result (λ state. state.items ≡ expansion_of net.now (map bit_or_zero (take (length net.now.names) values.now))) }
+    requires values { IsState net.now values.now }
+    ensures { IfOk result (λ state. state.items
+        ≡ expansion_of net.now (map bit_or_zero (take (length net.now.names) values.now))) }
 {
     let nodes = bits_of(alloc, &values[..net.circuit().nodes() as usize])?;
-    let Ok(mut state) = vec![in alloc; false; net.len() as usize] else {
-        return Err(Memory);
-    };
+    let mut state = vec![in alloc; false; net.len() as usize]?;
     net.expand(nodes.as_slice(), state.as_mut_slice());
     Ok(state)
 }
@@ -87,22 +88,20 @@ fn state_of(alloc: Global, net: &Net, values: &[Tri]) -> Result<Vec<bool>, Memor
 fn bits_of(alloc: Global, values: &[Tri]) -> Result<Vec<bool>, Memory>
     ensures { IfOk result (λ bits. bits.items ≡ map bit_or_zero values.now) }
 {
-    let Ok(bits) = values
+    let bits = values
         .iter()
         .map(|value| value.bit().unwrap_or(false))
-        .collect(alloc)
-    else {
-        return Err(Memory);
-    };
+        .collect(alloc)?;
     Ok(bits)
 }
 
 // The least gate that is unstable under the inputs of the state.
 fn least_unstable(net: &Net, state: &[bool]) -> Option<u32>
     requires circuit { IsCircuit net.now }
-    requires state { length state.now ≡ length (network_of net.now) }
+    requires state { IsState net.now state.now }
     ensures { MatchOption result
-        ((gate : ℕ) → IsGateNumber net.now gate → bit_at state.now gate ≡ excitation (network_of net.now) (take net.now.inputs state.now) state.now gate)
+        ((gate : ℕ) → IsGateNumber net.now gate → bit_at state.now gate
+        ≡ excitation (network_of net.now) (take net.now.inputs state.now) state.now gate)
         (λ gate. IsLeastUnstableIn net.now state.now gate) }
 {
     let circuit = net.circuit();

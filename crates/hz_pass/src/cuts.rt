@@ -6,14 +6,15 @@ ghost use Rattle.hz_pass.specs.CutLists.{cuts_at, AreByData, AreDataCutsBelow};
 use hz_core::{Circuit, Memory};
 use std::alloc::Global;
 
-// For each node the cuts whose data node it is; no list at all if each cut is listed.
+/// For each node the cuts whose data node it is; no list at all if each cut is listed.
 pub(crate) fn cuts_by_data(
     alloc: Global,
     circuit: &Circuit,
     listed: &[Option<bool>],
 ) -> Result<Vec<Vec<u32>>, Memory>
     requires { length listed.now ≡ length circuit.now.names }
-    ensures { IfOk result (λ lists. AreByData circuit.now listed.now (map (λ list. list.items) lists.items)) }
+    ensures { IfOk result (λ lists. AreByData circuit.now listed.now
+        (map (λ list. list.items) lists.items)) }
 {
     if lists_all_cuts(circuit, listed) {
         return Ok(Vec::new(alloc));
@@ -26,7 +27,8 @@ pub(crate) fn cuts_by_data(
 // Whether each cut is listed.
 fn lists_all_cuts(circuit: &Circuit, listed: &[Option<bool>]) -> bool
     requires { length listed.now ≡ length circuit.now.names }
-    ensures { IsTrue result → (cut : ℕ) → IsCutNumber circuit.now cut → slice_get listed.now cut ≢ Some None }
+    ensures { IsTrue result → (cut : ℕ) → IsCutNumber circuit.now cut → slice_get listed.now cut
+        ≢ Some None }
 {
     for cut in circuit.primary_inputs()..circuit.inputs() {
         if listed[cut as usize].is_none() {
@@ -40,13 +42,9 @@ fn lists_all_cuts(circuit: &Circuit, listed: &[Option<bool>]) -> bool
 fn empty_lists(alloc: Global, count: u32) -> Result<Vec<Vec<u32>>, Memory>
     ensures { IfOk result (λ lists. map (λ list. list.items) lists.items ≡ replicate count []) }
 {
-    let Ok(mut lists) = Vec::with_capacity(alloc, count as usize) else {
-        return Err(Memory);
-    };
+    let mut lists = Vec::with_capacity(alloc, count as usize)?;
     for _list in 0..count {
-        let Ok(()) = lists.push(Vec::new(alloc)) else {
-            return Err(Memory);
-        };
+        lists.push(Vec::new(alloc))?;
     }
     Ok(lists)
 }
@@ -54,7 +52,8 @@ fn empty_lists(alloc: Global, count: u32) -> Result<Vec<Vec<u32>>, Memory>
 // Puts each cut into the list of its data node.
 fn file_cuts(circuit: &Circuit, lists: &mut [Vec<u32>]) -> Result<(), Memory>
     requires { map (λ list. list.items) lists.old ≡ replicate (length circuit.now.names) [] }
-    ensures { OnOk result (AreDataCutsBelow circuit.now (map (λ list. list.items) lists.new) circuit.now.inputs) }
+    ensures { OnOk result (AreDataCutsBelow circuit.now
+        (map (λ list. list.items) lists.new) circuit.now.inputs) }
 {
     for cut in circuit.primary_inputs()..circuit.inputs() {
         if let Some(node) = circuit.data_of(cut) {
@@ -67,12 +66,12 @@ fn file_cuts(circuit: &Circuit, lists: &mut [Vec<u32>]) -> Result<(), Memory>
 // Puts a cut into the list of a node, after those that are there.
 fn file(lists: &mut [Vec<u32>], node: u32, cut: u32) -> Result<(), Memory>
     requires { node < length lists.old }
-    ensures { OnOk result (map (λ list. list.items) lists.new ≡ slice_set (map (λ list. list.items) lists.old) node (cuts_at (map (λ list. list.items) lists.old) node ++ cut ∷ [])) }
+    ensures { OnOk result (map (λ list. list.items) lists.new
+        ≡ slice_set (map (λ list. list.items) lists.old) node
+        (cuts_at (map (λ list. list.items) lists.old) node ++ cut ∷ [])) }
 {
     let list = &mut lists[node as usize];
-    let Ok(()) = list.push(cut) else {
-        return Err(Memory);
-    };
+    list.push(cut)?;
     Ok(())
 }
 

@@ -15,18 +15,18 @@ ghost use Rattle.std.specs.Prelude.{◌≡◌, ◌≢◌, ◌+◌, ◌<◌, ◌�
 ghost use Rattle.hz_core.specs.declared.tri.Tri.TheVariants.{Unknown};
 ghost use Rattle.hz_core.specs.Ternary.{unknown_count};
 ghost use Rattle.hz_core.specs.Netlist.{IsCircuit, IsGateNumber};
-ghost use Rattle.hz_net.specs.Network.{network_of, value_at};
+ghost use Rattle.hz_net.specs.Network.{network_of, value_at, IsState, IsVariable};
 ghost use Rattle.hz_net.specs.Variables.{fan_out_of};
 ghost use Rattle.hz_net.specs.Reads.{IsWireInto};
 ghost use Rattle.hz_pass.specs.CutLists.{IsDataOf};
-ghost use Rattle.hz_pass.specs.Forcing.{HasListedValues, IsTaken, gate_extension, SetsNode, ForcedSoFar, AreForcedValues};
+ghost use Rattle.hz_pass.specs.Forcing.{HasListedValues, IsTaken, gate_extension, SetsNode, ForcedSoFar, AreForcedValues, carrying, only_waiting};
 
 use crate::cuts::{cuts_at, cuts_by_data};
 use hz_core::{Memory, Tri};
 use hz_net::{Net, VarKind};
 use std::alloc::Global;
 
-// The value that each variable is forced to, X if it is open.
+/// The value that each variable is forced to, X if it is open.
 pub(crate) fn forced_values(
     alloc: Global,
     net: &Net,
@@ -35,12 +35,8 @@ pub(crate) fn forced_values(
     requires { length listed.now ≡ length net.now.names }
     ensures { IfOk result (λ values. AreForcedValues net.now listed.now values.items) }
 {
-    let Ok(mut values) = vec![in alloc; Tri::Unknown; net.len() as usize] else {
-        return Err(Memory);
-    };
-    let Ok(mut waiting) = Vec::with_capacity(alloc, listed.len()) else {
-        return Err(Memory);
-    };
+    let mut values = vec![in alloc; Tri::Unknown; net.len() as usize]?;
+    let mut waiting = Vec::with_capacity(alloc, listed.len())?;
     let cuts = cuts_by_data(alloc, net.circuit(), listed)?;
     set_listed(listed, values.as_mut_slice(), &mut waiting)?;
     while let Some(node) = waiting.pop() {
@@ -65,9 +61,7 @@ fn set_listed(
     for node in 0..listed.len() {
         if let Some(bit) = listed[node] {
             values[node] = Tri::of(bit);
-            let Ok(()) = waiting.push(node as u32) else {
-                return Err(Memory);
-            };
+            waiting.push(node as u32)?;
         }
     }
     Ok(())
@@ -84,12 +78,14 @@ fn carry(
     requires circuit { IsCircuit net.now }
     requires cuts { All (IsDataOf net.now node) cuts.now }
     requires node { node < length net.now.names }
-    requires values { length values.old ≡ length (network_of net.now) }
+    requires values { IsState net.now values.old }
     requires known { value_at values.old node ≢ Unknown }
     ensures forced { (listed : List (Option Bool)) → length listed ≡ length net.now.names
-        → ForcedSoFar net.now listed values.old waiting.old.items (fan_out_of net.now node) cuts.now []
-        → OnOk result (ForcedSoFar net.now listed values.new waiting.new.items [] [] []) }
-    ensures fewer { OnOk result (unknown_count values.new + length waiting.new.items ≤ unknown_count values.old + length waiting.old.items) }
+        → ForcedSoFar net.now listed values.old
+        (carrying waiting.old.items (fan_out_of net.now node) cuts.now)
+        → OnOk result (ForcedSoFar net.now listed values.new (only_waiting waiting.new.items)) }
+    ensures fewer { OnOk result (unknown_count values.new + length waiting.new.items
+        ≤ unknown_count values.old + length waiting.old.items) }
 {
     take_data(cuts, values[node as usize], values, waiting)?;
     deliver(net, node, values, waiting)
@@ -104,7 +100,8 @@ fn take_data(
 ) -> Result<(), Memory>
     requires inside { All (λ cut. cut < length values.old) cuts.now }
     requires known { value ≢ Unknown }
-    ensures { OnOk result (IsTaken cuts.now value values.old values.new waiting.old.items waiting.new.items (length cuts.now)) }
+    ensures { OnOk result (IsTaken cuts.now value values.old values.new
+        waiting.old.items waiting.new.items (length cuts.now)) }
 {
     for cut in cuts {
         set_cut(*cut, value, values, waiting)?;
@@ -116,15 +113,14 @@ fn take_data(
 fn set_cut(cut: u32, value: Tri, values: &mut [Tri], waiting: &mut Vec<u32>) -> Result<(), Memory>
     requires inside { cut < length values.old }
     requires known { value ≢ Unknown }
-    ensures { OnOk result (SetsNode (value_at values.old cut) value cut values.old values.new waiting.old.items waiting.new.items) }
+    ensures { OnOk result (SetsNode (value_at values.old cut) value cut
+        values.old values.new waiting.old.items waiting.new.items) }
 {
     if values[cut as usize] != Tri::Unknown {
         return Ok(());
     }
     values[cut as usize] = value;
-    let Ok(()) = waiting.push(cut) else {
-        return Err(Memory);
-    };
+    waiting.push(cut)?;
     Ok(())
 }
 
@@ -132,12 +128,14 @@ fn set_cut(cut: u32, value: Tri, values: &mut [Tri], waiting: &mut Vec<u32>) -> 
 fn deliver(net: &Net, node: u32, values: &mut [Tri], waiting: &mut Vec<u32>) -> Result<(), Memory>
     requires circuit { IsCircuit net.now }
     requires node { node < length net.now.names }
-    requires values { length values.old ≡ length (network_of net.now) }
+    requires values { IsState net.now values.old }
     requires known { value_at values.old node ≢ Unknown }
     ensures forced { (listed : List (Option Bool)) → length listed ≡ length net.now.names
-        → ForcedSoFar net.now listed values.old waiting.old.items (fan_out_of net.now node) [] []
-        → OnOk result (ForcedSoFar net.now listed values.new waiting.new.items [] [] []) }
-    ensures fewer { OnOk result (unknown_count values.new + length waiting.new.items ≤ unknown_count values.old + length waiting.old.items) }
+        → ForcedSoFar net.now listed values.old
+        (carrying waiting.old.items (fan_out_of net.now node) [])
+        → OnOk result (ForcedSoFar net.now listed values.new (only_waiting waiting.new.items)) }
+    ensures fewer { OnOk result (unknown_count values.new + length waiting.new.items
+        ≤ unknown_count values.old + length waiting.old.items) }
 {
     let value = values[node as usize];
     for wire in net.fan_out(node) {
@@ -151,7 +149,7 @@ fn deliver(net: &Net, node: u32, values: &mut [Tri], waiting: &mut Vec<u32>) -> 
 fn gate_of(net: &Net, wire: u32) -> u32
     requires circuit { IsCircuit net.now }
     requires above { length net.now.names ≤ wire }
-    requires below { wire < length (network_of net.now) }
+    requires below { IsVariable net.now wire }
     ensures gate { IsGateNumber net.now result }
     ensures into { IsWireInto (network_of net.now) result wire }
 {
@@ -166,8 +164,9 @@ fn gate_of(net: &Net, wire: u32) -> u32
 fn set_gate(net: &Net, gate: u32, values: &mut [Tri], waiting: &mut Vec<u32>) -> Result<(), Memory>
     requires circuit { IsCircuit net.now }
     requires gate { IsGateNumber net.now gate }
-    requires values { length values.old ≡ length (network_of net.now) }
-    ensures { OnOk result (SetsNode (value_at values.old gate) (gate_extension net.now values.old gate) gate
+    requires values { IsState net.now values.old }
+    ensures { OnOk result (SetsNode (value_at values.old gate)
+        (gate_extension net.now values.old gate) gate
         values.old values.new waiting.old.items waiting.new.items) }
 {
     if values[gate as usize] != Tri::Unknown {
@@ -178,16 +177,14 @@ fn set_gate(net: &Net, gate: u32, values: &mut [Tri], waiting: &mut Vec<u32>) ->
         return Ok(());
     }
     values[gate as usize] = extended;
-    let Ok(()) = waiting.push(gate) else {
-        return Err(Memory);
-    };
+    waiting.push(gate)?;
     Ok(())
 }
 
 // The ternary extension of a gate's function on its wires.
 fn extend(net: &Net, gate: u32, values: &[Tri]) -> Tri
     requires gate { IsGateNumber net.now gate }
-    requires values { length values.now ≡ length (network_of net.now) }
+    requires values { IsState net.now values.now }
     ensures { result ≡ gate_extension net.now values.now gate }
 {
     let (first, pins) = net.wires_in(gate);

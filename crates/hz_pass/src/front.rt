@@ -33,12 +33,8 @@ impl Front {
         ensures { IfOk result (λ front. front ≡ length (network_of net.now)) }
     {
         let variables = net.len() as usize;
-        let Ok(due) = Vec::with_capacity(alloc, variables) else {
-            return Err(Memory);
-        };
-        let Ok(changed) = Vec::with_capacity(alloc, variables) else {
-            return Err(Memory);
-        };
+        let due = Vec::with_capacity(alloc, variables)?;
+        let changed = Vec::with_capacity(alloc, variables)?;
         Ok(Front { due, changed })
     }
 }

@@ -1,15 +1,16 @@
 //! One round of a pass, which evaluates some of the variables.
-ghost use Rattle.std.specs.Prelude.{◌≡◌, ◌+◌, ◌<◌, ◌≤◌, ℕ, [], length, not, fold, slice_set, sum_by, vec_capacity, All};
+ghost use Rattle.std.specs.Prelude.{◌≡◌, ◌+◌, ◌<◌, ◌≤◌, [], length, not, fold, slice_set, sum_by, vec_capacity, All};
 ghost use Rattle.hz_core.specs.Netlist.{IsCircuit};
-ghost use Rattle.hz_net.specs.Network.{network_of};
-ghost use Rattle.hz_pass.specs.Frontier.{next_value, is_open, Falls, IsMade, IsQuiet, IsRoundSoFar, IsRound, reader_count, with_values_of};
+ghost use Rattle.hz_net.specs.Network.{network_of, IsVariable};
+ghost use Rattle.hz_pass.specs.Frontier.{next_value, is_open, reader_count, with_values_of};
+ghost use Rattle.hz_pass.specs.InRound.{CanBeMade, IsMadeIn, IsQuietIn, KeepsMade, LeavesFrom, Makes, MakesSoFar};
 
 use hz_core::Tri;
+use hz_lists::Steps;
 use hz_net::Net;
-use hz_outside::Steps;
 use std::sync::ledger::Ledger;
 
-// How a round makes the next value of a variable of its value and its excitation.
+/// How a round makes the next value of a variable of its value and its excitation.
 #[derive(Clone, Copy, Debug)]
 pub(crate) enum Rule {
     // Algorithm A joins them.
@@ -40,7 +41,7 @@ impl Rule {
     }
 }
 
-// A round from a state. What it makes is written into another list, so no evaluation sees a value of this round.
+/// A round from a state. What it makes is written into another list, so no evaluation sees a value of this round.
 #[derive(Clone, Copy, Debug)]
 pub(crate) struct Round<'a> {
     pub rule: Rule,
@@ -50,7 +51,7 @@ pub(crate) struct Round<'a> {
 }
 
 impl Round<'_> {
-    // Evaluates the variables below a number. The round leaves all others as they are.
+    /// Evaluates the variables below a number. The round leaves all others as they are.
     pub(crate) fn evaluate_first<L: Ledger>(
         &self,
         count: u32,
@@ -58,15 +59,13 @@ impl Round<'_> {
         changed: &mut Vec<u32>,
         steps: &mut Steps<L>,
     )
-        requires input { length self.now.input.now ≡ self.now.net.now.inputs }
-        requires state { length self.now.state.now ≡ length (network_of self.now.net.now) }
+        requires round { CanBeMade self.now }
         requires count { count ≤ length (network_of self.now.net.now) }
-        requires rest { (i : ℕ) → count ≤ i → i < length (network_of self.now.net.now) → IsMade self.now.rule (network_of self.now.net.now) self.now.input.now self.now.state.now self.now.state.now i }
-        requires falls { Falls self.now.rule (network_of self.now.net.now) self.now.input.now self.now.state.now }
+        requires rest { LeavesFrom count self.now }
         requires next { next.old ≡ self.now.state.now }
         requires none { changed.old.items ≡ [] }
         requires room { length (network_of self.now.net.now) ≤ vec_capacity changed.old }
-        ensures round { IsRound self.now.rule (network_of self.now.net.now) self.now.input.now self.now.state.now next.new changed.new.items }
+        ensures round { Makes self.now next.new changed.new.items }
         ensures room { vec_capacity changed.new ≡ vec_capacity changed.old }
         ensures steps { steps.new ≡ steps.old + count }
         ensures counted { steps.old + length changed.new.items ≤ steps.new }
@@ -76,7 +75,7 @@ impl Round<'_> {
         }
     }
 
-    // Evaluates the readers of the variables that the round before changed, which are due.
+    /// Evaluates the readers of the variables that the round before changed, which are due.
     pub(crate) fn evaluate_readers<L: Ledger>(
         &self,
         due: &[u32],
@@ -85,15 +84,13 @@ impl Round<'_> {
         steps: &mut Steps<L>,
     )
         requires circuit { IsCircuit self.now.net.now }
-        requires input { length self.now.input.now ≡ self.now.net.now.inputs }
-        requires state { length self.now.state.now ≡ length (network_of self.now.net.now) }
-        requires falls { Falls self.now.rule (network_of self.now.net.now) self.now.input.now self.now.state.now }
-        requires quiet { IsQuiet self.now.rule (network_of self.now.net.now) self.now.input.now self.now.state.now due.now }
-        requires due { All (λ var. var < length (network_of self.now.net.now)) due.now }
+        requires round { CanBeMade self.now }
+        requires quiet { IsQuietIn self.now due.now }
+        requires due { All (IsVariable self.now.net.now) due.now }
         requires next { next.old ≡ self.now.state.now }
         requires none { changed.old.items ≡ [] }
         requires room { length (network_of self.now.net.now) ≤ vec_capacity changed.old }
-        ensures round { IsRound self.now.rule (network_of self.now.net.now) self.now.input.now self.now.state.now next.new changed.new.items }
+        ensures round { Makes self.now next.new changed.new.items }
         ensures room { vec_capacity changed.new ≡ vec_capacity changed.old }
         ensures steps { steps.new ≡ steps.old + sum_by (reader_count self.now.net.now) due.now }
         ensures counted { steps.old + length changed.new.items ≤ steps.new }
@@ -111,19 +108,17 @@ impl Round<'_> {
         changed: &mut Vec<u32>,
         steps: &mut Steps<L>,
     )
-        requires input { length self.now.input.now ≡ self.now.net.now.inputs }
-        requires state { length self.now.state.now ≡ length (network_of self.now.net.now) }
-        requires falls { Falls self.now.rule (network_of self.now.net.now) self.now.input.now self.now.state.now }
-        requires inside { All (λ var. var < length (network_of self.now.net.now)) list.now }
-        requires so_far { IsRoundSoFar self.now.rule (network_of self.now.net.now) self.now.input.now self.now.state.now next.old changed.old.items }
+        requires round { CanBeMade self.now }
+        requires inside { All (IsVariable self.now.net.now) list.now }
+        requires so_far { MakesSoFar self.now next.old changed.old.items }
         requires room { length (network_of self.now.net.now) ≤ vec_capacity changed.old }
-        ensures so_far { IsRoundSoFar self.now.rule (network_of self.now.net.now) self.now.input.now self.now.state.now next.new changed.new.items }
-        ensures made { All (IsMade self.now.rule (network_of self.now.net.now) self.now.input.now self.now.state.now next.new) list.now }
-        ensures kept { (var : ℕ) → IsMade self.now.rule (network_of self.now.net.now) self.now.input.now self.now.state.now next.old var
-            → IsMade self.now.rule (network_of self.now.net.now) self.now.input.now self.now.state.now next.new var }
+        ensures so_far { MakesSoFar self.now next.new changed.new.items }
+        ensures made { All (IsMadeIn self.now next.new) list.now }
+        ensures kept { KeepsMade self.now next.old next.new }
         ensures room { vec_capacity changed.new ≡ vec_capacity changed.old }
         ensures steps { steps.new ≡ steps.old + length list.now }
-        ensures counted { steps.old + length changed.new.items ≤ steps.new + length changed.old.items }
+        ensures counted { steps.old + length changed.new.items
+            ≤ steps.new + length changed.old.items }
     {
         for var in list {
             self.evaluate(*var, next, changed, steps);
@@ -139,19 +134,17 @@ impl Round<'_> {
         changed: &mut Vec<u32>,
         steps: &mut Steps<L>,
     )
-        requires input { length self.now.input.now ≡ self.now.net.now.inputs }
-        requires state { length self.now.state.now ≡ length (network_of self.now.net.now) }
-        requires falls { Falls self.now.rule (network_of self.now.net.now) self.now.input.now self.now.state.now }
-        requires var { var < length (network_of self.now.net.now) }
-        requires so_far { IsRoundSoFar self.now.rule (network_of self.now.net.now) self.now.input.now self.now.state.now next.old changed.old.items }
+        requires round { CanBeMade self.now }
+        requires var { IsVariable self.now.net.now var }
+        requires so_far { MakesSoFar self.now next.old changed.old.items }
         requires room { length (network_of self.now.net.now) ≤ vec_capacity changed.old }
-        ensures so_far { IsRoundSoFar self.now.rule (network_of self.now.net.now) self.now.input.now self.now.state.now next.new changed.new.items }
-        ensures made { IsMade self.now.rule (network_of self.now.net.now) self.now.input.now self.now.state.now next.new var }
-        ensures kept { (other : ℕ) → IsMade self.now.rule (network_of self.now.net.now) self.now.input.now self.now.state.now next.old other
-            → IsMade self.now.rule (network_of self.now.net.now) self.now.input.now self.now.state.now next.new other }
+        ensures so_far { MakesSoFar self.now next.new changed.new.items }
+        ensures made { IsMadeIn self.now next.new var }
+        ensures kept { KeepsMade self.now next.old next.new }
         ensures room { vec_capacity changed.new ≡ vec_capacity changed.old }
         ensures steps { steps.new ≡ steps.old + 1 }
-        ensures counted { steps.old + length changed.new.items ≤ steps.new + length changed.old.items }
+        ensures counted { steps.old + length changed.new.items
+            ≤ steps.new + length changed.old.items }
     {
         if self.rule.is_final(next[var as usize]) {
             steps.tick();
@@ -166,7 +159,7 @@ impl Round<'_> {
     }
 }
 
-// Takes the changed values over into the state, and notes the round at each of them.
+/// Takes the changed values over into the state, and notes the round at each of them.
 pub(crate) fn take_over(
     changed: &[u32],
     next: &[Tri],
@@ -178,7 +171,8 @@ pub(crate) fn take_over(
     requires state { length state.old ≡ length next.now }
     requires noted { length noted.old ≡ length next.now }
     ensures state { state.new ≡ with_values_of next.now state.old changed.now }
-    ensures noted { noted.new ≡ fold (λ noted var. slice_set noted var round) noted.old changed.now }
+    ensures noted { noted.new ≡ fold
+        (λ noted var. slice_set noted var round) noted.old changed.now }
 {
     for var in changed {
         state[*var as usize] = next[*var as usize];

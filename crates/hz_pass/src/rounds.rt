@@ -1,72 +1,79 @@
 //! The rounds of a pass.
-ghost use Rattle.std.specs.Prelude.{◌≡◌, ℕ, ◌+◌, ◌*◌, ◌<◌, ◌≤◌, length};
-ghost use Rattle.hz_net.specs.Network.{network_of, wires_of};
+ghost use Rattle.std.specs.Prelude.{◌≡◌, ◌+◌, ◌*◌, ◌≤◌, length};
+ghost use Rattle.hz_net.specs.Network.{network_of, wires_of, AreByVariable};
 ghost use Rattle.hz_net.specs.Passes.{AreRounds};
 ghost use Rattle.hz_pass.specs.Changes.{differing_count};
-ghost use Rattle.hz_pass.specs.Frontier.{Falls, IsMade, round_states, AreFirstRounds};
+ghost use Rattle.hz_pass.specs.Frontier.{AreFirstRounds};
+ghost use Rattle.hz_pass.specs.InRound.{states_from, CanBegin};
 
 use crate::front::Front;
 use crate::round::{Round, Rule, take_over};
 use hz_core::Tri;
+use hz_lists::Steps;
 use hz_net::Net;
-use hz_outside::Steps;
 use std::mem::swap;
 use std::sync::ledger::Ledger;
 
-// Makes rounds from a state until one changes nothing, and returns how many, that one included. Notes at each variable the
-// round that changed it, or 0 if none did. The first round evaluates the variables below a number, since it leaves all others
-// as they are, and a later one the readers of what the round before changed.
-pub(crate) fn make_rounds<L: Ledger>(
-    rule: Rule,
-    net: &Net,
-    first: u32,
-    input: &[bool],
-    state: &mut [Tri],
-    noted: &mut [u32],
-    work: &mut [Tri],
-    front: &mut Front,
-    steps: &mut Steps<L>,
-) -> u32
-    requires input { length input.now ≡ net.now.inputs }
-    requires state { length state.old ≡ length (network_of net.now) }
-    requires noted { length noted.old ≡ length (network_of net.now) }
-    requires work { length work.old ≡ length (network_of net.now) }
-    requires front { front.old ≡ length (network_of net.now) }
-    requires falls { Falls rule (network_of net.now) input.now state.old }
-    requires first { first ≤ length (network_of net.now) }
-    requires rest { (i : ℕ) → first ≤ i → i < length (network_of net.now) → IsMade rule (network_of net.now) input.now state.old state.old i }
-    ensures rounds { AreRounds (round_states rule (network_of net.now) input.now state.old) result }
-    ensures state { state.new ≡ round_states rule (network_of net.now) input.now state.old result }
-    ensures noted { AreFirstRounds (round_states rule (network_of net.now) input.now state.old) state.new noted.new }
-    ensures bound { result ≤ length (network_of net.now) + 1 }
-    ensures front { front.new ≡ front.old }
-    ensures least_steps { steps.old + differing_count state.old state.new ≤ steps.new }
-    ensures most_steps { steps.new ≤ steps.old + (first + 2 * length (wires_of net.now)) }
-{
-    let _variables = net.len();
-    work.copy_from_slice(state);
-    noted.fill(0);
-    let round = Round {
-        rule,
-        net,
-        input,
-        state,
-    };
-    round.evaluate_first(first, work, &mut front.changed, steps);
-    let mut rounds = 1;
-    while !front.changed.is_empty() {
-        take_over(front.changed.as_slice(), work, rounds, state, noted);
-        swap(&mut front.due, &mut front.changed);
-        front.changed.clear();
+/// A pass of either algorithm over a network, under an input.
+#[derive(Clone, Copy, Debug)]
+pub(crate) struct Pass<'a> {
+    pub rule: Rule,
+    pub net: &'a Net,
+    pub input: &'a [bool],
+    /// The first round evaluates the variables below this number, since it leaves all others as they are.
+    pub first: u32,
+}
+
+impl Pass<'_> {
+    /// Makes rounds from a state until one changes nothing, and returns how many, that one included. Notes at each variable
+    /// the round that changed it, or 0 if none did. A later round than the first evaluates the readers of what the round
+    /// before changed.
+    pub(crate) fn make_rounds<L: Ledger>(
+        &self,
+        state: &mut [Tri],
+        noted: &mut [u32],
+        work: &mut [Tri],
+        front: &mut Front,
+        steps: &mut Steps<L>,
+    ) -> u32
+        requires pass { CanBegin self.now state.old }
+        requires noted { AreByVariable self.now.net.now noted.old }
+        requires work { AreByVariable self.now.net.now work.old }
+        requires front { front.old ≡ length (network_of self.now.net.now) }
+        ensures rounds { AreRounds (states_from self.now state.old) result }
+        ensures state { state.new ≡ states_from self.now state.old result }
+        ensures noted { AreFirstRounds (states_from self.now state.old) state.new noted.new }
+        ensures bound { result ≤ length (network_of self.now.net.now) + 1 }
+        ensures front { front.new ≡ front.old }
+        ensures least_steps { steps.old + differing_count state.old state.new ≤ steps.new }
+        ensures most_steps { steps.new
+            ≤ steps.old + (self.now.first + 2 * length (wires_of self.now.net.now)) }
+    {
+        let _variables = self.net.len();
+        work.copy_from_slice(state);
+        noted.fill(0);
         let round = Round {
-            rule,
-            net,
-            input,
+            rule: self.rule,
+            net: self.net,
+            input: self.input,
             state,
         };
-        round.evaluate_readers(front.due.as_slice(), work, &mut front.changed, steps);
-        rounds += 1;
+        round.evaluate_first(self.first, work, &mut front.changed, steps);
+        let mut rounds = 1;
+        while !front.changed.is_empty() {
+            take_over(front.changed.as_slice(), work, rounds, state, noted);
+            swap(&mut front.due, &mut front.changed);
+            front.changed.clear();
+            let round = Round {
+                rule: self.rule,
+                net: self.net,
+                input: self.input,
+                state,
+            };
+            round.evaluate_readers(front.due.as_slice(), work, &mut front.changed, steps);
+            rounds += 1;
+        }
+        front.due.clear();
+        rounds
     }
-    front.due.clear();
-    rounds
 }

@@ -2,8 +2,8 @@
 use Rattle.std.proofs.Common.{◌≡◌, ◌∙◌, ℕ, ◌+◌, ◌<◌, List, [], ◌∷◌, ◌++◌, length, map, take, get_or, sym, subst, ap, arith}
 use Rattle.std.proofs.lemmas.List.{length-append, take_more, map_push}
 use Rattle.smallvec.specs.SmallVec.{SmallVec}
-use Rattle.hz_net.specs.Parts.{parts_from, EndsAt}
-use Rattle.hz_net.proofs.PartLemmas.{EndsAt-push, parts_from-push}
+use Rattle.hz_lists.specs.Parts.{parts_from, EndsAt}
+use Rattle.hz_lists.proofs.PartLemmas.{EndsAt-push, parts_from-push}
 
 pub record AreLaid (ends numbers : List ℕ) (lists : List (List ℕ)) : Type 0 where
   pub cut : EndsAt 0 ends (length numbers)

@@ -1,6 +1,6 @@
 -- What the fields of lists stand for.
 use Rattle.std.specs.Prelude.{ℕ, List, length}
-use Rattle.hz_net.specs.Parts.{parts_from, EndsAt}
+use Rattle.hz_lists.specs.Parts.{parts_from, EndsAt}
 use Rattle.hz_plane.specs.declared.lists.Lists.TheInside.{Inside}
 
 abbrev pub lists_of : Inside → List (List ℕ)

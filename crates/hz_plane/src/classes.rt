@@ -2,7 +2,7 @@
 //! foresees; where kinds alternate, half of a pass is spent on what it guessed wrong.
 ghost use Rattle.std.specs.Prelude.{◌≡◌, ◌+◌, ◌<◌, ◌≤◌, IfOk, OnOk, IsTrue, length};
 ghost use Rattle.hz_core.specs.Netlist.{IsGateNumber};
-ghost use Rattle.hz_net.specs.Network.{network_of};
+ghost use Rattle.hz_net.specs.Network.{AreByVariable, IsVariable};
 ghost use Rattle.hz_plane.specs.Orders.{IsOrderSoFar};
 
 use crate::order::place;
@@ -53,7 +53,7 @@ fn place_ready(
     placed: &mut [bool],
     order: &mut Vec<u32>,
 ) -> Result<(), Memory>
-    requires waits { length waits.old ≡ length (network_of net.now) }
+    requires waits { AreByVariable net.now waits.old }
     requires ready { length ready.old ≡ 24 }
     requires so_far { IsOrderSoFar net.now placed.old order.old.items }
     requires placed { length placed.old ≡ length net.now.names }
@@ -133,7 +133,7 @@ fn number_of(kind: Kind) -> usize
 
 // Counts for each gate the pins that read gates, and files those that have none.
 fn file_first(net: &Net, waits: &mut [u32], ready: &mut [Vec<u32>]) -> Result<(), Memory>
-    requires waits { length waits.old ≡ length (network_of net.now) }
+    requires waits { AreByVariable net.now waits.old }
     requires ready { length ready.old ≡ 24 }
 {
     let _variables = net.len();
@@ -181,7 +181,7 @@ fn tell_readers(
     ready: &mut [Vec<u32>],
 ) -> Result<(), Memory>
     requires gate { IsGateNumber net.now gate }
-    requires waits { length waits.old ≡ length (network_of net.now) }
+    requires waits { AreByVariable net.now waits.old }
     requires ready { length ready.old ≡ 24 }
 {
     let _variables = net.len();
@@ -193,8 +193,8 @@ fn tell_readers(
 
 // Tells the gate of a wire, and files it if it waits for no other pin.
 fn tell_gates(net: &Net, wire: u32, waits: &mut [u32], ready: &mut [Vec<u32>]) -> Result<(), Memory>
-    requires wire { wire < length (network_of net.now) }
-    requires waits { length waits.old ≡ length (network_of net.now) }
+    requires wire { IsVariable net.now wire }
+    requires waits { AreByVariable net.now waits.old }
     requires ready { length ready.old ≡ 24 }
 {
     for reader in net.readers(wire) {

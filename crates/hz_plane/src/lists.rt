@@ -3,7 +3,7 @@ ghost use Rattle.std.specs.Prelude.{◌≡◌, ◌<◌, IfOk, length, map};
 ghost use Rattle.hz_plane.specs.Sweeps.{readers_at};
 
 use hz_core::Memory;
-use hz_net::part_at;
+use hz_lists::part_at;
 use smallvec::SmallVec;
 use std::alloc::Global;
 use std::marker::Model;

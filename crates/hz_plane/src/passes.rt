@@ -4,7 +4,7 @@ ghost use Rattle.std.specs.List.{slice_index_or};
 ghost use Rattle.hz_core.specs.declared.tri.Tri.{Tri};
 ghost use Rattle.hz_core.specs.Ternary.{tri_of, AllBelow};
 ghost use Rattle.hz_core.specs.Netlist.{Netlist, IsCircuit, IsWhole};
-ghost use Rattle.hz_net.specs.Network.{network_of};
+ghost use Rattle.hz_net.specs.Network.{network_of, IsInput};
 ghost use Rattle.hz_net.specs.Passes.{excitations, algorithm_b, AreRounds};
 ghost use Rattle.hz_net.specs.TernaryStarts.{algorithm_a_from};
 ghost use Rattle.hz_plane.specs.Pairs.{pair_at, widened_pair, known_pair};
@@ -185,7 +185,7 @@ pub(crate) fn spread(
     requires schedule { IsSchedule net.now schedule.now }
     requires circuit { IsCircuit net.now }
     requires whole { IsWhole net.now }
-    requires inputs { length inputs.now ≡ net.now.inputs }
+    requires inputs { IsInput net.now inputs.now }
     requires values { length values.old ≡ length net.now.names }
     requires planes { AreAllPlanes values.old }
     requires marks { length marks.old ≡ length schedule.now.order.items / 64 + 1 }
@@ -220,7 +220,7 @@ pub(crate) fn settle(
     requires schedule { IsSchedule net.now schedule.now }
     requires circuit { IsCircuit net.now }
     requires whole { IsWhole net.now }
-    requires inputs { length inputs.now ≡ net.now.inputs }
+    requires inputs { IsInput net.now inputs.now }
     requires values { length values.old ≡ length net.now.names }
     requires planes { AreAllPlanes values.old }
     requires marks { length marks.old ≡ length schedule.now.order.items / 64 + 1 }
@@ -250,7 +250,7 @@ fn settle_forward(net: &Net, schedule: &Schedule, inputs: &[[u64; 8]], values: &
     requires forward { schedule.now.is_forward ≡ true }
     requires circuit { IsCircuit net.now }
     requires whole { IsWhole net.now }
-    requires inputs { length inputs.now ≡ net.now.inputs }
+    requires inputs { IsInput net.now inputs.now }
     requires values { length values.old ≡ length net.now.names }
     ensures planes { AreAllPlanes values.new }
     ensures evaluated { AreEvaluated net.now values.new }
@@ -280,7 +280,7 @@ fn settle_by_steps(
     requires schedule { IsSchedule net.now schedule.now }
     requires circuit { IsCircuit net.now }
     requires whole { IsWhole net.now }
-    requires inputs { length inputs.now ≡ net.now.inputs }
+    requires inputs { IsInput net.now inputs.now }
     requires values { length values.old ≡ length net.now.names }
     requires planes { AreAllPlanes values.old }
     requires marks { length marks.old ≡ length schedule.now.order.items / 64 + 1 }

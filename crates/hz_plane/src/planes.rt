@@ -9,6 +9,7 @@
 ghost use Rattle.std.specs.Prelude.{◌≡◌, ◌≢◌, ◌+◌, ◌*◌, ◌<◌, ◌≤◌, ◌^◌, ◌-◌, ℕ, All, Option, Some, None, IfOk, length, min, replicate, slice_get, slice_set};
 ghost use Rattle.hz_core.specs.declared.tri.Tri.TheVariants.{Unknown};
 ghost use Rattle.hz_core.specs.Netlist.{Netlist, IsCircuit, IsWhole, IsGateNumber};
+ghost use Rattle.hz_net.specs.Network.{IsInput};
 ghost use Rattle.hz_plane.specs.Gates.{pin_sources};
 ghost use Rattle.hz_plane.specs.Lanes.{ListsAllInputs};
 ghost use Rattle.hz_plane.specs.Loads.{Loaded, block_loads, listed_with};
@@ -109,7 +110,7 @@ impl Planes {
         requires net { AreOf net.now self.old }
         requires stage { self.old.stage ≡ Loading }
         requires lane { lane < 512 }
-        requires input { length input.now ≡ net.now.inputs }
+        requires input { IsInput net.now input.now }
         requires listed { length listed.now ≡ length net.now.names }
         requires inputs { ListsAllInputs net.now listed.now }
         ensures { self.new ≡ record self.old {
@@ -134,7 +135,7 @@ impl Planes {
         requires net { AreOf net.now self.old }
         requires stage { self.old.stage ≡ Loading }
         requires lane { lane < 512 }
-        requires input { length input.now ≡ net.now.inputs }
+        requires input { IsInput net.now input.now }
         requires first { length first.now ≡ net.now.inputs }
         requires held { All (λ node. IsGateNumber net.now node.0) held.now }
         ensures { self.new ≡ record self.old {

@@ -1,13 +1,13 @@
 -- Turns in the order of a key: who has had one and whose comes next, and that they keep what each turn keeps.
 use Rattle.std.proofs.Common.{◌≡◌, ◌≢◌, ℕ, zero, suc, ◌+◌, ◌<◌, ◌≤◌, ◌⊎◌, ◌&&◌, ◌||◌, Bool, true, false, List, [], ◌∷◌, ◌++◌, length, get_or, take, refl, sym, ap, ◌∙◌, subst, arith, inl, inr, eqb, sum_by}
-use Rattle.std.proofs.lemmas.Bool.{eqb-true, eq-eqb, ne_eqb}
 use Rattle.hz_reach.proofs.Words.{cases_eq, cases_lt, cases_order, both_ways, and_parts, and_from, or_right, false_from_ne_true, get_or-le-sum_by}
-use Rattle.hz_reach.proofs.Words.{is_listed, key_at, IsEarlier, IsInKeyOrder, IsBefore, AreBefore}
+use Rattle.hz_reach.proofs.Words.{is_listed, key_at, IsEarlier, IsInKeyOrder, IsBefore, AreBefore, listed-at, listed-place}
+use Rattle.std.proofs.lemmas.Bool.{eqb-true, eq-eqb, ne_eqb}
 use Rattle.std.proofs.Math.Path.{fun_ext}
 use Rattle.std.proofs.lemmas.List.{take_all, length-take, get_or-take}
 use Rattle.std.proofs.lemmas.List.Folds.{list_any_more}
 use Rattle.hz_reach.proofs.Links.{before-more}
-use Rattle.hz_reach.proofs.ListPlaces.{key-inside, listed-at, listed-place}
+use Rattle.hz_reach.proofs.ListPlaces.{key-inside}
 
 -- The order by a key and then by number
 

@@ -9,15 +9,17 @@ pub use Rattle.hz_core.specs.declared.kind.Kind.{Kind}
 pub use Rattle.hz_core.specs.declared.tri.Tri.{Tri}
 pub use Rattle.hz_core.specs.declared.tri.Tri.TheVariants.{One, Unknown, Zero}
 pub use Rattle.hz_gmw.proofs.CoverB.{length-end_of}
-pub use Rattle.hz_gmw.proofs.DriverLemmas.{Contains-listed}
 pub use Rattle.hz_gmw.proofs.Flips.{at-state_after, length-state_after, state_after-none}
-pub use Rattle.hz_gmw.proofs.LeastLemmas.{listed-Contains}
 pub use Rattle.hz_gmw.proofs.Paths.{IsCut, IsRun-append, cut-member, end_of-append}
 pub use Rattle.hz_gmw.specs.Cycles.{states_of}
 pub use Rattle.hz_gmw.specs.RunRecord.{RunRecord, flip_count}
-pub use Rattle.hz_gmw.specs.Runs.{IsRepeatFree, IsRun, IsStep, end_of, is_listed, state_after}
+pub use Rattle.hz_gmw.specs.Runs.{IsRun, IsStep, end_of, state_after}
+pub use Rattle.hz_lists.proofs.ListedLemmas.{Ascends, Contains-listed, ascends-filter, ascends-lower, ascends-once, filtered-is, is-filtered}
+pub use Rattle.hz_lists.proofs.ListedLemmas.{is_repeat_free-append, is_repeat_free-bound, is_repeat_free-right, listed-Contains, listed-at, listed-cases}
+pub use Rattle.hz_lists.proofs.ListedLemmas.{listed-left, listed-place, listed-right}
+pub use Rattle.hz_lists.proofs.PartLemmas.{at-part, length-part}
+pub use Rattle.hz_lists.specs.Listed.{IsRepeatFree, is_listed}
 pub use Rattle.hz_net.proofs.Excitations.{admits-driver_value, at-excitations}
-pub use Rattle.hz_net.proofs.PartLemmas.{at-part, length-part}
 pub use Rattle.hz_net.proofs.Places.{driver_at-gate, driver_at-input, driver_at-wire, length-network_of}
 pub use Rattle.hz_net.proofs.Sequences.{AllBelow-algorithm_b, AllBelow-closed, closed-result, length-algorithm_a, length-algorithm_b}
 pub use Rattle.hz_net.proofs.Wired.{wired-network_of}
@@ -43,5 +45,4 @@ pub use Rattle.std.proofs.lemmas.List.{get_or-map, get_or_past, length-map}
 pub use Rattle.std.proofs.lemmas.List.Elements.{filter-append}
 pub use Rattle.std.proofs.lemmas.List.FromFn.{get_or-map-range_with_len, length-map-range_with_len, length-range_with_len}
 pub use Rattle.std.proofs.lemmas.List.Sums.{get_or-le-sum_by, sum_by-append, sum_by-cons, sum_by-le-sum_by, sum_by_push}
-pub use Rattle.std.proofs.lemmas.Map.Steps.{length-le_from_distinct_below}
-pub use Rattle.std.specs.List.{AllByRecursion, IsDistinct, range_with_len}
+pub use Rattle.std.specs.List.{range_with_len}

@@ -2,7 +2,7 @@
 use Rattle.std.specs.Prelude.{◌≡◌, ℕ, ◌+◌, ◌≤◌, Bool, List, length}
 use Rattle.hz_core.specs.declared.tri.Tri.{Tri}
 use Rattle.hz_core.specs.Netlist.{Netlist, IsCircuit}
-use Rattle.hz_net.specs.Network.{Driver, network_of, value_at, IsStable}
+use Rattle.hz_net.specs.Network.{Driver, network_of, value_at, IsStable, IsState}
 use Rattle.hz_net.specs.Passes.{algorithm_a, algorithm_b, AreRounds, IsResult, AreRanks, AreSettlingRounds}
 use Rattle.hz_net.specs.Starts.{IsStableStart}
 use Rattle.hz_gmw.specs.Runs.{IsReachable, JoinsTo}
@@ -12,7 +12,7 @@ use Rattle.hz_reach.specs.Spread.{IsSpreadRun, IsSparingRun}
 -- of the values that the variable has in the reachable states.
 abbrev pub AIsExact : Type 0
 AIsExact =
-    (netlist : Netlist) (input own start : List Bool) (rounds i : ℕ) → IsCircuit netlist → length start ≡ length (network_of netlist) →
+    (netlist : Netlist) (input own start : List Bool) (rounds i : ℕ) → IsCircuit netlist → IsState netlist start →
     IsStable (network_of netlist) own start → AreRounds (algorithm_a (network_of netlist) input start) rounds →
     JoinsTo (IsReachable (network_of netlist) input start) i (value_at (algorithm_a (network_of netlist) input start rounds) i)
 

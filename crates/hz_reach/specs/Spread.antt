@@ -5,7 +5,8 @@ use Rattle.hz_core.specs.declared.tri.Tri.{Tri}
 use Rattle.hz_net.specs.Network.{Driver, Source, driver_at, value_at}
 use Rattle.hz_net.specs.Reads.{IsWireInto, IsNode}
 use Rattle.hz_net.specs.Passes.{IsKnown, IsUnknown}
-use Rattle.hz_gmw.specs.Runs.{is_listed, IsRun}
+use Rattle.hz_lists.specs.Listed.{is_listed}
+use Rattle.hz_gmw.specs.Runs.{IsRun}
 use Rattle.hz_reach.specs.Order.{IsEarlier}
 
 -- in how many of its steps a run changes variable i

@@ -14,7 +14,7 @@ ghost use Rattle.std.specs.Prelude.{◌≡◌, ℕ, ◌+◌, ◌<◌, ◌≤◌,
 ghost use Rattle.hz_core.specs.Ternary.{is_unknown};
 ghost use Rattle.hz_core.specs.Netlist.{IsCircuit, IsGateNumber};
 ghost use Rattle.hz_core.specs.Pattern.{differs};
-ghost use Rattle.hz_net.specs.Network.{network_of};
+ghost use Rattle.hz_net.specs.Network.{network_of, IsState, AreByVariable, IsInput};
 ghost use Rattle.hz_gmw.specs.Runs.{end_of};
 ghost use Rattle.hz_reach.specs.Order.{IsInKeyOrder};
 ghost use Rattle.hz_reach.specs.Room.{Spends, with_step_if_any, HasRoomForStep};
@@ -137,8 +137,8 @@ pub fn sparing_in_order(
 /// Adds the last step of the spread run to the run of [`sparing_in_order`]: the wires that are X in the result of Algorithm A and
 /// have not changed. The scratch stays as it is, in the state before that step.
 pub fn add_unused(net: &Net, start: &[bool], a: &[Tri], scratch: &mut Scratch, run: &mut Run)
-    requires start { length start.now ≡ length (network_of net.now) }
-    requires a { length a.now ≡ length (network_of net.now) }
+    requires start { IsState net.now start.now }
+    requires a { IsState net.now a.now }
     requires scratch { IsScratchFor net.now scratch.old }
     requires room { HasRoomForStep (unchanged_wires net.now a.now start.now scratch.old.state) run.old }
     ensures steps { run.new.steps ≡
@@ -155,8 +155,8 @@ pub fn add_unused(net: &Net, start: &[bool], a: &[Tri], scratch: &mut Scratch, r
 // Marks the inputs that differ from the new input.
 fn mark_inputs(net: &Net, start: &[bool], input: &[bool], scratch: &mut Scratch)
     requires circuit { IsCircuit net.now }
-    requires start { length start.now ≡ length (network_of net.now) }
-    requires input { length input.now ≡ net.now.inputs }
+    requires start { IsState net.now start.now }
+    requires input { IsInput net.now input.now }
     requires scratch { IsScratchFor net.now scratch.old }
     ensures marked { scratch.new.marked ≡ changed_inputs net.now start.now input.now }
     ensures state { scratch.new.state ≡ scratch.old.state }
@@ -170,7 +170,7 @@ fn mark_inputs(net: &Net, start: &[bool], input: &[bool], scratch: &mut Scratch)
 // A gate's turn, in which those of its wires are free that become X before it. It changes alone.
 fn turn_by_rank(net: &Net, rank: &[u32], gate: u32, scratch: &mut Scratch, run: &mut Run)
     requires circuit { IsCircuit net.now }
-    requires rank { length rank.now ≡ length (network_of net.now) }
+    requires rank { AreByVariable net.now rank.now }
     requires gate { IsGateNumber net.now gate }
     requires possible { CanTurn net.now gate (earlier_pins net.now rank.now gate) scratch.old.state }
     requires scratch { IsScratchFor net.now scratch.old }
@@ -205,8 +205,8 @@ fn list_free(own: u32, ranks: &[u32], free: &mut [bool])
 // Marks the wires that are X in the result of Algorithm A and have not changed.
 fn mark_unchanged(net: &Net, start: &[bool], a: &[Tri], scratch: &mut Scratch)
     requires circuit { IsCircuit net.now }
-    requires start { length start.now ≡ length (network_of net.now) }
-    requires a { length a.now ≡ length (network_of net.now) }
+    requires start { IsState net.now start.now }
+    requires a { IsState net.now a.now }
     requires scratch { IsScratchFor net.now scratch.old }
     ensures marked { scratch.new.marked ≡ unchanged_wires net.now a.now start.now scratch.old.state }
     ensures state { scratch.new.state ≡ scratch.old.state }

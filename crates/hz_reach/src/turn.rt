@@ -10,7 +10,7 @@ ghost use Rattle.std.specs.Prelude.{◌≡◌, ℕ, ◌+◌, ◌<◌, ◌≤◌,
 ghost use Rattle.std.specs.List.{slice_range};
 ghost use Rattle.hz_core.specs.Netlist.{IsCircuit, IsGateNumber, gate_at};
 ghost use Rattle.hz_core.specs.Limits.{most_variables};
-ghost use Rattle.hz_net.specs.Network.{network_of};
+ghost use Rattle.hz_net.specs.Network.{network_of, IsVariable};
 ghost use Rattle.hz_reach.specs.Given.{IsScratchFor};
 ghost use Rattle.hz_reach.specs.Room.{Spends};
 ghost use Rattle.hz_reach.specs.Turn.{is_gate_in, changed_wires, AreTurnWires, turn_flips, IsTurn, CanTurn, HasRoomForTurn};
@@ -22,7 +22,7 @@ use hz_net::Net;
 
 /// Whether a variable is a gate.
 pub fn is_gate(net: &Net, var: u32) -> bool
-    requires { var < length (network_of net.now) }
+    requires { IsVariable net.now var }
     ensures gate { result ≡ is_gate_in (network_of net.now) var }
     ensures number { IsTrue result → IsGateNumber net.now var }
 {

@@ -11,7 +11,8 @@ use Rattle.hz_gmw.specs.declared.replay_fault.StepFault.TheVariants.{Empty, Repe
 use Rattle.hz_gmw.specs.declared.replay_fault.CycleFault.{CycleFault}
 use Rattle.hz_gmw.specs.declared.replay_fault.CycleFault.TheVariants.{Differs, NotStable, Transient}
 use Rattle.hz_gmw.proofs.CoverB.{length-end_of}
-use Rattle.hz_gmw.proofs.LeastLemmas.{All-listed, times_listed-listed}
+use Rattle.hz_lists.proofs.ListedLemmas.{All-listed}
+use Rattle.hz_gmw.proofs.LeastLemmas.{times_listed-listed}
 use Rattle.hz_text.specs.RunText.{IsRunTextFor}
 use Rattle.hz_text.specs.RunValue.{RunOf, RunTextOf, all_steps}
 use Rattle.hz_replay.specs.declared.replaying.RunRefusal.{RunRefusal}

@@ -17,7 +17,7 @@ use Rattle.hz_text.specs.RunValue.{RunOf, RunTextOf, cycle_steps, all_steps}
 use Rattle.hz_replay.specs.Replaying.{IsAcceptedRun, start_of, AreAccepted}
 use Rattle.hz_replay.specs.RunTexts.{ReplaysAs}
 use Rattle.hz_text.specs.Limits.{most_steps}
-use Rattle.hz_gmw.proofs.SetLemmas.{All-each}
+use Rattle.hz_lists.proofs.ListedLemmas.{All-each}
 
 -- Bits of one length that are the same at each place are the same.
 same-bits : (xs ys : List Bool) → length xs ≡ length ys → ((k : ℕ) → k < length xs → bit_at xs k ≡ bit_at ys k) → xs ≡ ys

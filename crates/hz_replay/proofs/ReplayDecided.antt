@@ -7,10 +7,11 @@ use Rattle.std.proofs.lemmas.List.{append-nil, append_assoc, get_or_past, length
 use Rattle.std.proofs.lemmas.List.Elements.{All-head, All-tail, All-nil, All-cons}
 use Rattle.hz_core.specs.Netlist.{Netlist, IsCircuit}
 use Rattle.hz_net.specs.Network.{Driver, network_of, bit_at, IsUnstable}
-use Rattle.hz_gmw.specs.Runs.{is_listed, state_after, IsStep, IsRun, end_of}
+use Rattle.hz_lists.specs.Listed.{is_listed}
+use Rattle.hz_gmw.specs.Runs.{state_after, IsStep, IsRun, end_of}
 use Rattle.hz_gmw.specs.Cycles.{IsNontransient}
 use Rattle.hz_gmw.specs.Instability.{is_unstable, unstable_variables}
-use Rattle.hz_core.specs.Least.{IsLeastOf}
+use Rattle.hz_lists.specs.Least.{IsLeastOf}
 use Rattle.hz_gmw.specs.LeastListed.{least_from, least_repeat}
 use Rattle.hz_gmw.specs.Replayer.{Replayer, StandsFor, initial_replayer, replayer_after}
 use Rattle.hz_gmw.specs.ReplayFaults.{times_listed, IsStepFault, IsCycleFault}
@@ -29,7 +30,7 @@ use Rattle.hz_replay.specs.declared.replaying.RunRefusal.TheVariants.{Step, Cycl
 use Rattle.hz_replay.specs.Replaying.{steps_of, IsAcceptedRun, IsRefusedStep, IsRefusedRun, IsFirstRefusal, start_of, AreAccepted, IsRefusalOfText}
 use Rattle.hz_replay.specs.ReplayerSteps.{AreVariables, run_of}
 use Rattle.hz_gmw.proofs.Bits.{beq-same, beq-refl}
-use Rattle.hz_core.proofs.LeastLemmas.{IsLeastOf-same}
+use Rattle.hz_lists.proofs.LeastLemmas.{IsLeastOf-same}
 use Rattle.hz_gmw.proofs.LeastLemmas.{least-listed, least-repeated}
 use Rattle.hz_gmw.proofs.ReplayLemmas.{at-unstable_variables, unstable-true, true-unstable, none-marked, step-by, stable-fault, stands-at, stands-step, differs-fault, closed-by, not-stable-fault, stable-cycle, transient-fault, moving-cycle}
 

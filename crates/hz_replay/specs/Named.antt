@@ -1,7 +1,7 @@
 -- The variables that a refusal of runs names.
-use Rattle.std.specs.Prelude.{ℕ, ◌<◌, [], length, Option, Some, None, IfSome}
+use Rattle.std.specs.Prelude.{ℕ, [], Option, Some, None, IfSome}
 use Rattle.hz_core.specs.Netlist.{Netlist}
-use Rattle.hz_net.specs.Network.{network_of}
+use Rattle.hz_net.specs.Network.{IsVariable}
 use Rattle.hz_gmw.specs.declared.replay_fault.StepFault.{StepFault}
 use Rattle.hz_gmw.specs.declared.replay_fault.StepFault.TheVariants.{Empty, Repeated, Stable}
 use Rattle.hz_gmw.specs.declared.replay_fault.CycleFault.{CycleFault}
@@ -33,4 +33,4 @@ named_variable (refused.Cycle fault) = Some (cycle_variable fault)
 
 -- what is named, if anything is, is a variable of the network
 abbrev pub NamesVariable : Netlist → Option ℕ → Type 0
-NamesVariable netlist named = IfSome named (λ var. var < length (network_of netlist))
+NamesVariable netlist named = IfSome named (IsVariable netlist)

@@ -1,7 +1,7 @@
 -- What steps leave of a replayer.
-use Rattle.std.specs.Prelude.{◌≡◌, ℕ, ◌+◌, ◌<◌, Bool, List, ◌++◌, length, All, Option}
+use Rattle.std.specs.Prelude.{◌≡◌, ℕ, ◌+◌, Bool, List, ◌++◌, All, Option}
 use Rattle.hz_core.specs.Netlist.{Netlist}
-use Rattle.hz_net.specs.Network.{Driver, network_of}
+use Rattle.hz_net.specs.Network.{Driver, network_of, IsVariable}
 use Rattle.hz_gmw.specs.Runs.{IsRun, end_of}
 use Rattle.hz_gmw.specs.Replayer.{Replayer, StandsFor}
 use Rattle.hz_gmw.specs.ReplayFaults.{IsCycleFault}
@@ -12,7 +12,7 @@ use Rattle.hz_replay.specs.Replaying.{IsRefusedStep}
 
 -- the steps name variables of the network
 abbrev pub AreVariables : Netlist → List (List ℕ) → Type 0
-AreVariables netlist steps = All (λ flips. All (λ var. var < length (network_of netlist)) flips) steps
+AreVariables netlist steps = All (λ flips. All (IsVariable netlist) flips) steps
 
 -- the run of a lead and a cycle
 abbrev pub run_of : List (List ℕ) → Option (List (List ℕ)) → RunOf

@@ -1,7 +1,7 @@
 //! The job `replay`: the runs of a run text, step by step.
 ghost use Rattle.std.specs.Prelude.{◌≡◌, ◌+◌, ◌≤◌, length, All, IfOk, IfSome, MatchOption, MatchResult};
 ghost use Rattle.std.specs.Option.{option_map};
-ghost use Rattle.hz_net.specs.Network.{network_of};
+ghost use Rattle.hz_net.specs.Network.{network_of, IsState};
 ghost use Rattle.hz_net.specs.Variables.{expansion_of};
 ghost use Rattle.hz_gmw.specs.Cycles.{IsNontransient};
 ghost use Rattle.hz_text.specs.RunText.{IsRunTextFor};
@@ -85,7 +85,7 @@ pub(crate) fn first_refusal(
 fn expand_start(alloc: Global, net: &Net, nodes: &[bool]) -> Result<Vec<bool>, Memory>
     requires { length nodes.now ≡ length net.now.names }
     ensures start { IfOk result (λ start. start.items ≡ expansion_of net.now nodes.now) }
-    ensures long { IfOk result (λ start. length start.items ≡ length (network_of net.now)) }
+    ensures long { IfOk result (λ start. IsState net.now start.items) }
 {
     let mut start = vec![in alloc; false; net.len() as usize]?;
     net.expand(nodes, start.as_mut_slice());
@@ -96,7 +96,7 @@ fn expand_start(alloc: Global, net: &Net, nodes: &[bool]) -> Result<Vec<bool>, M
 // changed.
 fn replay_runs(replay: &mut Replay, text: &RunText, start: &[bool]) -> Result<(), FirstRefusal>
     requires text { IsRunTextFor replay.old.circuit text.now }
-    requires start { length start.now ≡ length (network_of replay.old.circuit) }
+    requires start { IsState replay.old.circuit start.now }
     ensures { MatchResult result
         (λ _. All (IsAcceptedRun (network_of replay.old.circuit) text.now.input start.now) text.now.runs)
         (λ refused. IsFirstRefusal (network_of replay.old.circuit) text.now.input start.now text.now.runs refused.run refused.why) }

@@ -1,6 +1,6 @@
 //! The one line that `replay` writes.
 ghost use Rattle.std.specs.Prelude.{◌≡◌, ◌+◌, ◌<◌, ◌≤◌, length, map, slice_index_or};
-ghost use Rattle.hz_net.specs.Network.{network_of};
+ghost use Rattle.hz_net.specs.Network.{IsVariable};
 ghost use Rattle.hz_write.specs.Pieces.{piece_text};
 ghost use Rattle.hz_write.specs.Writes.{Wrote};
 ghost use Rattle.hz_replay.specs.Replaying.{total_steps, total_cycles, steps_of};
@@ -152,7 +152,7 @@ fn put_step<K: Sink>(
 
 // A cycle is refused.
 fn put_cycle<K: Sink>(out: &mut K, net: &Net, run: usize, fault: CycleFault) -> Result<(), PutFault>
-    requires { cycle_variable fault < length (network_of net.now) }
+    requires { IsVariable net.now (cycle_variable fault) }
     ensures { Wrote K.output K.faults (cycle_line net.now run fault) out.old out.new result }
 {
     match fault {
@@ -190,7 +190,7 @@ fn put_naming<K: Sink>(
     words: &[Piece<'_>],
     var: u32,
 ) -> Result<(), PutFault>
-    requires { var < length (network_of net.now) }
+    requires { IsVariable net.now var }
     ensures { Wrote K.output K.faults
         (naming_line net.now (map piece_text words.now) var) out.old out.new result }
 {

@@ -1,6 +1,6 @@
 //! The lines of a change.
 ghost use Rattle.std.specs.Prelude.{◌≡◌, ◌<◌, ◌++◌, length, codes, All};
-ghost use Rattle.hz_net.specs.Network.{network_of};
+ghost use Rattle.hz_net.specs.Network.{AreByVariable, IsInput, IsVariable};
 ghost use Rattle.hz_write.specs.Writer.{Writes, NoneWaits};
 ghost use Rattle.hz_write.specs.Writes.{newline};
 ghost use Rattle.hz_text.specs.RunPrinted.{spaced_word, run_text_printed};
@@ -28,11 +28,11 @@ pub fn write_change<K: Sink>(
     finding: &Finding,
 )
     requires change { All (λ pair. pair.0 < length plate.old.netlist.names) change.now }
-    requires rows { length finding.now.rows ≡ length (network_of plate.old.netlist) }
-    requires input { length finding.now.input ≡ plate.old.netlist.inputs }
-    requires spread { All (All (λ var. var < length (network_of plate.old.netlist))) finding.now.spread.steps }
-    requires settle { All (All (λ var. var < length (network_of plate.old.netlist))) finding.now.settle.steps }
-    requires cycle { All (All (λ var. var < length (network_of plate.old.netlist))) finding.now.cycle.steps }
+    requires rows { AreByVariable plate.old.netlist finding.now.rows }
+    requires input { IsInput plate.old.netlist finding.now.input }
+    requires spread { All (All (IsVariable plate.old.netlist)) finding.now.spread.steps }
+    requires settle { All (All (IsVariable plate.old.netlist)) finding.now.settle.steps }
+    requires cycle { All (All (IsVariable plate.old.netlist)) finding.now.cycle.steps }
     ensures gave { Writes K.output K.faults
         (change_text plate.old.netlist plate.old.show number change.now (finding_of finding.now)) writer.old writer.new }
     ensures none_waits { NoneWaits writer.new }
@@ -58,7 +58,7 @@ pub fn write_stopped<K: Sink>(
     var: u32,
 )
     requires change { All (λ pair. pair.0 < length net.now.names) change.now }
-    requires var { var < length (network_of net.now) }
+    requires var { IsVariable net.now var }
     ensures gave { Writes K.output K.faults (stopped_text net.now number change.now var) writer.old writer.new }
     ensures none_waits { NoneWaits writer.new }
 {
@@ -85,7 +85,7 @@ fn write_assigned<K: Sink>(
 
 // Gives the variable that stops a change.
 fn write_stop<K: Sink>(writer: &mut Writer<'_, K>, net: &Net, var: u32)
-    requires { var < length (network_of net.now) }
+    requires { IsVariable net.now var }
     ensures gave { Writes K.output K.faults (codes "stopped" ++ spaced_word net.now var ++ newline) writer.old writer.new }
     ensures none_waits { NoneWaits writer.new }
 {
@@ -126,11 +126,11 @@ fn write_races<K: Sink>(writer: &mut Writer<'_, K>, finding: &Finding)
 
 // Gives the run text: the start and the new input, the spread run, and the settle run with its cycle.
 fn write_runs<K: Sink>(writer: &mut Writer<'_, K>, plate: &mut Plate<'_>, finding: &Finding)
-    requires rows { length finding.now.rows ≡ length (network_of plate.old.netlist) }
-    requires input { length finding.now.input ≡ plate.old.netlist.inputs }
-    requires spread { All (All (λ var. var < length (network_of plate.old.netlist))) finding.now.spread.steps }
-    requires settle { All (All (λ var. var < length (network_of plate.old.netlist))) finding.now.settle.steps }
-    requires cycle { All (All (λ var. var < length (network_of plate.old.netlist))) finding.now.cycle.steps }
+    requires rows { AreByVariable plate.old.netlist finding.now.rows }
+    requires input { IsInput plate.old.netlist finding.now.input }
+    requires spread { All (All (IsVariable plate.old.netlist)) finding.now.spread.steps }
+    requires settle { All (All (IsVariable plate.old.netlist)) finding.now.settle.steps }
+    requires cycle { All (All (IsVariable plate.old.netlist)) finding.now.cycle.steps }
     ensures gave { Writes K.output K.faults
         (run_text_printed plate.old.netlist (runs_of_finding plate.old.netlist (finding_of finding.now))) writer.old writer.new }
     ensures none_waits { NoneWaits writer.new }

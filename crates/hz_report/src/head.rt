@@ -1,7 +1,7 @@
 //! The lines that come once.
-ghost use Rattle.std.specs.Prelude.{◌≡◌, ◌<◌, length, take, All};
+ghost use Rattle.std.specs.Prelude.{◌≡◌, length, take, All};
 ghost use Rattle.std.specs.List.{flat_map};
-ghost use Rattle.hz_net.specs.Network.{network_of};
+ghost use Rattle.hz_net.specs.Network.{IsState, IsVariable};
 ghost use Rattle.hz_free.specs.FreePart.{IsFreePart};
 ghost use Rattle.hz_write.specs.Writer.{Writes, NoneWaits};
 ghost use Rattle.hz_text.specs.RunPrinted.{spaced_word};
@@ -20,7 +20,7 @@ use hz_write::Writer;
 #[tactic(auto, using(hz_write::proofs::Writers::writes_then), unfolding(crate::specs::Report::head_text))]
 pub fn write_head<K: Sink>(writer: &mut Writer<'_, K>, net: &Net, free: &Free, start: &[bool])
     requires part { IsFreePart net.now free.now }
-    requires start { length start.now ≡ length (network_of net.now) }
+    requires start { IsState net.now start.now }
     ensures gave { Writes K.output K.faults (head_text net.now free.now.cycles start.now) writer.old writer.new }
     ensures none_waits { NoneWaits writer.new }
 {
@@ -65,7 +65,7 @@ fn write_feedback<K: Sink>(writer: &mut Writer<'_, K>, net: &Net, free: &Free)
 // Gives the line of a feedback cycle.
 #[tactic(auto, using(hz_write::proofs::Writers::writes_then), unfolding(crate::specs::Report::feedback_line))]
 fn write_cycle<K: Sink>(writer: &mut Writer<'_, K>, net: &Net, cycle: &[u32])
-    requires { All (λ var. var < length (network_of net.now)) cycle.now }
+    requires { All (IsVariable net.now) cycle.now }
     ensures gave { Writes K.output K.faults (feedback_line net.now cycle.now) writer.old writer.new }
     ensures none_waits { NoneWaits writer.new }
 {
@@ -76,7 +76,7 @@ fn write_cycle<K: Sink>(writer: &mut Writer<'_, K>, net: &Net, cycle: &[u32])
 
 // Gives the words of variables, each after a space.
 fn write_variables<K: Sink>(writer: &mut Writer<'_, K>, net: &Net, variables: &[u32])
-    requires { All (λ var. var < length (network_of net.now)) variables.now }
+    requires { All (IsVariable net.now) variables.now }
     ensures { Writes K.output K.faults (flat_map (spaced_word net.now) variables.now) writer.old writer.new }
 {
     for var in variables {
@@ -87,7 +87,7 @@ fn write_variables<K: Sink>(writer: &mut Writer<'_, K>, net: &Net, variables: &[
 
 // Gives the value of each node at the start.
 pub(crate) fn write_start<K: Sink>(writer: &mut Writer<'_, K>, net: &Net, start: &[bool])
-    requires { length start.now ≡ length (network_of net.now) }
+    requires { IsState net.now start.now }
     ensures gave { Writes K.output K.faults (start_line net.now start.now) writer.old writer.new }
     ensures none_waits { NoneWaits writer.new }
 {
@@ -104,7 +104,7 @@ pub(crate) fn write_kept_start<K: Sink>(
     text: &mut [u8],
     begins: &[usize],
 )
-    requires start { length start.now ≡ length (network_of net.now) }
+    requires start { IsState net.now start.now }
     requires kept { AreBitParts net.now (length net.now.names) text.old begins.now }
     ensures gave { Writes K.output K.faults (start_line net.now start.now) writer.old writer.new }
     ensures none_waits { NoneWaits writer.new }

@@ -1,6 +1,6 @@
 //! The lines of changes, of which most bytes stay from one change to the next.
-ghost use Rattle.std.specs.Prelude.{◌≡◌, length, IfOk};
-ghost use Rattle.hz_net.specs.Network.{network_of};
+ghost use Rattle.std.specs.Prelude.{◌≡◌, IfOk};
+ghost use Rattle.hz_net.specs.Network.{IsState, AreByVariable};
 ghost use Rattle.hz_write.specs.Writer.{Writes, NoneWaits};
 ghost use Rattle.hz_report.specs.Report.{row_lines, shown_rows, start_line};
 
@@ -59,7 +59,7 @@ impl<'n> Plate<'n> {
 
     // Gives the line of each variable that is shown.
     pub(crate) fn write_rows<K: Sink>(&mut self, writer: &mut Writer<'_, K>, rows: &Rows)
-        requires rows { length rows.now ≡ length (network_of self.old.netlist) }
+        requires rows { AreByVariable self.old.netlist rows.now }
         requires none_waits { NoneWaits writer.old }
         ensures gave { Writes K.output K.faults
             (row_lines self.old.netlist 0 (shown_rows self.old.netlist self.old.show rows.now)) writer.old writer.new }
@@ -80,7 +80,7 @@ impl<'n> Plate<'n> {
 
     // Gives the value of each node at the start.
     pub(crate) fn write_start<K: Sink>(&mut self, writer: &mut Writer<'_, K>, start: &[bool])
-        requires { length start.now ≡ length (network_of self.old.netlist) }
+        requires { IsState self.old.netlist start.now }
         ensures gave { Writes K.output K.faults
             (start_line self.old.netlist start.now) writer.old writer.new }
         ensures none_waits { NoneWaits writer.new }

@@ -1,7 +1,7 @@
 //! The lines of variables.
 ghost use Rattle.std.specs.Prelude.{◌≡◌, ◌<◌, ◌≤◌, ◌-◌, ◌+◌, ◌∷◌, ◌++◌, length, take, drop, slice_index, slice_range, codes, decimal, IfSome};
 ghost use Rattle.hz_core.specs.Netlist.{IsCircuit};
-ghost use Rattle.hz_net.specs.Network.{network_of};
+ghost use Rattle.hz_net.specs.Network.{AreByVariable, IsVariable};
 ghost use Rattle.hz_text.specs.Printed.{letter_of};
 ghost use Rattle.hz_write.specs.Writer.{Writes, NoneWaits};
 ghost use Rattle.hz_desk.specs.declared.class.Class.TheVariants.{Single, Steady};
@@ -25,7 +25,7 @@ use hz_write::Writer;
 
 // Gives the line of each variable that is shown.
 pub(crate) fn write_rows<K: Sink>(writer: &mut Writer<'_, K>, net: &Net, rows: &Rows, show: Show)
-    requires rows { length rows.now ≡ length (network_of net.now) }
+    requires rows { AreByVariable net.now rows.now }
     requires none_waits { NoneWaits writer.old }
     ensures gave { Writes K.output K.faults
         (row_lines net.now 0 (shown_rows net.now show rows.now)) writer.old writer.new }
@@ -46,7 +46,7 @@ pub(crate) fn write_kept_rows<K: Sink>(
     text: &mut [u8],
     begins: &[usize],
 )
-    requires rows { length rows.now ≡ length (network_of net.now) }
+    requires rows { AreByVariable net.now rows.now }
     requires kept { AreRowParts net.now (length net.now.names) text.old begins.now }
     requires none_waits { NoneWaits writer.old }
     ensures gave { Writes K.output K.faults
@@ -140,7 +140,7 @@ fn shown_count(net: &Net, show: Show) -> u32
 
 // Gives a variable with its values, its number of changes and its class.
 pub(crate) fn write_row<K: Sink>(writer: &mut Writer<'_, K>, net: &Net, var: u32, row: Row)
-    requires { var < length (network_of net.now) }
+    requires { IsVariable net.now var }
     ensures gave { Writes K.output K.faults (row_line net.now var row) writer.old writer.new }
     ensures none_waits { NoneWaits writer.new }
 {
@@ -153,7 +153,7 @@ pub(crate) fn write_row<K: Sink>(writer: &mut Writer<'_, K>, net: &Net, var: u32
 // in its loop.
 #[inline(never)]
 fn write_rare_row<K: Sink>(writer: &mut Writer<'_, K>, net: &Net, var: u32, row: Row)
-    requires { var < length (network_of net.now) }
+    requires { IsVariable net.now var }
     ensures gave { Writes K.output K.faults (row_line net.now var row) writer.old writer.new }
     ensures none_waits { NoneWaits writer.new }
 {

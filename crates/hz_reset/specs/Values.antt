@@ -3,8 +3,9 @@ use Rattle.std.specs.Prelude.{◌≡◌, ◌≢◌, ℕ, Bool, Option, None, Lis
 use Rattle.std.specs.List.{slice_index_or}
 use Rattle.hz_core.specs.declared.tri.Tri.{Tri}
 use Rattle.hz_core.specs.declared.tri.Tri.TheVariants.{Unknown}
+use Rattle.hz_core.specs.Ternary.{tri_of, Refines}
 use Rattle.hz_core.specs.Netlist.{Netlist, IsCircuit, IsWhole, IsGateNumber}
-use Rattle.hz_net.specs.Network.{Driver, network_of}
+use Rattle.hz_net.specs.Network.{Driver, network_of, bit_at, value_at}
 use Rattle.hz_net.specs.Passes.{algorithm_b, IsResult}
 use Rattle.hz_net.specs.TernaryStarts.{SettlesTo, unknown_start}
 use Rattle.hz_gmw.specs.Cycles.{IsOutcome}
@@ -20,6 +21,26 @@ abbrev pub IsOutcomeAlong : List Driver → List Bool → List (List Bool) → L
 IsOutcomeAlong net start [] state = state ≡ start
 IsOutcomeAlong net start (input ∷ inputs) state =
     (next : List Bool) × IsOutcome net input start next × IsOutcomeAlong net next inputs state
+
+-- from every state, under every input, there is an outcome state
+abbrev pub OutcomesExist : Type 0
+OutcomesExist =
+    (net : List Driver) (input start : List Bool) → length start ≡ length net →
+    (state : List Bool) × IsOutcome net input start state
+
+-- and so there is one under all inputs, one after the other
+abbrev pub OutcomesExistAlong : Type 0
+OutcomesExistAlong =
+    (net : List Driver) (inputs : List (List Bool)) (start : List Bool) → length start ≡ length net →
+    (state : List Bool) × IsOutcomeAlong net start inputs state
+
+-- where a value is 0 or 1, every state has it in which the circuit may be, whatever state it came up in
+abbrev pub ValuesCover : Type 0
+ValuesCover =
+    (net : List Driver) (held : List (Option Bool)) (inputs : List (List Bool)) (values : List Tri) (start state : List Bool)
+    (i : ℕ) (bit : Bool) → SettlesAlong net (unknown_start net held) inputs values →
+    Refines start (unknown_start net held) → IsOutcomeAlong net start inputs state → value_at values i ≡ tri_of bit →
+    bit_at state i ≡ bit
 
 -- there are values from each unknown start under all inputs
 abbrev pub ValuesExist : Type 0

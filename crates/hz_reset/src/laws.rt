@@ -1,10 +1,5 @@
 //! What values from an unknown start say of a circuit.
-ghost use Rattle.std.specs.Prelude.{◌≡◌, ℕ, Bool, List, Option, length};
-ghost use Rattle.hz_core.specs.declared.tri.Tri.{Tri};
-ghost use Rattle.hz_core.specs.Ternary.{tri_of, Refines};
-ghost use Rattle.hz_net.specs.Network.{Driver, bit_at, value_at};
-ghost use Rattle.hz_net.specs.TernaryStarts.{unknown_start};
-ghost use Rattle.hz_reset.specs.Values.{SettlesAlong, IsOutcomeAlong, ValuesExist, ValuesAreOne, BeginsAllUnknown, HeldIsForgotten};
+ghost use Rattle.hz_reset.specs.Values.{OutcomesExist, OutcomesExistAlong, ValuesCover, ValuesExist, ValuesAreOne, BeginsAllUnknown, HeldIsForgotten};
 
 use hz_gmw::ternary_starts_cover;
 use hz_net::each_settles;
@@ -13,11 +8,18 @@ use hz_net::each_settles;
 /// have their bits, and for each input after the other any state in which the circuit may be once it has settled. Then the
 /// variable has this value in the last one. Nothing is said of a variable that is X.
 pub fn values_cover()
-    ensures { (net : List Driver) (held : List (Option Bool)) (inputs : List (List Bool)) (values : List Tri) (start state : List Bool) (i : ℕ) (bit : Bool) → SettlesAlong net (unknown_start net held) inputs values → Refines start (unknown_start net held) → IsOutcomeAlong net start inputs state → value_at values i ≡ tri_of bit → bit_at state i ≡ bit }
+    ensures { ValuesCover }
 {
     ternary_starts_cover();
     each_settles();
 }
+
+/// From every state, under one input after the other, there is a state in which the circuit may be once it has settled. So
+/// what [`values_cover`] says of such states is said of some.
+pub fn outcomes_exist()
+    ensures some { OutcomesExist }
+    ensures along { OutcomesExistAlong }
+{}
 
 /// The values exist for all inputs, and are determined by what is held and by the inputs.
 pub fn values_exist()

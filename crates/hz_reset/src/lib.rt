@@ -9,5 +9,5 @@
 mod laws;
 mod reset;
 
-pub use laws::{held_is_forgotten, values_cover, values_exist};
+pub use laws::{held_is_forgotten, outcomes_exist, values_cover, values_exist};
 pub use reset::Reset;

@@ -2,13 +2,13 @@
 ghost use Rattle.std.specs.Prelude.{◌≡◌, ◌<◌, ◌≤◌, length, map, replicate, IfOk};
 ghost use Rattle.std.specs.List.{slice_index_or, range_with_len};
 ghost use Rattle.hz_core.specs.declared.tri.Tri.TheVariants.{Unknown};
-ghost use Rattle.hz_net.specs.Network.{network_of, value_at};
+ghost use Rattle.hz_net.specs.Network.{network_of, value_at, IsState, IsInput};
 ghost use Rattle.hz_net.specs.TernaryStarts.{SettlesTo, held_value, unknown_start};
 ghost use Rattle.hz_reset.specs.Room.{IsRoomFor};
 
 use hz_core::{Memory, Tri};
+use hz_lists::Steps;
 use hz_net::Net;
-use hz_outside::Steps;
 use hz_pass::{Front, settle, spread_from};
 use std::alloc::Global;
 use std::marker::{Brand, Model};
@@ -67,7 +67,7 @@ impl Reset {
     /// The inputs get these bits and stay, until the circuit has settled. No gate is held any more.
     pub fn apply(&mut self, net: &Net, input: &[bool])
         requires net { length (network_of net.now) ≡ length self.old }
-        requires input { length input.now ≡ net.now.inputs }
+        requires input { IsInput net.now input.now }
         ensures { SettlesTo (network_of net.now) input.now self.old self.new }
     {
         pass::<Brand>(
@@ -98,7 +98,8 @@ struct Room {
 
 // Writes the values of a start where nothing is known but what is held.
 fn hold(held: &[Option<bool>], values: &mut [Tri])
-    ensures { values.new ≡ map (λ i. held_value (slice_index_or held.now i None)) (range_with_len 0 (length values.old)) }
+    ensures { values.new ≡ map (λ i. held_value (slice_index_or held.now i None))
+        (range_with_len 0 (length values.old)) }
 {
     for i in 0..values.len() {
         values[i] = held_value(held, i);
@@ -116,8 +117,8 @@ fn held_value(held: &[Option<bool>], var: usize) -> Tri
 
 // Both passes over the values. They count their evaluations in a ledger of their own.
 fn pass<L: Ledger>(net: &Net, input: &[bool], values: &mut [Tri], room: &mut Room, ledger: Blank)
-    requires input { length input.now ≡ net.now.inputs }
-    requires values { length values.old ≡ length (network_of net.now) }
+    requires input { IsInput net.now input.now }
+    requires values { IsState net.now values.old }
     requires room { IsRoomFor (length (network_of net.now)) room.old }
     requires name { ledger.name ≡ L.name }
     requires parts { ledger.parts ≡ L.parts }

@@ -1,6 +1,6 @@
 //! Algorithms A and B on circuits of a few gates, and the runs that show what they find. Rows were worked by hand.
 ghost use Rattle.std.specs.Prelude.{◌≡◌, ◌<◌, length};
-ghost use Rattle.hz_net.specs.Network.{network_of};
+ghost use Rattle.hz_net.specs.Network.{network_of, IsState, AreByVariable, IsInput};
 ghost use Rattle.hz_net.specs.Starts.{IsStableStart};
 ghost use Rattle.hz_cycle.specs.Cycles.{AreResultsOfBoth};
 ghost use Rattle.hz_reach.specs.Given.{AreResultsOfA};
@@ -8,8 +8,8 @@ ghost use Rattle.hz_reach.specs.Given.{AreResultsOfA};
 use hz_core::Tri;
 use hz_cycle::{cycle_run, settle_run};
 use hz_gmw::Run;
+use hz_lists::Steps;
 use hz_net::Net;
-use hz_outside::Steps;
 use hz_pass::{Front, settle, spread};
 use hz_reach::{Scratch, spread_run};
 use hz_samples::{LATCH, TWO_WIRES, net_of, push_numbers, push_values, runs_of};
@@ -38,7 +38,7 @@ fn found_on(alloc: Global, net: &Net, change: &str) -> Result<String, Fail> {
 
 fn found_from(alloc: Global, net: &Net, start: &[bool], input: &[bool]) -> Result<String, Fail>
     requires start { IsStableStart net.now start.now }
-    requires input { length input.now ≡ net.now.inputs }
+    requires input { IsInput net.now input.now }
 {
     let variables = net.len() as usize;
     let mut a = vec![in alloc; Tri::Zero; variables]?;
@@ -79,12 +79,12 @@ fn make_passes<L: Ledger>(
     ledger: Blank,
 ) -> (u32, u32)
     requires start { IsStableStart net.now start.now }
-    requires input { length input.now ≡ net.now.inputs }
-    requires a { length a.old ≡ length (network_of net.now) }
-    requires ranks { length ranks.old ≡ length (network_of net.now) }
-    requires b { length b.old ≡ length (network_of net.now) }
-    requires when { length when.old ≡ length (network_of net.now) }
-    requires work { length work.old ≡ length (network_of net.now) }
+    requires input { IsInput net.now input.now }
+    requires a { IsState net.now a.old }
+    requires ranks { AreByVariable net.now ranks.old }
+    requires b { IsState net.now b.old }
+    requires when { AreByVariable net.now when.old }
+    requires work { IsState net.now work.old }
     requires front { front.old ≡ length (network_of net.now) }
     requires name { ledger.name ≡ L.name }
     requires parts { ledger.parts ≡ L.parts }

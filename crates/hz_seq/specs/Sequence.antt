@@ -5,7 +5,7 @@ use Rattle.hz_core.specs.Ternary.{tri_of}
 use Rattle.hz_core.specs.Netlist.{Netlist}
 use Rattle.hz_net.specs.Network.{network_of, value_at}
 use Rattle.hz_net.specs.Passes.{IsUnknown}
-use Rattle.hz_core.specs.Least.{IsLeast}
+use Rattle.hz_lists.specs.Least.{IsLeast}
 use Rattle.hz_desk.specs.Desk.{DeskOf}
 use Rattle.hz_desk.specs.Finding.{FindingOf, values_b}
 use Rattle.hz_desk.specs.RightFinding.{IsRightFinding}

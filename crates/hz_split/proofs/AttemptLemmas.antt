@@ -7,9 +7,10 @@ use Rattle.std.specs.Option.{is_none, is_some, option_map}
 use Rattle.std.proofs.lemmas.List.Sums.{sum_by-cons}
 use Rattle.std.proofs.lemmas.List.FromFn.{length-map-range_with_len}
 use Rattle.hz_net.specs.Network.{Driver, IsUnstable}
-use Rattle.hz_gmw.specs.Runs.{is_listed, state_after, end_of, IsStep, IsRun}
+use Rattle.hz_lists.specs.Listed.{is_listed}
+use Rattle.hz_gmw.specs.Runs.{state_after, end_of, IsStep, IsRun}
 use Rattle.hz_gmw.specs.Instability.{is_unstable, unstable_variables}
-use Rattle.hz_gmw.proofs.LeastLemmas.{listed-cases}
+use Rattle.hz_lists.proofs.ListedLemmas.{first-or-later}
 use Rattle.hz_gmw.proofs.Paths.{end_of-append, IsRun-append}
 use Rattle.hz_gmw.proofs.ReplayLemmas.{unstable-true, at-unstable_variables}
 use Rattle.hz_lists.specs.NumberSets.{least_of, greatest_of, later_or_first}
@@ -30,7 +31,7 @@ lone-step net input state var is =
     let inside : var < length net = omega (arith, is.inside, long) in
     let unstable : IsUnstable net input state var = unstable-true net input state var (sym (at-unstable_variables net input state var inside) ∙ is.marked) in
     let only : (i : ℕ) → IsTrue (is_listed (var ∷ []) i) → i ≡ var =
-    λ i listed. elim (listed-cases i var [] listed) [
+    λ i listed. elim (first-or-later i var [] listed) [
       | inl same ↦ same
       | inr none ↦ absurd (false≢true none)
     ] in

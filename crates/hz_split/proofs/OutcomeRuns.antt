@@ -43,7 +43,7 @@ settled-stable netlist input state settled i inside =
 pub stable-cycle : (net : List Driver) (input state : List Bool) → IsStable net input state → IsNontransient net input state []
 stable-cycle net input state stable = record {
   cycle = record { run = tt; closed = refl; alone = λ none. stable };
-  lasts = λ waits. waits.3.0.1 (stable waits.0 waits.1);
+  lasts = λ waits. waits.2.1.0.1 (stable waits.0 waits.1);
 }
 
 -- a stable state that a run reaches is an outcome state

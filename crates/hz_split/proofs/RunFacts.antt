@@ -6,7 +6,8 @@ use Rattle.hz_core.specs.Ternary.{unknown_count}
 use Rattle.hz_net.specs.Network.{Driver}
 use Rattle.hz_net.proofs.Sequences.{unknown_count-le-length}
 use Rattle.hz_gmw.specs.RunRecord.{flip_count}
-use Rattle.hz_gmw.specs.Runs.{state_after, end_of, IsRepeatFree, IsRun}
+use Rattle.hz_lists.specs.Listed.{IsRepeatFree}
+use Rattle.hz_gmw.specs.Runs.{state_after, end_of, IsRun}
 use Rattle.hz_desk.specs.declared.finding.Row.{Row}
 use Rattle.hz_desk.specs.Finding.{FindingOf, values_a, values_b}
 use Rattle.hz_desk.specs.RightFinding.{IsRightFinding}

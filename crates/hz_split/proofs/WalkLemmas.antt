@@ -8,8 +8,9 @@ use Rattle.hz_net.specs.Network.{Driver, network_of, bit_at}
 use Rattle.hz_net.specs.Reads.{readers_of}
 use Rattle.hz_gmw.specs.CurrentState.{with_readers}
 use Rattle.hz_gmw.specs.Instability.{is_unstable, unstable_variables}
-use Rattle.hz_gmw.specs.Runs.{is_listed, state_after}
-use Rattle.hz_gmw.proofs.LeastLemmas.{listed-head, listed-cases, listed-other}
+use Rattle.hz_lists.specs.Listed.{is_listed}
+use Rattle.hz_gmw.specs.Runs.{state_after}
+use Rattle.hz_lists.proofs.ListedLemmas.{listed-first, first-or-later, listed-other}
 use Rattle.hz_gmw.proofs.ReplayLemmas.{at-unstable_variables, unstable-list}
 use Rattle.hz_gmw.proofs.Unchanged.{is_unstable-state_after}
 use Rattle.hz_split.specs.Walks.{with_looks}
@@ -35,7 +36,7 @@ module _ (net : List Driver) (input state : List Bool) where
   at-looks marks (var ∷ list) i inside listed =
       let bit = is_unstable net input state var in
       let long = length-set marks var bit in
-      elim (listed-cases i var list listed) [
+      elim (first-or-later i var list listed) [
         | inl same ↦ looked (set marks var bit) list i (omega (arith, inside, long)) (rw same (get_or-set_same marks var bit false (rw same at inside)))
         | inr later ↦ at-looks (set marks var bit) list i (omega (arith, inside, long)) later
       ]
@@ -45,7 +46,7 @@ module _ (net : List Driver) (input state : List Bool) where
   past-looks marks (var ∷ list) i listed =
       let bit = is_unstable net input state var in
       elim (cases_eq i var) [
-        | inl same ↦ absurd (false≢true (sym listed ∙ listed-head i var list same))
+        | inl same ↦ absurd (false≢true (sym listed ∙ listed-first i var list same))
         | inr apart ↦ past-looks (set marks var bit) list i (sym (listed-other i var list apart) ∙ listed) ∙ get_or-set_other marks var i bit false apart
       ]
 

@@ -1,6 +1,6 @@
 -- What the fields of the room for a search stand for. Words about the inside of hz_split.
 use Rattle.std.specs.Prelude.{◌≡◌, length}
-use Rattle.hz_net.specs.Network.{network_of}
+use Rattle.hz_net.specs.Network.{network_of, IsState}
 use Rattle.hz_split.specs.Splits.{SplitOf}
 use Rattle.hz_split.specs.declared.split.Split.TheInside.{Inside}
 
@@ -10,5 +10,5 @@ split_of fields = record { netlist = fields.trial.circuit; found = fields.found.
 
 -- all parts are for one network
 pub record HoldsSplit (fields : Inside) : Type 0 where
-  pub here : length fields.here.items ≡ length (network_of fields.trial.circuit)
+  pub here : IsState fields.trial.circuit fields.here.items
   pub found : fields.found.variables ≡ length (network_of fields.trial.circuit)

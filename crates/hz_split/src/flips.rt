@@ -1,6 +1,7 @@
 //! The state after a step, and after a run.
 ghost use Rattle.std.specs.Prelude.{◌≡◌, ◌<◌, length, All};
-ghost use Rattle.hz_gmw.specs.Runs.{IsRepeatFree, state_after, end_of};
+ghost use Rattle.hz_lists.specs.Listed.{IsRepeatFree};
+ghost use Rattle.hz_gmw.specs.Runs.{state_after, end_of};
 
 use hz_gmw::Run;
 

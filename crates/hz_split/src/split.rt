@@ -2,11 +2,11 @@
 ghost use Rattle.std.specs.Prelude.{◌≡◌, ◌<◌, ◌++◌, ℕ, [], length, take, slice_index_or, Contains, IfOk, All, min};
 ghost use Rattle.std.specs.List.{range_with_len};
 ghost use Rattle.hz_core.specs.declared.tri.Tri.TheVariants.{Unknown};
-ghost use Rattle.hz_net.specs.Network.{network_of};
+ghost use Rattle.hz_net.specs.Network.{network_of, IsState, IsInput, IsVariable};
 ghost use Rattle.hz_net.specs.Starts.{IsStableStart};
 ghost use Rattle.hz_desk.specs.Finding.{finding_of, values_b};
 ghost use Rattle.hz_desk.specs.RightFinding.{IsRightFinding};
-ghost use Rattle.hz_gmw.specs.Runs.{IsRepeatFree};
+ghost use Rattle.hz_lists.specs.Listed.{IsRepeatFree};
 ghost use Rattle.hz_split.specs.Attempts.{runs_found, outcome_of, most_fronts};
 ghost use Rattle.hz_split.specs.FoundRuns.{HasRoomFor, with_attempt, with_attempts};
 ghost use Rattle.hz_split.specs.Splits.{AreSettledRuns};
@@ -70,7 +70,7 @@ impl<'n> Split<'n> {
     /// flips in each turn, in the other the greatest. The search takes no memory.
     pub fn search(&mut self, start: &[bool], finding: &Finding) -> Outcome
         requires start { IsStableStart self.old.netlist start.now }
-        requires input { length finding.now.input ≡ self.old.netlist.inputs }
+        requires input { IsInput self.old.netlist finding.now.input }
         requires right { (cap : ℕ) × IsRightFinding (network_of self.old.netlist) finding.now.input start.now cap (finding_of finding.now) }
         requires unsettled { Contains (values_b finding.now.rows) Unknown }
         ensures netlist { self.new.netlist ≡ self.old.netlist }
@@ -129,8 +129,8 @@ fn attempt(
     pick: Pick,
     found: &mut Found,
 )
-    requires input { length finding.now.input ≡ trial.old.circuit.inputs }
-    requires here { length here.now ≡ length (network_of trial.old.circuit) }
+    requires input { IsInput trial.old.circuit finding.now.input }
+    requires here { IsState trial.old.circuit here.now }
     requires variables { found.old.variables ≡ length (network_of trial.old.circuit) }
     requires room { HasRoomFor (length (network_of trial.old.circuit)) finding.now.settle.steps finding.now.cycle.steps front [] }
     ensures circuit { trial.new.circuit ≡ trial.old.circuit }
@@ -149,11 +149,11 @@ fn attempt(
 
 // Makes two attempts from each of the first states of the cycle, the first of which is here, until two runs are found.
 fn attempt_all(trial: &mut Trial<'_>, finding: &Finding, here: &mut [bool], found: &mut Found)
-    requires input { length finding.now.input ≡ trial.old.circuit.inputs }
-    requires here { length here.old ≡ length (network_of trial.old.circuit) }
+    requires input { IsInput trial.old.circuit finding.now.input }
+    requires here { IsState trial.old.circuit here.old }
     requires variables { found.old.variables ≡ length (network_of trial.old.circuit) }
     requires room { HasRoomFor (length (network_of trial.old.circuit)) finding.now.settle.steps finding.now.cycle.steps 0 [] }
-    requires inside { All (All (λ var. var < length (network_of trial.old.circuit))) finding.now.cycle.steps }
+    requires inside { All (All (IsVariable trial.old.circuit)) finding.now.cycle.steps }
     requires once { All IsRepeatFree finding.now.cycle.steps }
     ensures circuit { trial.new.circuit ≡ trial.old.circuit }
     ensures found { found.new ≡ with_attempts (network_of trial.old.circuit) finding.now.input finding.now.settle.steps finding.now.cycle.steps (range_with_len 0 (min (length finding.now.cycle.steps) most_fronts)) here.old found.old }

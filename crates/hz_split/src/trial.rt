@@ -1,6 +1,6 @@
 //! One attempt: from a state, one unstable variable flips in each turn.
-ghost use Rattle.std.specs.Prelude.{◌≡◌, ◌<◌, ◌*◌, length, IfOk};
-ghost use Rattle.hz_net.specs.Network.{network_of};
+ghost use Rattle.std.specs.Prelude.{◌≡◌, ◌*◌, length, IfOk};
+ghost use Rattle.hz_net.specs.Network.{network_of, IsState, IsInput};
 ghost use Rattle.hz_gmw.specs.Runs.{end_of};
 ghost use Rattle.hz_split.specs.Attempts.{turns_from, flips_alone, is_settled};
 
@@ -45,8 +45,8 @@ impl<'n> Trial<'n> {
 
     // Makes an attempt from a state. Returns whether it stops at a stable state.
     pub(crate) fn make(&mut self, input: &[bool], state: &[bool], pick: Pick) -> bool
-        requires input { length input.now ≡ self.old.circuit.inputs }
-        requires state { length state.now ≡ length (network_of self.old.circuit) }
+        requires input { IsInput self.old.circuit input.now }
+        requires state { IsState self.old.circuit state.now }
         ensures circuit { self.new.circuit ≡ self.old.circuit }
         ensures turns { self.new.turns ≡ turns_from (network_of self.old.circuit) input.now pick (2 * length (network_of self.old.circuit)) state.now }
         ensures ends { self.new.state ≡ end_of state.now (flips_alone self.new.turns) }

@@ -1,6 +1,6 @@
 //! A state of a network under an input, with its unstable variables in order.
-ghost use Rattle.std.specs.Prelude.{◌≡◌, ◌<◌, ◌∷◌, [], false, length, replicate, slice_set, All, IfOk};
-ghost use Rattle.hz_net.specs.Network.{network_of};
+ghost use Rattle.std.specs.Prelude.{◌≡◌, ◌∷◌, [], false, length, replicate, slice_set, All, IfOk};
+ghost use Rattle.hz_net.specs.Network.{network_of, IsState, AreByVariable, IsInput, IsVariable};
 ghost use Rattle.hz_gmw.specs.Instability.{is_unstable, unstable_variables};
 ghost use Rattle.hz_gmw.specs.Follower.{follower_at, follower_after};
 ghost use Rattle.hz_split.specs.Attempts.{picked};
@@ -54,8 +54,8 @@ impl<'n> Walk<'n> {
 
     // Goes to a state under an input.
     pub(crate) fn begin(&mut self, input: &[bool], state: &[bool])
-        requires input { length input.now ≡ self.old.circuit.inputs }
-        requires state { length state.now ≡ length (network_of self.old.circuit) }
+        requires input { IsInput self.old.circuit input.now }
+        requires state { IsState self.old.circuit state.now }
         ensures { self.new ≡ follower_at self.old.circuit input.now state.now }
     {
         self.input.as_mut_slice().copy_from_slice(input);
@@ -65,7 +65,7 @@ impl<'n> Walk<'n> {
 
     // Changes one variable. Only it and the variables that read it may become stable or unstable.
     pub(crate) fn flip(&mut self, var: u32)
-        requires { var < length (network_of self.old.circuit) }
+        requires { IsVariable self.old.circuit var }
         ensures { self.new ≡ follower_after self.old (var ∷ []) }
     {
         // A getter of the network says that its circuit is one.
@@ -107,10 +107,10 @@ impl<'n> Walk<'n> {
 
 // Looks whether a variable is unstable.
 fn look_at(net: &Net, input: &[bool], state: &[bool], var: u32, unstable: &mut NumberSet)
-    requires input { length input.now ≡ net.now.inputs }
-    requires state { length state.now ≡ length (network_of net.now) }
-    requires var { var < length (network_of net.now) }
-    requires set { length unstable.old ≡ length (network_of net.now) }
+    requires input { IsInput net.now input.now }
+    requires state { IsState net.now state.now }
+    requires var { IsVariable net.now var }
+    requires set { AreByVariable net.now unstable.old }
     ensures { unstable.new ≡ slice_set unstable.old var (is_unstable (network_of net.now) input.now state.now var) }
 {
     if net.excite(input, state, var) != state[var as usize] {
@@ -122,10 +122,10 @@ fn look_at(net: &Net, input: &[bool], state: &[bool], var: u32, unstable: &mut N
 
 // Looks at listed variables.
 fn look_at_each(net: &Net, input: &[bool], state: &[bool], list: &[u32], unstable: &mut NumberSet)
-    requires input { length input.now ≡ net.now.inputs }
-    requires state { length state.now ≡ length (network_of net.now) }
-    requires list { All (λ var. var < length (network_of net.now)) list.now }
-    requires set { length unstable.old ≡ length (network_of net.now) }
+    requires input { IsInput net.now input.now }
+    requires state { IsState net.now state.now }
+    requires list { All (IsVariable net.now) list.now }
+    requires set { AreByVariable net.now unstable.old }
     ensures { unstable.new ≡ with_looks (network_of net.now) input.now state.now unstable.old list.now }
 {
     for var in list {
@@ -135,9 +135,9 @@ fn look_at_each(net: &Net, input: &[bool], state: &[bool], list: &[u32], unstabl
 
 // Looks at all variables.
 fn look_at_all(net: &Net, input: &[bool], state: &[bool], unstable: &mut NumberSet)
-    requires input { length input.now ≡ net.now.inputs }
-    requires state { length state.now ≡ length (network_of net.now) }
-    requires set { length unstable.old ≡ length (network_of net.now) }
+    requires input { IsInput net.now input.now }
+    requires state { IsState net.now state.now }
+    requires set { AreByVariable net.now unstable.old }
     ensures { unstable.new ≡ unstable_variables (network_of net.now) input.now state.now }
 {
     for var in 0..net.len() {

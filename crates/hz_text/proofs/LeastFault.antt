@@ -4,7 +4,7 @@ use Rattle.std.specs.Option.{option_map, option_or}
 use Rattle.std.specs.Prelude.{◌⊎◌, ◌==◌, if◌then◌else◌, IfOk, MatchResult}
 use Rattle.std.proofs.lemmas.Bool.{cases_lt, cases_eq}
 use Rattle.std.proofs.lemmas.Option.{same_Some, none-some}
-use Rattle.hz_core.specs.Least.{IsLeastOf}
+use Rattle.hz_lists.specs.Least.{IsLeastOf}
 use Rattle.hz_line.specs.Reading.{AreStatementsOf}
 use Rattle.hz_line.specs.Token.{TokenOf}
 use Rattle.hz_line.specs.Statement.{Numbered, PassesOn, first_passing_line}

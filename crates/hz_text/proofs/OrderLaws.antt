@@ -4,7 +4,7 @@ use Rattle.std.specs.Prelude.{◌⊎◌}
 use Rattle.std.specs.List.{flat_map}
 use Rattle.std.specs.Option.{option_map_or}
 use Rattle.std.proofs.lemmas.List.{map-append}
-use Rattle.hz_core.specs.Least.{IsLeastOf}
+use Rattle.hz_lists.specs.Least.{IsLeastOf}
 use Rattle.hz_line.specs.Statement.{Numbered}
 use Rattle.hz_text.specs.declared.run.order.Place.{Place}
 use Rattle.hz_text.specs.declared.run.order.Place.TheVariants as place
@@ -15,9 +15,8 @@ use Rattle.hz_text.specs.Assignment.{Assigned}
 use Rattle.hz_text.specs.RunStatement.{Header, Net, Start, Input, Run, Step, Cycle, End}
 use Rattle.hz_text.specs.RunResolution.{ResolvedRunStatement}
 use Rattle.hz_text.specs.RunFault.{assignments_in, version_in, is_start_line, is_input_line}
-use Rattle.hz_text.specs.OrderPass.{is_net_line, is_end}
+use Rattle.hz_text.specs.OrderPass.{is_net_line, is_end, place_after, end_out_of_order, runs_out_of_order, out_of_order_with, input_out_of_order, start_out_of_order, version_out_of_order, first_misplaced}
 use Rattle.hz_text.specs.RunOrder.{header_lines, cycle_lines, RunShape, shape_lines, IsOrdered, MayGoOn, statements_without_lines, IsOutOfPlace, BreaksOrder}
-use Rattle.hz_text.specs.OrderPass.{place_after, end_out_of_order, runs_out_of_order, out_of_order_with, input_out_of_order, start_out_of_order, version_out_of_order, first_misplaced}
 
 -- what statements are: they may not go on, they may and are not whole, or they are whole
 data Verdict : Type 0 where

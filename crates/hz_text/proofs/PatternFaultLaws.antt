@@ -2,7 +2,7 @@
 use Rattle.std.proofs.Common.{◌≡◌, ◌∙◌, ℕ, Bool, true, false, not, List, [], ◌∷◌, Option, Some, None, suc, length, filter, refl, ap, sym, subst}
 use Rattle.std.specs.List.{All}
 use Rattle.hz_core.specs.Netlist.{Netlist}
-use Rattle.hz_core.specs.Least.{IsLeastOf}
+use Rattle.hz_lists.specs.Least.{IsLeastOf}
 use Rattle.hz_line.specs.Line.{lines_of}
 use Rattle.hz_line.specs.Statement.{Numbered, PassesOn, first_passing_line, numbered_statements, first_malformed}
 use Rattle.hz_line.proofs.StatementLemmas.{Ascends, numbered_from-Ascends, numbered_from-map, first_passing_line-Some, first_passing_line-None}

@@ -7,7 +7,7 @@ use Rattle.std.proofs.lemmas.List.{append-nil, map_push, length-map, drop_more, 
 use Rattle.std.proofs.lemmas.List.Elements.{All-nil, All-cons, All-tail}
 use Rattle.std.proofs.lemmas.List.FromFn.{length-range_with_len, get_or-map-range_with_len}
 use Rattle.std.proofs.lemmas.Grind.{flat_map-append}
-use Rattle.hz_core.proofs.LeastLemmas.{option_min-none}
+use Rattle.hz_lists.proofs.LeastLemmas.{option_min-none}
 use Rattle.hz_core.specs.Netlist.{Netlist}
 use Rattle.hz_line.specs.Statement.{Numbered, first_passing_line}
 use Rattle.hz_text.specs.declared.run.order.Place.{Place}
@@ -22,8 +22,7 @@ use Rattle.hz_text.specs.RunStatement.{Header, Net, Start, Input, Run, Step, Cyc
 use Rattle.hz_text.specs.RunResolution.{RunEntry, ResolvedRunStatement, numbered_run_resolution, numbered_run_resolutions, run_resolution_of}
 use Rattle.hz_text.specs.RunValue.{RunOf, with_step_in, with_step}
 use Rattle.hz_text.specs.RunFault.{version_in, assignments_in, variables_in, names_unknown, lacks_bit, is_start_line, is_input_line, first_start, first_input}
-use Rattle.hz_text.specs.OrderPass.{is_net_line, is_end}
-use Rattle.hz_text.specs.OrderPass.{place_after, end_out_of_order, runs_out_of_order, out_of_order_with, start_out_of_order, input_out_of_order, net_out_of_order, version_out_of_order, first_misplaced}
+use Rattle.hz_text.specs.OrderPass.{is_net_line, is_end, place_after, end_out_of_order, runs_out_of_order, out_of_order_with, start_out_of_order, input_out_of_order, net_out_of_order, version_out_of_order, first_misplaced}
 use Rattle.hz_text.specs.RunRules.{beyond_from, AssignsBelow, names_node_twice, least_left_out, least_missing_node, first_run_fault}
 use Rattle.hz_text.specs.RunText.{step_of, run_statements}
 use Rattle.hz_text.specs.RunOrder.{header_lines, statements_without_lines}

@@ -1,8 +1,8 @@
 -- The first answer of the passes over a run text is its least fault.
 use Rattle.std.proofs.Common.{◌≡◌, ◌∙◌, ℕ, false, List, Option, Some, None, length, refl, sym, subst}
-use Rattle.hz_core.proofs.LeastLemmas.{IsLeastOf-either}
+use Rattle.hz_lists.proofs.LeastLemmas.{IsLeastOf-either}
 use Rattle.hz_core.specs.Netlist.{Netlist}
-use Rattle.hz_core.specs.Least.{IsLeastOf}
+use Rattle.hz_lists.specs.Least.{IsLeastOf}
 use Rattle.hz_line.specs.Line.{lines_of}
 use Rattle.hz_line.specs.Statement.{PassesOn, first_passing_line, numbered_statements, first_malformed}
 use Rattle.hz_line.proofs.StatementLemmas.{numbered_from-Ascends, numbered_from-map}

@@ -1,7 +1,7 @@
 -- What each text of statements has: where each pass answers the least place of its kind, what is answered is the least fault.
 use Rattle.std.proofs.Common.{◌≡◌, ◌∙◌, ℕ, Bool, true, false, cond, List, [], ◌∷◌, Option, Some, None, map, refl, ap, sym, subst}
 use Rattle.std.specs.Option.{option_map, option_or}
-use Rattle.hz_core.specs.Least.{IsLeastOf}
+use Rattle.hz_lists.specs.Least.{IsLeastOf}
 use Rattle.hz_line.specs.Line.{lines_of}
 use Rattle.hz_line.specs.Statement.{Numbered, Malformed, meaning_at, first_passing_line, numbered_statements, first_malformed}
 use Rattle.hz_line.specs.Token.{TokenOf}

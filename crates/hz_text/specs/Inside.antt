@@ -1,7 +1,7 @@
 -- The script that the fields stand for: all changes lie in one list, cut at their ends.
 use Rattle.std.specs.Prelude.{length}
 use Rattle.hz_text.specs.declared.script.Script.TheInside.{Inside}
-use Rattle.hz_net.specs.Parts.{parts_from, EndsAt}
+use Rattle.hz_lists.specs.Parts.{parts_from, EndsAt}
 use Rattle.hz_text.specs.ScriptValue.{ScriptOf, IsScript}
 
 -- the start, and the changes as parts of the one list

@@ -1,7 +1,7 @@
 -- What the passes over a run text's statements answer.
 use Rattle.std.specs.Prelude.{◌≡◌, ℕ, ◌+◌, Bool, ◌||◌, nat_lt, List, [], ◌∷◌, length, All, Option, Some, None, if◌then◌else◌}
 use Rattle.std.specs.Option.{option_map}
-use Rattle.hz_core.specs.Least.{option_min}
+use Rattle.hz_lists.specs.Least.{option_min}
 use Rattle.hz_core.specs.Netlist.{Netlist}
 use Rattle.hz_line.specs.Statement.{Numbered}
 use Rattle.hz_text.specs.Assignment.{Assigned}

@@ -1,8 +1,8 @@
 -- The run text that a text without a fault stands for.
-use Rattle.std.specs.Prelude.{◌≡◌, ℕ, ◌<◌, ◌≤◌, List, [], ◌∷◌, ◌++◌, length, map, All, Option, Some}
+use Rattle.std.specs.Prelude.{◌≡◌, ℕ, ◌≤◌, List, [], ◌∷◌, ◌++◌, length, map, All, Option, Some}
 use Rattle.std.specs.List.{flat_map, range_with_len}
 use Rattle.hz_core.specs.Netlist.{Netlist}
-use Rattle.hz_net.specs.Network.{network_of}
+use Rattle.hz_net.specs.Network.{IsInput, IsVariable}
 use Rattle.hz_gmw.specs.RunRecord.{flip_count}
 use Rattle.hz_text.specs.Assignment.{Assigned, assigned_bit}
 use Rattle.hz_text.specs.declared.run.size.Size.{Size}
@@ -42,7 +42,7 @@ IsRunValue netlist text value = IsRunTextBy netlist (statements_without_lines (r
 -- a run text of a network: a bit for each node and for each input, steps of variables, and the limits kept
 pub record IsRunTextFor (netlist : Netlist) (value : RunTextOf) : Type 0 where
   pub nodes : length value.nodes ≡ length netlist.names
-  pub inputs : length value.input ≡ netlist.inputs
-  pub variables : All (λ flips. All (λ var. var < length (network_of netlist)) flips) (all_steps value.runs)
+  pub inputs : IsInput netlist value.input
+  pub variables : All (λ flips. All (IsVariable netlist) flips) (all_steps value.runs)
   pub few_steps : length (all_steps value.runs) ≤ most_steps
   pub few_variables : flip_count (all_steps value.runs) ≤ most_steps

@@ -13,7 +13,7 @@ ghost use Rattle.hz_text.specs.ScriptValue.{IsChange, IsScript};
 ghost use Rattle.hz_text.specs.Limits.{most_changes};
 
 use hz_core::Memory;
-use hz_net::part_at;
+use hz_lists::part_at;
 use std::alloc::Global;
 use std::marker::Model;
 

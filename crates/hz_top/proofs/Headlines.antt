@@ -12,7 +12,8 @@ use Rattle.hz_core.specs.Netlist.{Netlist, IsCircuit}
 use Rattle.hz_net.specs.Network.{network_of, bit_at, value_at}
 use Rattle.hz_net.specs.Passes.{IsUnknown}
 use Rattle.hz_net.specs.Starts.{IsStableStart, IsAcceptedStart}
-use Rattle.hz_gmw.specs.Runs.{is_listed, state_after}
+use Rattle.hz_lists.specs.Listed.{is_listed}
+use Rattle.hz_gmw.specs.Runs.{state_after}
 use Rattle.hz_gmw.specs.Cycles.{states_of}
 use Rattle.hz_gmw.proofs.Flips.{at-state_after, length-state_after}
 use Rattle.hz_reach.specs.Spread.{changes_in}

@@ -6,7 +6,7 @@ use Rattle.std.specs.Prelude.{◌≡◌, ◌≢◌, ℕ, zero, suc, ◌+◌, ◌
 use Rattle.hz_outside.specs.Counts.{Rose}
 use Rattle.hz_outside.specs.WrittenText.{extended_text}
 use Rattle.hz_core.specs.Netlist.{Netlist}
-use Rattle.hz_net.specs.Network.{network_of, bit_at, value_at}
+use Rattle.hz_net.specs.Network.{network_of, bit_at, value_at, IsVariable}
 use Rattle.hz_net.specs.Passes.{algorithm_a, algorithm_b, IsUnknown, AreRounds}
 use Rattle.hz_net.specs.Starts.{IsStableStart, IsAcceptedStart}
 use Rattle.hz_gmw.specs.Runs.{IsRun, end_of, IsReachable, JoinsTo}
@@ -43,8 +43,8 @@ TakesBoth states i = (bit : Bool) → (state : List Bool) × Contains states sta
 -- is X in B takes both values;
 -- and the printed run text, in the job `replay`, comes to `yes`.
 pub record IsExact (netlist : Netlist) (input start : List Bool) (finding : FindingOf) : Type 0 where
-  pub a : (i : ℕ) → i < length (network_of netlist) → JoinsTo (IsReachable (network_of netlist) input start) i (value_at (values_a finding.rows) i)
-  pub b : (i : ℕ) → i < length (network_of netlist) → JoinsTo (IsOutcome (network_of netlist) input start) i (value_at (values_b finding.rows) i)
+  pub a : (i : ℕ) → IsVariable netlist i → JoinsTo (IsReachable (network_of netlist) input start) i (value_at (values_a finding.rows) i)
+  pub b : (i : ℕ) → IsVariable netlist i → JoinsTo (IsOutcome (network_of netlist) input start) i (value_at (values_b finding.rows) i)
   pub rounds_a : AreRounds (algorithm_a (network_of netlist) input start) finding.rounds_a
   pub few_a : finding.rounds_a ≤ length (network_of netlist) + 1
   pub rounds_b : AreRounds (algorithm_b (network_of netlist) input (values_a finding.rows)) finding.rounds_b

@@ -8,8 +8,9 @@ use Rattle.std.proofs.lemmas.Bool.Decides.{nat_tests}
 use Rattle.std.proofs.lemmas.List.{append-nil, length-append, length-set, get_or-set_same, get_or-set_other, ext_get_or}
 use Rattle.std.proofs.lemmas.List.Elements.{All-nil, All-cons, All-head, All-tail, All-append}
 use Rattle.hz_net.specs.Network.{bit_at}
-use Rattle.hz_gmw.specs.Runs.{IsRepeatFree, is_listed, state_after, end_of}
-use Rattle.hz_gmw.proofs.LeastLemmas.{listed-append}
+use Rattle.hz_lists.specs.Listed.{IsRepeatFree, is_listed}
+use Rattle.hz_gmw.specs.Runs.{state_after, end_of}
+use Rattle.hz_lists.proofs.ListedLemmas.{listed-append}
 use Rattle.hz_gmw.proofs.Flips.{length-state_after, at-state_after}
 use Rattle.hz_vcd.specs.Dump.{AreFlips, value_word, time_word, steps_words}
 use Rattle.hz_vcd.specs.Reading.{WordsLeft, Steps, Changes, StepGoesOn, Goes, Past, Stuck, Means, AreAt}
@@ -395,22 +396,6 @@ at-first times early = record {
   here = λ v there. absurd (cc);
   latest = λ v. omega (arith, early v);
 }
-
--- one more change, each once
-pub push-once : (flips : List ℕ) (var : ℕ) → IsRepeatFree flips → is_listed flips var ≡ false → IsRepeatFree (flips ++ var ∷ [])
-push-once [] var once out = (refl, tt)
-push-once (first ∷ flips) var once out =
-    let parts = halves (nat_eq var first) (is_listed flips var) out in (
-      listed-append flips (var ∷ []) first ∙ ap (λ (b : Bool). b || (nat_eq first var || false)) once.0 ∙ ap (λ (b : Bool). false || (b || false)) (swapped var first parts.0),
-      push-once flips var once.1 parts.1,
-    )
-  where
-    halves : (a b : Bool) → a || b ≡ false → (a ≡ false) × (b ≡ false)
-    halves true b e = absurd (cc)
-    halves false b e = (refl, e)
-
-    swapped : (a b : ℕ) → nat_eq a b ≡ false → nat_eq b a ≡ false
-    swapped a b e = grind (arith, nat_tests, e)
 
 -- what a variable that is not listed has before the step
 pub before-step : (flips : List ℕ) (var : ℕ) (state : List Bool) → var < length state → is_listed flips var ≡ false → bit_at (state_after flips state) var ≡ bit_at state var

@@ -5,7 +5,8 @@ use Rattle.std.specs.Prelude.{◌≡◌, ◌≢◌, ℕ, suc, ◌<◌, ◌⊎◌
 use Rattle.std.specs.List.{flat_map, range_with_len}
 use Rattle.hz_core.specs.Netlist.{Netlist}
 use Rattle.hz_net.specs.Network.{network_of, bit_at}
-use Rattle.hz_gmw.specs.Runs.{IsRepeatFree, state_after}
+use Rattle.hz_lists.specs.Listed.{IsRepeatFree}
+use Rattle.hz_gmw.specs.Runs.{state_after}
 use Rattle.hz_text.specs.Printed.{letter_of}
 use Rattle.hz_text.specs.RunPrinted.{variable_word}
 use Rattle.hz_vcd.specs.Code.{code_of}

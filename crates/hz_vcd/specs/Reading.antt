@@ -4,7 +4,8 @@ use Rattle.std.specs.Borrow.{Bor}
 use Rattle.std.specs.List.{flat_map, range_with_len}
 use Rattle.hz_core.specs.Limits.{most_variables}
 use Rattle.hz_net.specs.Network.{bit_at}
-use Rattle.hz_gmw.specs.Runs.{end_of, is_listed}
+use Rattle.hz_lists.specs.Listed.{is_listed}
+use Rattle.hz_gmw.specs.Runs.{end_of}
 use Rattle.hz_text.specs.Printed.{letter_of}
 use Rattle.hz_vcd.specs.declared.fault.VcdFault.{VcdFault}
 use Rattle.hz_vcd.specs.declared.fault.VcdFault.TheVariants as fault

@@ -4,7 +4,7 @@ ghost use Rattle.std.specs.Prelude.{◌≡◌, ◌+◌, ◌<◌, ◌≤◌, ◌�
 ghost use Rattle.std.specs.List.{flat_map};
 ghost use Rattle.std.specs.Option.{option_map};
 ghost use Rattle.hz_core.specs.Netlist.{IsCircuit, node_name};
-ghost use Rattle.hz_net.specs.Network.{network_of};
+ghost use Rattle.hz_net.specs.Network.{IsVariable};
 ghost use Rattle.hz_write.specs.Writer.{Writes, NoneWaits};
 ghost use Rattle.hz_write.specs.Writes.{Wrote};
 ghost use Rattle.hz_text.specs.RunFault.{IsRunFaultless};
@@ -115,7 +115,7 @@ pub fn write_end<K: Sink>(writer: &mut Writer<'_, K>)
 
 // Gives the lines of the runs.
 fn write_all<K: Sink>(writer: &mut Writer<'_, K>, net: &Net, text: &RunText)
-    requires variables { All (λ flips. All (λ var. var < length (network_of net.now)) flips) (all_steps text.now.runs) }
+    requires variables { All (λ flips. All (IsVariable net.now) flips) (all_steps text.now.runs) }
     requires none_waits { NoneWaits writer.old }
     ensures gave { Writes K.output K.faults (flat_map (run_text net.now) text.now.runs) writer.old writer.new }
     ensures none_waits { NoneWaits writer.new }
@@ -128,8 +128,8 @@ fn write_all<K: Sink>(writer: &mut Writer<'_, K>, net: &Net, text: &RunText)
 /// Gives the lines of a run: its lead, and its cycle, if it has one.
 #[tactic(auto, using(hz_write::proofs::Writers::writes_then), unfolding(crate::specs::RunPrinted::run_text))]
 pub fn write_run<K: Sink>(writer: &mut Writer<'_, K>, net: &Net, lead: &Run, cycle: Option<&Run>)
-    requires lead { All (λ flips. All (λ var. var < length (network_of net.now)) flips) lead.now.steps }
-    requires cycle { All (λ flips. All (λ var. var < length (network_of net.now)) flips) (cycle_steps (option_map (λ run. run.now.steps) cycle)) }
+    requires lead { All (λ flips. All (IsVariable net.now) flips) lead.now.steps }
+    requires cycle { All (λ flips. All (IsVariable net.now) flips) (cycle_steps (option_map (λ run. run.now.steps) cycle)) }
     ensures gave { Writes K.output K.faults
         (run_text net.now (record { lead = lead.now.steps; cycle = option_map (λ run. run.now.steps) cycle.entry })) writer.old writer.new }
     ensures none_waits { NoneWaits writer.new }
@@ -142,7 +142,7 @@ pub fn write_run<K: Sink>(writer: &mut Writer<'_, K>, net: &Net, lead: &Run, cyc
 // Gives the lines of a cycle, if there is one.
 #[tactic(auto, using(hz_write::proofs::Writers::writes_then, hz_write::proofs::Writers::writes_nothing))]
 fn write_cycle<K: Sink>(writer: &mut Writer<'_, K>, net: &Net, cycle: Option<&Run>)
-    requires variables { All (λ flips. All (λ var. var < length (network_of net.now)) flips) (cycle_steps (option_map (λ run. run.now.steps) cycle)) }
+    requires variables { All (λ flips. All (IsVariable net.now) flips) (cycle_steps (option_map (λ run. run.now.steps) cycle)) }
     requires none_waits { NoneWaits writer.old }
     ensures gave { Writes K.output K.faults
         (cycle_text net.now (option_map (λ run. run.now.steps) cycle.entry)) writer.old writer.new }
@@ -158,7 +158,7 @@ fn write_cycle<K: Sink>(writer: &mut Writer<'_, K>, net: &Net, cycle: Option<&Ru
 // Gives a line for each step.
 #[tactic(auto, using(hz_write::proofs::Writers::writes_then, hz_write::proofs::Writers::writes_nothing))]
 fn write_steps<K: Sink>(writer: &mut Writer<'_, K>, net: &Net, run: &Run)
-    requires variables { All (λ flips. All (λ var. var < length (network_of net.now)) flips) run.now.steps }
+    requires variables { All (λ flips. All (IsVariable net.now) flips) run.now.steps }
     requires none_waits { NoneWaits writer.old }
     ensures gave { Writes K.output K.faults (flat_map (step_text net.now) run.now.steps) writer.old writer.new }
     ensures none_waits { NoneWaits writer.new }
@@ -171,7 +171,7 @@ fn write_steps<K: Sink>(writer: &mut Writer<'_, K>, net: &Net, run: &Run)
 // Gives the line of a step.
 #[tactic(auto, using(hz_write::proofs::Writers::writes_then), unfolding(crate::specs::RunPrinted::step_text))]
 fn write_step<K: Sink>(writer: &mut Writer<'_, K>, net: &Net, flips: &[u32])
-    requires { All (λ var. var < length (network_of net.now)) flips.now }
+    requires { All (IsVariable net.now) flips.now }
     ensures gave { Writes K.output K.faults (step_text net.now flips.now) writer.old writer.new }
     ensures none_waits { NoneWaits writer.new }
 {
@@ -183,7 +183,7 @@ fn write_step<K: Sink>(writer: &mut Writer<'_, K>, net: &Net, flips: &[u32])
 // Gives the words of variables, each after a space.
 #[tactic(auto, using(hz_write::proofs::Writers::writes_then, hz_write::proofs::Writers::writes_nothing))]
 fn write_variables<K: Sink>(writer: &mut Writer<'_, K>, net: &Net, flips: &[u32])
-    requires { All (λ var. var < length (network_of net.now)) flips.now }
+    requires { All (IsVariable net.now) flips.now }
     ensures { Writes K.output K.faults (flat_map (spaced_word net.now) flips.now) writer.old writer.new }
 {
     for var in flips {
@@ -194,7 +194,7 @@ fn write_variables<K: Sink>(writer: &mut Writer<'_, K>, net: &Net, flips: &[u32]
 
 /// Gives the word of a variable: a node's own name, or the gate and the pin that a wire goes into, counted from 1.
 pub fn write_variable<K: Sink>(writer: &mut Writer<'_, K>, net: &Net, var: u32)
-    requires { var < length (network_of net.now) }
+    requires { IsVariable net.now var }
     ensures { Writes K.output K.faults (variable_word net.now var) writer.old writer.new }
 {
     let circuit = net.circuit();
@@ -209,7 +209,7 @@ pub fn write_variable<K: Sink>(writer: &mut Writer<'_, K>, net: &Net, var: u32)
 #[inline(never)]
 fn write_wire<K: Sink>(writer: &mut Writer<'_, K>, net: &Net, wire: u32)
     requires node { length net.now.names ≤ wire }
-    requires within { wire < length (network_of net.now) }
+    requires within { IsVariable net.now wire }
     ensures { Writes K.output K.faults (variable_word net.now wire) writer.old writer.new }
 {
     let circuit = net.circuit();

@@ -13,7 +13,8 @@ use crate::run::order::{is_input_line, is_start_line};
 use crate::run::size::{Size, difference};
 use crate::run::statement::{RunEntry, RunHeld};
 use crate::run::version::Version;
-use hz_core::{Circuit, Memory, lesser};
+use hz_core::{Circuit, Memory};
+use hz_lists::lesser;
 use std::alloc::Global;
 use std::slice;
 

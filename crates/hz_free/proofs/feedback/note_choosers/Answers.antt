@@ -1,7 +1,8 @@
 -- The next variable chose its choice.
 use Rattle.std.proofs.Common.{arith, ◌≡◌, ◌∙◌, length, get_or}
 use Rattle.hz_free.proofs.PathLemmas.{link-inside}
-use Rattle.hz_free.proofs.NotedValues.{choosers-more, listed-at, some-link}
+use Rattle.hz_lists.proofs.ListedLemmas.{listed-at}
+use Rattle.hz_free.proofs.NotedValues.{choosers-more, some-link}
 use Rattle.hz_free.proofs.feedback.note_choosers.Goals as goal
 
 pub bounds-choices-var : goal.bounds-choices-var

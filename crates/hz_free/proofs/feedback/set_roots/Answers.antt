@@ -1,6 +1,7 @@
 -- The next variable has the root.
 use Rattle.std.proofs.Common.{arith, get_or}
-use Rattle.hz_free.proofs.NotedValues.{value-more, listed-at}
+use Rattle.hz_lists.proofs.ListedLemmas.{listed-at}
+use Rattle.hz_free.proofs.NotedValues.{value-more}
 use Rattle.hz_free.proofs.feedback.set_roots.Goals as goal
 
 pub bounds-roots-var : goal.bounds-roots-var

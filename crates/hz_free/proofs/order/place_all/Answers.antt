@@ -1,6 +1,6 @@
 -- The order has no more variables than there are.
 use Rattle.std.proofs.Common.{arith, length}
-use Rattle.hz_free.proofs.Lists.{is_repeat_free-bound}
+use Rattle.hz_lists.proofs.ListedLemmas.{is_repeat_free-bound}
 use Rattle.hz_free.proofs.order.place_all.Goals as goal
 
 pub loop-place-smaller : goal.loop-place-smaller

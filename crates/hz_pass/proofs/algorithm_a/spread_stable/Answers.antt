@@ -1,4 +1,4 @@
-use Rattle.std.proofs.Common.{List, sym, ap, subst, arith}
+use Rattle.std.proofs.Common.{rules, List, sym, ap, subst, arith}
 use Rattle.hz_core.specs.declared.tri.Tri.{Tri}
 use Rattle.hz_core.specs.Netlist.{Netlist}
 use Rattle.hz_net.specs.Network.{network_of}
@@ -9,18 +9,20 @@ use Rattle.hz_pass.proofs.PassResults.{rounds-a, result-a, ranks-a}
 use Rattle.hz_pass.proofs.StableStarts.{stable-made}
 use Rattle.hz_pass.proofs.algorithm_a.spread_stable.Goals as goal
 
-pub make_rounds-requires-clause-first : goal.make_rounds-requires-clause-first
-make_rounds-requires-clause-first g c =
-    let same = ap (λ (n : Netlist). n.inputs) c.circuit.ensures.same in
-    omega (arith, same, c.inputs-inputs.ensures.inputs, c.len-variables.ensures.circuit.nodes, length-network_of c.args.net.now c.len-variables.ensures.circuit)
-
-pub make_rounds-requires-clause-rest : goal.make_rounds-requires-clause-rest
-make_rounds-requires-clause-rest g c =
-    let same = ap (λ (n : Netlist). n.inputs) c.circuit.ensures.same in
-    λ i above inside.
-    subst (λ (values : List Tri). IsMade Join (network_of c.args.net.now) c.args.input.now values values i) (sym c.write_bits.ensures)
-    (stable-made c.args.net.now c.args.input.now c.args.start.now c.len-variables.ensures.circuit c.requires.start i
-    (omega (arith, same, c.inputs-inputs.ensures.inputs, above)) inside)
+pub make_rounds-requires-clause-pass : goal.make_rounds-requires-clause-pass
+make_rounds-requires-clause-pass g c =
+    let circuit = c.len-variables.ensures.circuit in
+    let inputs = c.inputs-inputs.ensures.inputs in
+    let same = ap (λ (n : Netlist). n.inputs) c.circuit.ensures.same in record {
+      input = c.requires.input;
+      state = search rules;
+      falls = search rules;
+      first = omega (arith, same, inputs, circuit.nodes, length-network_of c.args.net.now circuit);
+      rest = λ i above inside.
+          subst (λ (values : List Tri). IsMade Join (network_of c.args.net.now) c.args.input.now values values i) (sym c.write_bits.ensures)
+          (stable-made c.args.net.now c.args.input.now c.args.start.now circuit c.requires.start i
+          (omega (arith, same, inputs, above)) inside);
+    }
 
 pub returns-clause-rounds : goal.returns-clause-rounds
 returns-clause-rounds g c =

@@ -1,10 +1,16 @@
-use Rattle.std.proofs.Common.{arith}
+use Rattle.std.proofs.Common.{rules, arith}
 use Rattle.hz_net.specs.Network.{network_of}
 use Rattle.hz_pass.proofs.PassResults.{rounds-b, result-b, settling-b}
 use Rattle.hz_pass.proofs.algorithm_b.settle.Goals as goal
 
-pub make_rounds-requires-clause-rest : goal.make_rounds-requires-clause-rest
-make_rounds-requires-clause-rest g c = λ i above inside. absurd (omega (arith, above, inside, c.len-variables.ensures.len))
+pub make_rounds-requires-clause-pass : goal.make_rounds-requires-clause-pass
+make_rounds-requires-clause-pass g c = record {
+  input = c.requires.input;
+  state = search rules;
+  falls = search rules;
+  first = omega (arith, c.len-variables.ensures.len);
+  rest = λ i above inside. absurd (omega (arith, above, inside, c.len-variables.ensures.len));
+}
 
 pub returns-clause-rounds : goal.returns-clause-rounds
 returns-clause-rounds g c =

@@ -1,8 +1,8 @@
-use Rattle.std.proofs.Common.{ℕ, List, [], length, refl, subst, arith}
+use Rattle.std.proofs.Common.{ℕ, List, length, refl, subst, arith}
 use Rattle.std.proofs.lemmas.List.{drop_all}
 use Rattle.hz_net.specs.Variables.{fan_out_of}
 use Rattle.hz_net.proofs.Places.{length-network_of}
-use Rattle.hz_pass.specs.Forcing.{ForcedSoFar}
+use Rattle.hz_pass.specs.Forcing.{ForcedSoFar, carrying}
 use Rattle.hz_pass.proofs.forcing.carry.Goals as goal
 
 pub slice_copy_out-take_data : goal.slice_copy_out-take_data
@@ -16,6 +16,6 @@ take_data-requires-clause-inside c = λ k d few.
 pub returns-clause-forced : goal.returns-clause-forced
 returns-clause-forced c = λ listed same begun.
     c.deliver.ensures.forced listed same
-    (subst (λ (cuts : List ℕ). ForcedSoFar c.args.net.now listed c.take_data.new.values c.take_data.new.waiting.items (fan_out_of c.args.net.now c.args.node) cuts [])
+    (subst (λ (cuts : List ℕ). ForcedSoFar c.args.net.now listed c.take_data.new.values (carrying c.take_data.new.waiting.items (fan_out_of c.args.net.now c.args.node) cuts))
     (drop_all (length c.args.cuts.now) c.args.cuts.now (omega arith))
     (c.in_ok-take_data.ensures.forced c.args.net.now listed c.args.node (fan_out_of c.args.net.now c.args.node) c.requires.circuit same c.requires.cuts refl begun))

@@ -5,13 +5,15 @@ use Rattle.std.specs.Vec.{vec_len}
 use Rattle.std.proofs.lemmas.List.{length-set, length_push}
 use Rattle.std.proofs.lemmas.List.Elements.{All-nil, All-push}
 use Rattle.hz_net.specs.Network.{bit_at}
-use Rattle.hz_gmw.specs.Runs.{IsRepeatFree, is_listed, state_after, end_of}
+use Rattle.hz_lists.specs.Listed.{IsRepeatFree, is_listed}
+use Rattle.hz_gmw.specs.Runs.{state_after, end_of}
 use Rattle.hz_gmw.proofs.Flips.{length-state_after, state_after-none}
 use Rattle.hz_vcd.specs.declared.fault.VcdFault.TheVariants as fault
 use Rattle.hz_vcd.specs.Dump.{value_word, time_word}
 use Rattle.hz_vcd.specs.Reading.{Past, Changes, AreAt}
 use Rattle.hz_vcd.proofs.ReadingLaws.{past-none, past-past, past-fails}
-use Rattle.hz_vcd.proofs.StepLaws.{turn-wrong, turn-end, turn-change, turn-time, push-changed, out-listed, listed-out, at-push, push-once, before-step, empty-is, empty-not}
+use Rattle.hz_vcd.proofs.StepLaws.{turn-wrong, turn-end, turn-change, turn-time, push-changed, out-listed, listed-out, at-push, before-step, empty-is, empty-not}
+use Rattle.hz_lists.proofs.ListedLemmas.{is_repeat_free-push}
 use Rattle.hz_vcd.proofs.reading.read_step.Goals as goal
 
 pub loop-word-init : goal.loop-word-init
@@ -104,7 +106,7 @@ loop-word-preserved c =
       state = ap (λ (t : List Bool). set t var (not (get_or t var false))) c.loop-word.invariant.state ∙ sym (push-changed flips var s below out);
       times = at-push c.args.time c.loop-word.times flips var c.loop-word.invariant.times (omega (arith, below, c.loop-word.invariant.long));
       long = omega (arith, length-set c.loop-word.times var c.args.time, c.loop-word.invariant.long);
-      once = push-once flips var c.loop-word.invariant.once out;
+      once = is_repeat_free-push flips var c.loop-word.invariant.once out;
       inside = All-push (λ v. v < n) flips var c.loop-word.invariant.inside below;
       shorter = omega (arith, ap length c.in-Some.ensures.0, length_push flips var, c.loop-word.invariant.shorter);
       onward = omega (arith, c.in-Some.ensures.1, length_push flips var, c.loop-word.invariant.onward);

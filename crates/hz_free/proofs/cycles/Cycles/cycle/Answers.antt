@@ -1,6 +1,6 @@
 use Rattle.std.proofs.Common.{◌∙◌, ℕ, List, ap, sym, [], get_or, arith}
 use Rattle.std.proofs.lemmas.Option.{get_or_from_slice_get}
-use Rattle.hz_net.specs.Parts.{parts_from}
+use Rattle.hz_lists.specs.Parts.{parts_from}
 use Rattle.hz_free.proofs.CycleList.{held-cycles}
 use Rattle.hz_free.proofs.cycles.Cycles.cycle.Goals as goal
 

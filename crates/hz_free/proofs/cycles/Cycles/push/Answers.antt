@@ -1,5 +1,5 @@
 use Rattle.std.proofs.Common.{◌≡◌, ◌∙◌, ◌+◌, ℕ, List, [], ◌++◌, ◌∷◌, ap, arith, length, length-append}
-use Rattle.hz_net.proofs.PartLemmas.{EndsAt-push, parts_from-push}
+use Rattle.hz_lists.proofs.PartLemmas.{EndsAt-push, parts_from-push}
 use Rattle.hz_free.proofs.cycles.Cycles.push.Goals as goal
 
 pub invariant_of-self-2 : goal.invariant_of-self-2

@@ -1,6 +1,6 @@
 use Rattle.std.proofs.Common.{◌≡◌, ◌∙◌, ◌+◌, [], ◌++◌, ◌∷◌, ap, arith, length, length-append}
 use Rattle.hz_gmw.specs.RunRecord.{RunRecord}
-use Rattle.hz_net.proofs.PartLemmas.{EndsAt-push, parts_from-push}
+use Rattle.hz_lists.proofs.PartLemmas.{EndsAt-push, parts_from-push}
 use Rattle.hz_gmw.proofs.run.Run.push_step.Goals as goal
 
 pub invariant_of-self : goal.invariant_of-self

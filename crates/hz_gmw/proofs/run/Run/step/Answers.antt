@@ -1,6 +1,6 @@
 use Rattle.std.proofs.Common.{◌∙◌, ap, sym, [], get_or, arith}
 use Rattle.std.proofs.lemmas.Option.{get_or_from_slice_get}
-use Rattle.hz_net.specs.Parts.{parts_from}
+use Rattle.hz_lists.specs.Parts.{parts_from}
 use Rattle.hz_gmw.specs.RunRecord.{RunRecord}
 use Rattle.hz_gmw.proofs.RunLemmas.{held_steps}
 use Rattle.hz_gmw.proofs.run.Run.step.Goals as goal

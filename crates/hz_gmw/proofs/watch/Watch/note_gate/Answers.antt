@@ -9,14 +9,14 @@ returns-then-not-is_unstable-clause-been_stable c =
     let netlist = c.args.net.now in
     let current = c.args.current.now in
     let marks = c.args.self.now.been_stable in
-    let inside : c.in-Wire.gate < length marks = omega (arith, c.in-Wire.ensures.kind.3, c.requires.fits.been_stable) in
+    let inside : c.in-Wire.gate < length marks = omega (arith, c.in-Wire.ensures.kind.into_node, c.requires.fits.been_stable) in
     subst (RecordsStable (network_of netlist) current.input.items current.state.items (c.args.var ∷ []) marks) (sym c.insert.ensures)
-    (notes-stable netlist current.input.items current.state.items marks c.in-Wire.gate c.args.var c.requires.counted.fits.circuit c.in-Wire.ensures.kind.2 inside (sym c.is_unstable.ensures ∙ c.if-not-is_unstable.true))
+    (notes-stable netlist current.input.items current.state.items marks c.in-Wire.gate c.args.var c.requires.counted.fits.circuit c.in-Wire.ensures.kind.into inside (sym c.is_unstable.ensures ∙ c.if-not-is_unstable.true))
 
 pub returns-else-not-is_unstable-clause-been_stable : goal.returns-else-not-is_unstable-clause-been_stable
 returns-else-not-is_unstable-clause-been_stable c =
     let current = c.args.current.now in
-    notes-unstable c.args.net.now current.input.items current.state.items c.args.self.now.been_stable c.in-Wire.gate c.args.var c.requires.counted.fits.circuit c.in-Wire.ensures.kind.2 (sym c.is_unstable.ensures ∙ c.if-not-is_unstable.false)
+    notes-unstable c.args.net.now current.input.items current.state.items c.args.self.now.been_stable c.in-Wire.gate c.args.var c.requires.counted.fits.circuit c.in-Wire.ensures.kind.into (sym c.is_unstable.ensures ∙ c.if-not-is_unstable.false)
 
 pub returns-in_default : goal.returns-in_default
 returns-in_default c =

@@ -4,7 +4,7 @@ use Rattle.hz_net.specs.Variables.{fan_out_of}
 use Rattle.hz_net.specs.Inside.{HoldsNetwork}
 use Rattle.hz_net.specs.declared.net.Net.TheInside.{Inside}
 use Rattle.hz_net.proofs.Fields.{starts_counted, fan_out_is}
-use Rattle.hz_net.proofs.PartLemmas.{IsPart}
+use Rattle.hz_lists.proofs.PartLemmas.{IsPart}
 use Rattle.hz_net.proofs.net.Net.fan_out.Goals as goal
 
 pub index-start-requires : goal.index-start-requires

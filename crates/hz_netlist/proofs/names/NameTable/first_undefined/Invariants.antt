@@ -1,5 +1,5 @@
 use Rattle.std.proofs.Common.{◌≡◌, map, drop}
-use Rattle.hz_core.specs.Least.{option_min}
+use Rattle.hz_lists.specs.Least.{option_min}
 use Rattle.hz_netlist.specs.Names.{first_undefined}
 use Rattle.hz_netlist.specs.Table.{seen_of}
 use Rattle.hz_netlist.proofs.names.NameTable.first_undefined.Given as goal

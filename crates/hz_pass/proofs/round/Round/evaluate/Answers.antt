@@ -7,7 +7,7 @@ use Rattle.hz_pass.proofs.round.Round.evaluate.Goals as goal
 
 pub returns-then-is_final-clause-made : goal.returns-then-is_final-clause-made
 returns-then-is_final-clause-made g c =
-    made-final c.requires.state c.requires.var c.requires.falls c.requires.so_far
+    made-final c.requires.round.state c.requires.var c.requires.round.falls c.requires.so_far
     (not-true (is_open c.args.self.now.rule (value_at c.args.next.now c.args.var)) (sym (sym c.is_final.ensures ∙ c.if-is_final.true)))
 
 pub push_reserved-requires : goal.push_reserved-requires
@@ -15,7 +15,7 @@ push_reserved-requires g c =
     let round = c.args.self.now in
     let is = c.next-value.ensures ∙ ap (next_value round.rule (value_at round.state.now c.args.var)) c.excite3-excited.ensures.value in
     let differ = differ-by-test (value_at c.args.next.now c.args.var) c.next-value.result c.if-ne.ensures in
-    omega (arith, room-for-change c.requires.state c.requires.var c.requires.falls c.requires.so_far is differ, c.requires.room)
+    omega (arith, room-for-change c.requires.round.state c.requires.var c.requires.round.falls c.requires.so_far is differ, c.requires.room)
 
 pub returns-then-ne-clause-so_far : goal.returns-then-ne-clause-so_far
 returns-then-ne-clause-so_far g c =
@@ -25,11 +25,11 @@ returns-then-ne-clause-so_far g c =
     let differ = differ-by-test (value_at c.args.next.now c.args.var) c.next-value.result c.if-ne.ensures in
     subst (λ (list : List ℕ). IsRoundSoFar round.rule (network_of round.net.now) round.input.now round.state.now next list)
     (sym {A = List ℕ} c.push_reserved.ensures.items)
-    (round-more c.requires.state c.requires.var c.requires.falls c.requires.so_far is differ)
+    (round-more c.requires.round.state c.requires.var c.requires.round.falls c.requires.so_far is differ)
 
 pub returns-then-ne-clause-kept : goal.returns-then-ne-clause-kept
 returns-then-ne-clause-kept g c =
     let round = c.args.self.now in
     let is = c.next-value.ensures ∙ ap (next_value round.rule (value_at round.state.now c.args.var)) c.excite3-excited.ensures.value in
     let differ = differ-by-test (value_at c.args.next.now c.args.var) c.next-value.result c.if-ne.ensures in
-    made-still c.requires.state c.requires.var c.requires.falls c.requires.so_far is differ
+    made-still c.requires.round.state c.requires.var c.requires.round.falls c.requires.so_far is differ

@@ -1,14 +1,13 @@
 use Rattle.std.proofs.Common.{◌≡◌, ◌∙◌, ℕ, get_or, arith, inl, inr, subst}
 use Rattle.std.proofs.lemmas.Bool.{cases_lt}
 use Rattle.std.proofs.lemmas.List.{get_or_default}
-use Rattle.hz_net.specs.Network.{network_of}
-use Rattle.hz_pass.specs.Frontier.{IsMade}
+use Rattle.hz_pass.specs.InRound.{IsMadeIn}
 use Rattle.hz_pass.proofs.round.Round.evaluate_each.Goals as goal
 
 pub loop-var-preserved : goal.loop-var-preserved
 loop-var-preserved g c =
     let round = c.args.self.now in
-    let made : ℕ → Type 0 = IsMade round.rule (network_of round.net.now) round.input.now round.state.now c.evaluate.new.next in (
+    let made : ℕ → Type 0 = IsMadeIn round c.evaluate.new.next in (
       c.evaluate.ensures.so_far,
       λ k few. elim (cases_lt k c.loop-var.var-index) [
         | inl earlier ↦ c.evaluate.ensures.kept (get_or c.args.list.now k 0) (c.loop-var.invariant.1 k earlier)
@@ -23,5 +22,5 @@ loop-var-preserved g c =
 pub returns-clause-made : goal.returns-clause-made
 returns-clause-made g c =
     let round = c.args.self.now in
-    let made : ℕ → Type 0 = IsMade round.rule (network_of round.net.now) round.input.now round.state.now c.loop-var.next in
+    let made : ℕ → Type 0 = IsMadeIn round c.loop-var.next in
     λ k d few. subst made (get_or_default c.args.list.now k 0 d few) (c.loop-var.invariant.1 k (omega (arith, few)))

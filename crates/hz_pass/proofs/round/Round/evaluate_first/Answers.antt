@@ -1,14 +1,13 @@
 use Rattle.std.proofs.Common.{◌∙◌, ℕ, arith, inl, inr, subst}
 use Rattle.std.proofs.lemmas.Bool.{cases_lt}
-use Rattle.hz_net.specs.Network.{network_of}
-use Rattle.hz_pass.specs.Frontier.{IsMade}
+use Rattle.hz_pass.specs.InRound.{IsMadeIn}
 use Rattle.hz_pass.proofs.WholeRounds.{round-end}
 use Rattle.hz_pass.proofs.round.Round.evaluate_first.Goals as goal
 
 pub loop-var-preserved : goal.loop-var-preserved
 loop-var-preserved g c =
     let round = c.args.self.now in
-    let made : ℕ → Type 0 = IsMade round.rule (network_of round.net.now) round.input.now round.state.now c.evaluate.new.next in (
+    let made : ℕ → Type 0 = IsMadeIn round c.evaluate.new.next in (
       c.evaluate.ensures.so_far,
       λ k few. elim (cases_lt k c.loop-var.var) [
         | inl earlier ↦ c.evaluate.ensures.kept k (c.loop-var.invariant.1 k earlier)
@@ -22,7 +21,7 @@ loop-var-preserved g c =
 pub returns-clause-round : goal.returns-clause-round
 returns-clause-round g c =
     let so_far = c.loop-var.invariant.0 in
-    round-end c.requires.state so_far
+    round-end c.requires.round.state so_far
     (λ i inside. elim (cases_lt i c.args.count) [
       | inl earlier ↦ c.loop-var.invariant.1 i (omega (arith, earlier, c.loop-var-test.false))
       | inr late ↦ elim (so_far.either i) [

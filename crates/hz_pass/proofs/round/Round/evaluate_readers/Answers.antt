@@ -4,9 +4,9 @@ use Rattle.std.proofs.lemmas.Bool.{cases_lt}
 use Rattle.std.proofs.lemmas.List.{get_or_default}
 use Rattle.std.proofs.lemmas.List.Sums.{sum_by_more}
 use Rattle.std.proofs.lemmas.List.Elements.{All-contains}
-use Rattle.hz_net.specs.Network.{network_of}
 use Rattle.hz_net.specs.Reads.{readers_of}
-use Rattle.hz_pass.specs.Frontier.{IsMade, reader_count}
+use Rattle.hz_pass.specs.Frontier.{reader_count}
+use Rattle.hz_pass.specs.InRound.{IsMadeIn}
 use Rattle.hz_pass.proofs.WholeRounds.{round-end, made-by-readers}
 use Rattle.hz_pass.proofs.round.Round.evaluate_readers.Goals as goal
 
@@ -14,7 +14,7 @@ pub loop-source-preserved : goal.loop-source-preserved
 loop-source-preserved g c =
     let round = c.args.self.now in
     let netlist = round.net.now in
-    let made : ℕ → Type 0 = IsMade round.rule (network_of netlist) round.input.now round.state.now c.evaluate_each.new.next in
+    let made : ℕ → Type 0 = IsMadeIn round c.evaluate_each.new.next in
     let source = get_or c.args.due.now c.loop-source.source-index 0 in (
       c.evaluate_each.ensures.so_far,
       λ k reader few there. elim (cases_lt k c.loop-source.source-index) [
@@ -38,7 +38,7 @@ loop-source-preserved g c =
 
 pub returns-clause-round : goal.returns-clause-round
 returns-clause-round g c =
-    round-end c.requires.state c.loop-source.invariant.0
+    round-end c.requires.round.state c.loop-source.invariant.0
     (made-by-readers c.args.self.now.net.now c.requires.circuit c.args.due.now c.requires.quiet c.loop-source.invariant.0
     (λ source reader there reads.
     let at : source ≡ get_or c.args.due.now there.0 0 = sym there.2 ∙ get_or_default c.args.due.now there.0 source 0 there.1 in

@@ -1,8 +1,8 @@
 use Rattle.std.proofs.Common.{◌≡◌, [], ℕ, List, length, sym, subst, ap, arith}
 use Rattle.std.specs.Prelude.{slice_get, Some}
 use Rattle.std.proofs.lemmas.Option.{get_or_from_slice_get}
-use Rattle.hz_net.specs.Parts.{parts_from}
-use Rattle.hz_net.proofs.PartLemmas.{length-parts_from}
+use Rattle.hz_lists.specs.Parts.{parts_from}
+use Rattle.hz_lists.proofs.PartLemmas.{length-parts_from}
 use Rattle.hz_plane.proofs.lists.Lists.at.Goals as goal
 
 pub part_at-requires-clause-number : goal.part_at-requires-clause-number

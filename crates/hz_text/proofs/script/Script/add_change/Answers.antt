@@ -1,8 +1,8 @@
 use Rattle.std.proofs.Common.{◌≡◌, ◌<◌, ◌++◌, ◌∷◌, [], refl, ap, length, arith, length-append}
-use Rattle.hz_net.specs.Parts.{parts_from}
+use Rattle.hz_lists.specs.Parts.{parts_from}
 use Rattle.hz_text.specs.Inside.{script_of}
 use Rattle.hz_text.specs.ScriptValue.{IsChange}
-use Rattle.hz_net.proofs.PartLemmas.{EndsAt-push}
+use Rattle.hz_lists.proofs.PartLemmas.{EndsAt-push}
 use Rattle.hz_text.proofs.PartLemmas.{parts-grown}
 use Rattle.hz_text.proofs.ScriptLemmas.{IsScript-add}
 use Rattle.hz_text.proofs.script.Script.add_change.Goals as goal

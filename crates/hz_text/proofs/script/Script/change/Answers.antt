@@ -1,5 +1,5 @@
 use Rattle.std.proofs.Common.{arith}
-use Rattle.hz_net.proofs.PartLemmas.{length-parts_from}
+use Rattle.hz_lists.proofs.PartLemmas.{length-parts_from}
 use Rattle.hz_text.proofs.script.Script.change.Goals as goal
 
 pub part_at-requires-clause-number : goal.part_at-requires-clause-number

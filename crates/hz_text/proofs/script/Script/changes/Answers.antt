@@ -1,5 +1,5 @@
 use Rattle.std.proofs.Common.{arith}
-use Rattle.hz_net.proofs.PartLemmas.{length-parts_from}
+use Rattle.hz_lists.proofs.PartLemmas.{length-parts_from}
 use Rattle.hz_text.proofs.script.Script.changes.Goals as goal
 
 pub returns-clause-changes : goal.returns-clause-changes

@@ -1,7 +1,7 @@
 -- The least number for which something holds: of two properties, and of two numbers that may be there.
 use Rattle.std.proofs.Common.{◌≡◌, ℕ, ◌⊎◌, min, Option, Some, None, refl, sym, subst, arith, inl, inr}
 use Rattle.std.proofs.lemmas.Bool.{cases_lt}
-use Rattle.hz_core.specs.Least.{IsLeastOf, option_min}
+use Rattle.hz_lists.specs.Least.{IsLeastOf, option_min}
 
 -- the least of two properties that hold for the same numbers
 pub IsLeastOf-same : (P Q : ℕ → Type 0) (found : Option ℕ) → ((i : ℕ) → P i → Q i) → ((i : ℕ) → Q i → P i) → IsLeastOf P found → IsLeastOf Q found

@@ -4,7 +4,7 @@ use Rattle.std.specs.List.{slice_range}
 use Rattle.std.specs.Prelude.{sum_by, slice_get}
 use Rattle.std.proofs.lemmas.List.{take-append-le, drop-append-le, drop_at, take_all, ext_get_or, get_or-take, get_or-drop, length-drop, length-take}
 use Rattle.std.proofs.lemmas.List.Sums.{sum_by-cons}
-use Rattle.hz_net.specs.Parts.{parts_from, EndsAt, part_start}
+use Rattle.hz_lists.specs.Parts.{parts_from, EndsAt, part_start}
 
 -- a part of a list has as many elements as its places, if all of these are in the list
 pub length-part :

@@ -1,7 +1,7 @@
 //! Lists that are cut into parts, as many lists are laid into one. Where a part ends takes 32 bits.
 ghost use Rattle.std.specs.Prelude.{◌≡◌, ◌<◌, ◌≤◌, Some, length, slice_get};
 ghost use Rattle.std.specs.List.{slice_range};
-ghost use Rattle.hz_net.specs.Parts.{parts_from, part_start, EndsAt};
+ghost use Rattle.hz_lists.specs.Parts.{parts_from, part_start, EndsAt};
 
 /// The part with a number of a list that is cut at these ends. Parts are numbered from 0, and the first begins at 0.
 pub fn part_at<'a, T>(list: &'a [T], ends: &[u32], number: usize) -> &'a [T]
@@ -26,8 +26,8 @@ fn start_at(ends: &[u32], number: usize) -> usize
     }
 }
 
-// The part of a list from a start up to an end.
-pub(crate) fn part<T>(list: &[T], start: usize, end: usize) -> &[T]
+/// The part of a list from a start up to an end.
+pub fn part<T>(list: &[T], start: usize, end: usize) -> &[T]
     requires ordered { start ≤ end }
     requires inside { end ≤ length list.now }
     ensures { result.now ≡ slice_range list.now start end }

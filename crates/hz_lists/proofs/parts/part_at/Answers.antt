@@ -1,5 +1,5 @@
-use Rattle.hz_net.proofs.PartLemmas.{is_part, slice_get-parts}
-use Rattle.hz_net.proofs.parts.part_at.Goals as goal
+use Rattle.hz_lists.proofs.PartLemmas.{is_part, slice_get-parts}
+use Rattle.hz_lists.proofs.parts.part_at.Goals as goal
 
 pub part-requires-clause-ordered : goal.part-requires-clause-ordered
 part-requires-clause-ordered g c =
