@@ -5,8 +5,7 @@ use Rattle.hz_reach.proofs.Words.{range_with_len, cases_lt, both_ways, and_parts
 use Rattle.hz_reach.proofs.Words.{gate_value, Netlist, IsCircuit, IsGateNumber, gate_at, IsCandidate, IsPattern, length-Refines, Driver, External, Function}
 use Rattle.hz_reach.proofs.Words.{Source, network_of, driver_at, bit_at, value_at, first_wire, at_wires, IsUnknown, driver_at-gate, length-part}
 use Rattle.hz_reach.proofs.Words.{wired-network_of, state_after, RunRecord, key_at, IsInKeyOrder, with_step_if_any, Spends, HasRoomFor, ScratchState}
-use Rattle.hz_reach.proofs.Words.{changes_in, is_gate_in, changed_wires, turn_end, turn_steps, listed-at}
-use Rattle.hz_core.specs.Netlist.{IsGateAmong}
+use Rattle.hz_reach.proofs.Words.{changes_in, is_gate_in, changed_wires, turn_end, turn_steps, listed-at, IsGateAmong}
 use Rattle.hz_core.proofs.CircuitLemmas.{takes-from_bounds}
 use Rattle.hz_reach.proofs.FanOut.{marks-with-fan_out}
 use Rattle.hz_reach.proofs.FlipCounts.{flips_are_changes}

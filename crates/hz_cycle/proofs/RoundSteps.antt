@@ -4,9 +4,8 @@ use Rattle.hz_reach.proofs.Words.{cases_Bool, cases_lt, both_ways, and_parts, an
 use Rattle.hz_reach.proofs.Words.{Zero, One, Unknown, admits, is_below, AllBelow, Refines, length-Refines, get_or-Refines, Refines-get_or, get_or-AllBelow}
 use Rattle.hz_reach.proofs.Words.{Driver, driver_at, bit_at, value_at, excitation, IsUnstable, excitations, algorithm_b, IsKnown, IsUnknown, IsFirstRound}
 use Rattle.hz_reach.proofs.Words.{IsSettlingRound, admits-driver_value, at-excitations, length-algorithm_b, is_listed, IsRepeatFree, IsStep, IsRun}
-use Rattle.hz_reach.proofs.Words.{state_after, end_of, length-end_of, filtered_range, key_at, with_step_if_any, changes_in}
+use Rattle.hz_reach.proofs.Words.{state_after, end_of, length-end_of, filtered_range, key_at, with_step_if_any, changes_in, AllBelow-excitations}
 use Rattle.std.proofs.lemmas.Bool.{eqb-true, eq-eqb}
-use Rattle.hz_net.proofs.Excitations.{AllBelow-excitations}
 use Rattle.hz_reach.proofs.FilteredRangeLemmas.{filtered_range-is, is-filtered_range, filtered_range-once}
 use Rattle.hz_reach.proofs.GateTurn.{state_after-listed, state_after-unlisted, either-value}
 use Rattle.hz_reach.proofs.ListPlaces.{key-inside}

@@ -1,9 +1,9 @@
 -- The loops over settling rounds: that a mark may be set, that each step has room, and what holds after it.
 use Rattle.std.proofs.Common.{◌≡◌, ◌≢◌, ℕ, suc, ◌+◌, ◌-◌, ◌<◌, ◌≤◌, Bool, true, false, not, cond, List, [], ◌∷◌, ◌++◌, length, get_or, take, drop, sym, ap, ◌∙◌, subst, arith, inl, inr, append-nil, slice_range}
+use Rattle.std.proofs.lemmas.List.{get_or-drop, get_or-take, length-take, length-drop}
 use Rattle.hz_reach.proofs.Words.{cases_lt, not-true, not_from_false, filter-append, Tri, admits, Driver, bit_at, value_at, is_listed, state_after}
 use Rattle.hz_reach.proofs.Words.{RunRecord, length-state_after, key_at, IsEarlier, IsInKeyOrder, with_step_if_any, Spends, HasRoomFor, HasRoomForStep}
-use Rattle.hz_reach.proofs.Words.{ScratchState, listed-at, listed-place, Ascends, ascends-once, ascends-filter, filtered-is, is-filtered}
-use Rattle.std.proofs.lemmas.List.{get_or-drop, get_or-take, length-take, length-drop, take_more}
+use Rattle.hz_reach.proofs.Words.{ScratchState, listed-at, listed-place, Ascends, ascends-once, ascends-filter, filtered-is, is-filtered, take_more}
 use Rattle.hz_cycle.specs.Rounds.{differing_variables, IsOneRound, AreRoundsOf, AreRoundsMade}
 use Rattle.hz_reach.proofs.FlipCounts.{flips_per_variable}
 use Rattle.hz_reach.proofs.ListPlaces.{key-inside}

@@ -4,9 +4,7 @@ use Rattle.std.proofs.Common.{◌≡◌, ℕ, Bool, not, List, length, refl, sym
 use Rattle.hz_reach.proofs.Words.{Tri, admits, Refines, IsJoinOf, get_or-Refines, Driver, bit_at, value_at, network_of, algorithm_a, algorithm_b, AreRounds}
 use Rattle.hz_reach.proofs.Words.{AreSettlingRounds, IsRun, end_of, states_of, IsCut, cut-member, ResultOfAExists, ResultOfBExists, RanksExist}
 use Rattle.hz_reach.proofs.Words.{SettlingRoundsExist, SparingRunExists, Zero, One, Unknown, Netlist, IsCircuit, IsStableStart, wired-network_of}
-use Rattle.hz_reach.proofs.Words.{IsSparingRun}
-use Rattle.hz_gmw.specs.Cycles.{IsOutcome}
-use Rattle.hz_gmw.proofs.Paths.{IsRun-front}
+use Rattle.hz_reach.proofs.Words.{IsSparingRun, IsOutcome, IsRun-front}
 use Rattle.hz_reach.proofs.Exact.{joins-by}
 use Rattle.hz_reach.proofs.RanksOrderGates.{turns-of}
 use Rattle.hz_cycle.specs.Exact.{RunsShowB, HasSettleRunAndCycle, SettleRunsExist, BIsExact, OutcomesExist}

@@ -3,8 +3,7 @@ use Rattle.std.proofs.Common.{◌≡◌, ◌≢◌, ℕ, ◌+◌, ◌-◌, ◌*�
 use Rattle.hz_reach.proofs.Words.{range_with_len, cases_lt, cases_eq, get_or_past, sum_by-cons, Tri, Zero, One, Unknown, Refines, Netlist, IsCircuit}
 use Rattle.hz_reach.proofs.Words.{Driver, Source, network_of, driver_at, bit_at, value_at, driver_value, excitation, algorithm_b, IsKnown, IsUnknown}
 use Rattle.hz_reach.proofs.Words.{IsSettlingRound, AreSettlingRounds, IsStableStart, IsRun, end_of, RunRecord, flip_count, end_of-append, IsRun-append}
-use Rattle.hz_reach.proofs.Words.{key_at, IsEarlier, Spends, HasRoomFor, IsWireInto, IsWired, changes_in, IsSparingRun, wired-network_of}
-use Rattle.hz_net.proofs.Sequences.{start-refines}
+use Rattle.hz_reach.proofs.Words.{key_at, IsEarlier, Spends, HasRoomFor, IsWireInto, IsWired, changes_in, IsSparingRun, wired-network_of, start-refines}
 use Rattle.hz_reach.proofs.FlipCounts.{flips_are_changes, flips_per_variable, flips_per_unknown, ends_by_changes}
 use Rattle.hz_reach.proofs.GateTurn.{not-itself, driver-inside}
 use Rattle.hz_reach.proofs.Order.{earlier-or-not}

@@ -5,8 +5,7 @@ use Rattle.hz_reach.proofs.Words.{cases_lt, false_from_ne_true, get_or_past, get
 use Rattle.hz_reach.proofs.Words.{AllBelow, Refines, extension, IsCandidate, length-Refines, get_or-Refines, Refines-get_or, Driver, External, Function}
 use Rattle.hz_reach.proofs.Words.{Source, driver_at, bit_at, value_at, driver_value3, excitation, excitations, algorithm_b, IsKnown, IsUnknown, AreRounds}
 use Rattle.hz_reach.proofs.Words.{admits-driver_value, at-excitations, length-part, length-algorithm_b, AllBelow-algorithm_b, is_listed, state_after}
-use Rattle.hz_reach.proofs.Words.{end_of, length-end_of, changes_in, IsWired, is_gate_in}
-use Rattle.hz_core.proofs.Refinements.{Refines-slice_range, AllBelow-same, AllBelow-through}
+use Rattle.hz_reach.proofs.Words.{end_of, length-end_of, changes_in, IsWired, is_gate_in, Refines-slice_range, AllBelow-same, AllBelow-through}
 use Rattle.hz_core.proofs.Patterns.{candidate-extension}
 use Rattle.hz_reach.proofs.FlipCounts.{changes-more}
 use Rattle.hz_cycle.proofs.StepLemmas.{listed-none, unchanged-end}

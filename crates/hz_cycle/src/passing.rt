@@ -66,7 +66,8 @@ fn turn_unsettled(net: &Net, b: &[Tri], gate: u32, scratch: &mut Scratch, run: &
     requires gate { IsGateNumber net.now gate }
     requires possible { CanTurn net.now gate (unsettled_pins net.now b.now gate) scratch.old.state }
     requires scratch { IsScratchFor net.now scratch.old }
-    requires room { HasRoomForTurn net.now gate (unsettled_pins net.now b.now gate) true scratch.old.state run.old }
+    requires room { HasRoomForTurn net.now gate (unsettled_pins net.now b.now gate) true
+        scratch.old.state run.old }
     ensures turn { IsTurn net.now gate (unsettled_pins net.now b.now gate) true
         scratch.old.state scratch.new.state run.old.steps run.new.steps }
     ensures marked { scratch.new.marked ≡ [] }

@@ -79,7 +79,8 @@ pub fn settle_run(
 pub fn settle_from(change: &Change, results: &Results, scratch: &mut Scratch, run: &mut Run)
     requires change { AreResultsOfBoth change.now.net.now change.now.start.now change.now.input.now
         results.now.a.now results.now.ranks.now results.now.b.now results.now.when.now }
-    requires begun { IsSparingRun (network_of change.now.net.now) change.now.input.now change.now.start.now
+    requires begun { IsSparingRun (network_of change.now.net.now)
+        change.now.input.now change.now.start.now
         results.now.a.now results.now.ranks.now run.old.steps }
     requires state { scratch.old.state ≡ end_of change.now.start.now run.old.steps }
     requires none_marked { scratch.old.marked ≡ [] }
@@ -88,10 +89,11 @@ pub fn settle_from(change: &Change, results: &Results, scratch: &mut Scratch, ru
         run.old.spare_flips + flip_count run.old.steps }
     requires room_for_steps { 2 * length (network_of change.now.net.now) ≤
         run.old.spare_steps + length run.old.steps }
-    ensures run { IsSettleRun (network_of change.now.net.now) change.now.input.now change.now.start.now
+    ensures run { IsSettleRun (network_of change.now.net.now)
+        change.now.input.now change.now.start.now
         results.now.a.now results.now.b.now run.new.steps }
-    ensures turned { IsTurned (network_of change.now.net.now) results.now.ranks.now results.now.b.now
-        scratch.new.state }
+    ensures turned { IsTurned (network_of change.now.net.now)
+        results.now.ranks.now results.now.b.now scratch.new.state }
     ensures state { scratch.new.state ≡ end_of change.now.start.now run.new.steps }
     ensures marked { scratch.new.marked ≡ [] }
     ensures sorted { IsInKeyOrder results.now.ranks.now scratch.new.sorted }

@@ -3,9 +3,8 @@ use Rattle.std.proofs.Common.{◌≡◌, ◌≢◌, ℕ, ◌+◌, ◌*◌, ◌<�
 use Rattle.hz_reach.proofs.Words.{range_with_len, cases_eq, sum_by-cons, sum_by-le-sum_by, length-map, get_or-map, length-range_with_len}
 use Rattle.hz_reach.proofs.Words.{length-map-range_with_len, get_or-map-range_with_len, Tri, Zero, One, Unknown, is_unknown, unknown_count, bit_at}
 use Rattle.hz_reach.proofs.Words.{value_at, IsKnown, IsUnknown, is_listed, IsRepeatFree, state_after, length-state_after, at-state_after, changes_in}
-use Rattle.hz_reach.proofs.Words.{listed-at}
+use Rattle.hz_reach.proofs.Words.{listed-at, sum_by-le, sum-map}
 use Rattle.std.proofs.lemmas.Bool.{ne_eqb, eq-eqb}
-use Rattle.std.proofs.lemmas.List.Sums.{sum_by-le, sum-map}
 use Rattle.std.proofs.lemmas.List.{ext_get_or}
 use Rattle.std.proofs.lemmas.Grind.{get_or_default_zero}
 use Rattle.std.proofs.Math.Bool.{not-not}

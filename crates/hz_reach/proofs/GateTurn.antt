@@ -4,10 +4,9 @@ use Rattle.hz_reach.proofs.Words.{cases_lt, both_ways, false_from_ne_true, get_o
 use Rattle.hz_reach.proofs.Words.{excitation, network_of, IsUnstable, length-part, at-part, Kind, gate_value, Netlist, IsCircuit, IsGateNumber, differs}
 use Rattle.hz_reach.proofs.Words.{IsCandidate, length-network_of, driver_at-input, driver_at-gate, driver_at-wire, IsWireInto, IsWired, is_listed}
 use Rattle.hz_reach.proofs.Words.{IsRepeatFree, IsStep, IsRun, state_after, end_of, length-state_after, at-state_after, with_step_if_any, is_gate_in}
-use Rattle.hz_reach.proofs.Words.{changed_wires, Tri, Zero, One, Unknown, is_unknown, IsKnown, IsUnknown}
+use Rattle.hz_reach.proofs.Words.{changed_wires, Tri, Zero, One, Unknown, is_unknown, IsKnown, IsUnknown, is_gate_of}
 use Rattle.std.proofs.lemmas.List.{ext_get_or}
 use Rattle.hz_core.proofs.Patterns.{free-changed}
-use Rattle.hz_net.proofs.Wired.{is_gate_of}
 use Rattle.hz_reach.proofs.FilteredRangeLemmas.{filtered_range-is, is-filtered_range, filtered_range-once, differs-true, true-differs, only-one, is-one}
 use Rattle.hz_reach.proofs.Room.{end_of-after, run-after}
 

@@ -5,10 +5,8 @@ use Rattle.std.proofs.Common.{IsTrue, slice_range}
 use Rattle.hz_reach.proofs.Words.{Tri, Kind, gate_value, Driver, External, Function, Source, driver_at, bit_at, value_at, driver_value, driver_value3}
 use Rattle.hz_reach.proofs.Words.{IsStable, network_of, IsWired, IsWireInto, IsUnknown, algorithm_a, AreRounds, IsFirstRound, IsResult, IsRank, AreRanks}
 use Rattle.hz_reach.proofs.Words.{IsStableStart, AreResultsOfA, key_at, cases_lt, get_or_past, Zero, One, Unknown, Netlist, IsCircuit, tri_of, admits}
-use Rattle.hz_reach.proofs.Words.{IsJoinOf, extension, length-Refines, get_or-Refines, wired-network_of, length-part, at-part, length-algorithm_a}
-use Rattle.hz_core.specs.Ternary.{join_of}
-use Rattle.hz_core.specs.Extension.{IsValueOver}
-use Rattle.hz_core.proofs.Refinements.{known-admits}
+use Rattle.hz_reach.proofs.Words.{IsJoinOf, extension, length-Refines, get_or-Refines, wired-network_of, length-part, at-part, length-algorithm_a, join_of}
+use Rattle.hz_reach.proofs.Words.{IsValueOver, known-admits}
 use Rattle.hz_core.proofs.Extensions.{IsExtension-extension}
 use Rattle.hz_net.proofs.Ranks.{unknown-later, unknown-or-start, one-round, at-tri_of, turns-before-rank}
 use Rattle.hz_reach.proofs.GateTurn.{driver-inside, not-itself}

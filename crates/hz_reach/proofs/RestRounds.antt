@@ -3,9 +3,8 @@ use Rattle.std.proofs.Common.{◌≡◌, ◌≢◌, ℕ, zero, suc, ◌+◌, ◌
 use Rattle.hz_reach.proofs.Words.{range_with_len, cases_eq, length-map-range_with_len, get_or-map-range_with_len, Tri, Zero, One, Unknown, unknown_count}
 use Rattle.hz_reach.proofs.Words.{AllBelow, Driver, value_at, excitations, algorithm_a, algorithm_b, IsKnown, IsUnknown, AreRounds, IsResult, IsFirstRound}
 use Rattle.hz_reach.proofs.Words.{IsRank, AreRanks, IsSettlingRound, length-algorithm_a, AllBelow-closed, closed-result, AllBelow-algorithm_b}
-use Rattle.hz_reach.proofs.Words.{ResultOfAExists, ResultOfBExists, RanksExist, SettlingRoundsExist}
-use Rattle.hz_net.proofs.Sequences.{unknown_count-le-length, same-or-more, AllBelow-algorithm_a}
-use Rattle.hz_reach.specs.Existence.{RoundsOfAAreFew, RoundsOfBAreFew}
+use Rattle.hz_reach.proofs.Words.{ResultOfAExists, ResultOfBExists, RanksExist, SettlingRoundsExist, unknown_count-le-length, same-or-more}
+use Rattle.hz_reach.proofs.Words.{AllBelow-algorithm_a, RoundsOfAAreFew, RoundsOfBAreFew}
 use Rattle.hz_reach.proofs.GateTurn.{either-value}
 
 -- Rounds

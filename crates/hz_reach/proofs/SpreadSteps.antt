@@ -6,9 +6,7 @@ use Rattle.hz_reach.proofs.Words.{driver_at, network_of, bit_at, value_at, drive
 use Rattle.hz_reach.proofs.Words.{driver_at-gate, driver_at-wire, is_listed, IsRepeatFree, IsRun, state_after, end_of, RunRecord, flip_count, AreResultsOfA}
 use Rattle.hz_reach.proofs.Words.{key_at, IsInKeyOrder, with_step_if_any, Spends, HasRoomFor, HasRoomForStep, ScratchState, IsSpreadRun, IsSparingRun}
 use Rattle.hz_reach.proofs.Words.{is_gate_in, changed_inputs, AreTurnWires, IsTurn, listed-cases, listed-left, listed-right, is_repeat_free-append}
-use Rattle.hz_reach.proofs.Words.{listed-at}
-use Rattle.hz_reach.specs.Given.{IsEmptyRun}
-use Rattle.hz_reach.specs.Turn.{earlier_pins, unchanged_wires}
+use Rattle.hz_reach.proofs.Words.{listed-at, IsEmptyRun, earlier_pins, unchanged_wires}
 use Rattle.hz_net.proofs.Wires.{IsWireFrom-driver_at}
 use Rattle.hz_reach.proofs.FilteredRangeLemmas.{filtered_range-is, is-filtered_range, filtered_range-once, differs-true, true-differs}
 use Rattle.hz_reach.proofs.RanksOrderGates.{IsChangedAfter, AreTurns, turns-of}

@@ -2,8 +2,7 @@
 use Rattle.std.proofs.Common.{◌≡◌, ◌≢◌, ℕ, ◌+◌, ◌<◌, ◌≤◌, Bool, true, false, not, List, [], ◌++◌, length, get_or, sym, ap, ◌∙◌, subst, arith}
 use Rattle.hz_reach.proofs.Words.{Netlist, IsCircuit, IsGateNumber, gate_at, IsCandidate, IsPattern, bit_at, network_of, first_wire, at_wires, IsRun}
 use Rattle.hz_reach.proofs.Words.{state_after, RunRecord, flip_count, IsInKeyOrder, with_step_if_any, Spends, HasRoomFor, ScratchState, AreTurnWires}
-use Rattle.hz_reach.proofs.Words.{changed_wires, turn_flips, turn_end, turn_steps, IsTurn, listed-at}
-use Rattle.hz_reach.specs.Turn.{CanTurn, HasRoomForTurn}
+use Rattle.hz_reach.proofs.Words.{changed_wires, turn_flips, turn_end, turn_steps, IsTurn, listed-at, CanTurn, HasRoomForTurn}
 use Rattle.hz_reach.proofs.ListPlaces.{key-inside}
 use Rattle.hz_reach.proofs.Order.{had_before, also, IsNext, place-next, turn-comes, none-comes, none-yet}
 use Rattle.hz_reach.proofs.Room.{steps-after, spends-more, flips-after, room-left}

@@ -73,7 +73,8 @@ pub fn spread_in_order(
     scratch: &mut Scratch,
     run: &mut Run,
 )
-    requires change { AreResultsOfA change.now.net.now change.now.start.now change.now.input.now a.now rank.now }
+    requires change { AreResultsOfA change.now.net.now change.now.start.now change.now.input.now
+        a.now rank.now }
     requires scratch { IsScratchFor change.now.net.now scratch.old }
     requires sorted { IsInKeyOrder rank.now scratch.old.sorted }
     requires run { IsEmptyRun (length (network_of change.now.net.now)) run.old }
@@ -105,13 +106,15 @@ pub fn sparing_in_order(
     scratch: &mut Scratch,
     run: &mut Run,
 )
-    requires change { AreResultsOfA change.now.net.now change.now.start.now change.now.input.now a.now rank.now }
+    requires change { AreResultsOfA change.now.net.now change.now.start.now change.now.input.now
+        a.now rank.now }
     requires scratch { IsScratchFor change.now.net.now scratch.old }
     requires sorted { IsInKeyOrder rank.now scratch.old.sorted }
     requires run { IsEmptyRun (length (network_of change.now.net.now)) run.old }
-    ensures sparing { IsSparingRun (network_of change.now.net.now) change.now.input.now change.now.start.now
-        a.now rank.now run.new.steps }
-    ensures whole { IsSpreadRun (network_of change.now.net.now) change.now.input.now change.now.start.now a.now
+    ensures sparing { IsSparingRun (network_of change.now.net.now)
+        change.now.input.now change.now.start.now a.now rank.now run.new.steps }
+    ensures whole { IsSpreadRun (network_of change.now.net.now)
+        change.now.input.now change.now.start.now a.now
         (with_step_if_any run.new.steps
         (unchanged_wires change.now.net.now a.now change.now.start.now scratch.new.state)) }
     ensures room_for_unused { HasRoomForStep
@@ -140,7 +143,8 @@ pub fn add_unused(net: &Net, start: &[bool], a: &[Tri], scratch: &mut Scratch, r
     requires start { IsState net.now start.now }
     requires a { IsState net.now a.now }
     requires scratch { IsScratchFor net.now scratch.old }
-    requires room { HasRoomForStep (unchanged_wires net.now a.now start.now scratch.old.state) run.old }
+    requires room { HasRoomForStep
+        (unchanged_wires net.now a.now start.now scratch.old.state) run.old }
     ensures steps { run.new.steps ≡
         with_step_if_any run.old.steps (unchanged_wires net.now a.now start.now scratch.old.state) }
     ensures room { Spends run.old run.new }
@@ -174,7 +178,8 @@ fn turn_by_rank(net: &Net, rank: &[u32], gate: u32, scratch: &mut Scratch, run: 
     requires gate { IsGateNumber net.now gate }
     requires possible { CanTurn net.now gate (earlier_pins net.now rank.now gate) scratch.old.state }
     requires scratch { IsScratchFor net.now scratch.old }
-    requires room { HasRoomForTurn net.now gate (earlier_pins net.now rank.now gate) false scratch.old.state run.old }
+    requires room { HasRoomForTurn net.now gate (earlier_pins net.now rank.now gate) false
+        scratch.old.state run.old }
     ensures turn { IsTurn net.now gate (earlier_pins net.now rank.now gate) false
         scratch.old.state scratch.new.state run.old.steps run.new.steps }
     ensures marked { scratch.new.marked ≡ [] }
@@ -208,7 +213,8 @@ fn mark_unchanged(net: &Net, start: &[bool], a: &[Tri], scratch: &mut Scratch)
     requires start { IsState net.now start.now }
     requires a { IsState net.now a.now }
     requires scratch { IsScratchFor net.now scratch.old }
-    ensures marked { scratch.new.marked ≡ unchanged_wires net.now a.now start.now scratch.old.state }
+    ensures marked { scratch.new.marked ≡
+        unchanged_wires net.now a.now start.now scratch.old.state }
     ensures state { scratch.new.state ≡ scratch.old.state }
     ensures sorted { scratch.new.sorted ≡ scratch.old.sorted }
     ensures by_round { scratch.new.by_round ≡ scratch.old.by_round }

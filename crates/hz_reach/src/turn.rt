@@ -89,7 +89,8 @@ fn mark_changed(first: u32, pattern: &[bool], scratch: &mut Scratch)
     requires few { length scratch.old.state ≤ most_variables }
     requires none_marked { scratch.old.marked ≡ [] }
     ensures marked { scratch.new.marked ≡
-        changed_wires first (slice_range scratch.old.state first (first + length pattern.now)) pattern.now }
+        changed_wires first
+        (slice_range scratch.old.state first (first + length pattern.now)) pattern.now }
     ensures state { scratch.new.state ≡ scratch.old.state }
     ensures sorted { scratch.new.sorted ≡ scratch.old.sorted }
 {
