@@ -1,17 +1,11 @@
 -- What the results of both algorithms and the ranks say of one change.
 use Rattle.std.proofs.Common.{◌≡◌, ◌≢◌, ℕ, zero, suc, Bool, List, length, refl, sym, ap, ◌∙◌, subst, IsTrue}
-use Rattle.hz_core.specs.declared.tri.Tri.{Tri}
-use Rattle.hz_core.specs.declared.tri.Tri.TheVariants.{Zero, One, Unknown}
-use Rattle.hz_core.specs.Ternary.{is_below, AllBelow}
-use Rattle.hz_core.specs.Netlist.{Netlist, IsCircuit}
-use Rattle.hz_core.proofs.Refinements.{get_or-AllBelow, AllBelow-same, AllBelow-through}
-use Rattle.hz_net.specs.Network.{Driver, network_of, value_at}
-use Rattle.hz_net.specs.Passes.{excitations, algorithm_a, algorithm_b, IsUnknown, IsResult}
-use Rattle.hz_net.proofs.Sequences.{length-algorithm_b, AllBelow-closed, closed-result, AllBelow-algorithm_b}
+use Rattle.hz_reach.proofs.Words.{Tri, Zero, One, Unknown, is_below, AllBelow, Netlist, IsCircuit, get_or-AllBelow, Driver, network_of, value_at}
+use Rattle.hz_reach.proofs.Words.{excitations, algorithm_a, algorithm_b, IsUnknown, IsResult, length-algorithm_b, AllBelow-closed, closed-result}
 use Rattle.hz_reach.proofs.RanksOrderGates.{AreTurns, turns-of, a-long}
 use Rattle.hz_cycle.specs.Pass.{IsFixed, AreFixedAndRanked}
 use Rattle.hz_cycle.specs.Cycles.{ComeFromAChange, AreResultsOfBoth}
-use Rattle.hz_cycle.proofs.SettledVariables.{fixed-result}
+use Rattle.hz_cycle.proofs.SettledVariables.{below-first, fixed-result}
 
 -- a value above X is X
 above-unknown : (value : Tri) → IsTrue (is_below Unknown value) → value ≡ Unknown
@@ -32,11 +26,6 @@ module _ {net : List Driver} {input start : List Bool} {a b : List Tri} {ranks :
       subst (λ (values : List Tri). AllBelow (excitations net input values) values) (sym change.a_result.2)
       (AllBelow-closed net input (algorithm_a net input start change.a_result.0) (closed-result net input start change.a_result.0 change.turns.long change.a_result.1))
 
-  -- each of its states lies below it
-  b-below : (round : ℕ) → AllBelow (algorithm_b net input a round) a
-  b-below zero = AllBelow-same a
-  b-below (suc round) = AllBelow-through (algorithm_b net input a (suc round)) (algorithm_b net input a round) a (AllBelow-algorithm_b net input a a-above round) (b-below round)
-
   pub change-fixed : IsFixed net input b
   change-fixed = subst (IsFixed net input) (sym change.b_result.2) (fixed-result net input a change.b_result.0 change.turns.long_a change.b_result.1)
 
@@ -45,7 +34,7 @@ module _ {net : List Driver} {input start : List Bool} {a b : List Tri} {ranks :
   unsettled-unknown i unknown =
       above-unknown (value_at a i)
       (subst (λ (value : Tri). IsTrue (is_below value (value_at a i))) (ap (λ (values : List Tri). value_at values i) (sym change.b_result.2) ∙ unknown)
-      (get_or-AllBelow (algorithm_b net input a change.b_result.0) a (b-below change.b_result.0) i))
+      (get_or-AllBelow (algorithm_b net input a change.b_result.0) a (below-first net input a a-above change.b_result.0) i))
 
   -- so it has a rank
   pub fixed-and-ranked : AreFixedAndRanked net ranks b

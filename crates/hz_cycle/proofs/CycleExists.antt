@@ -1,31 +1,18 @@
 -- Two passes from a turned state lead back to it, and are the cycle of the change; and the room that they take.
-use Rattle.std.proofs.Common.{◌≡◌, ℕ, zero, suc, ◌*◌, ◌≤◌, Bool, true, false, not, List, [], ◌∷◌, ◌++◌, refl, sym, ap, ◌∙◌, subst, arith, inl, inr, Contains, IsTrue, ◌+◌, length}
-use Rattle.std.specs.List.{AllByRecursion, range_with_len}
-use Rattle.hz_core.specs.declared.tri.Tri.{Tri}
-use Rattle.hz_core.specs.Ternary.{admits, unknown_count, Refines}
-use Rattle.hz_core.proofs.Refinements.{length-Refines, get_or-Refines, Refines-get_or}
-use Rattle.hz_net.specs.Network.{Driver, External, Function, Source, driver_at, bit_at, value_at, IsUnstable}
-use Rattle.hz_net.specs.Passes.{IsKnown, IsUnknown}
-use Rattle.hz_gmw.specs.Runs.{state_after, IsRun, end_of}
-use Rattle.hz_gmw.specs.RunRecord.{flip_count, RunRecord}
-use Rattle.hz_gmw.specs.Cycles.{states_of}
-use Rattle.hz_gmw.proofs.CoverB.{length-end_of}
-use Rattle.hz_gmw.proofs.Paths.{end_of-append, IsRun-append, IsCut, cut-member}
+use Rattle.std.proofs.Common.{◌≡◌, ℕ, zero, suc, ◌*◌, ◌≤◌, Bool, true, false, not, List, [], ◌∷◌, ◌++◌, refl, sym, ap, ◌∙◌, subst, arith, inl, inr, Contains, IsTrue, ◌+◌, length, sum_by}
+use Rattle.hz_reach.proofs.Words.{AllByRecursion, range_with_len, Tri, admits, unknown_count, Refines, length-Refines, get_or-Refines, Refines-get_or}
+use Rattle.hz_reach.proofs.Words.{Driver, External, Function, Source, driver_at, bit_at, value_at, IsUnstable, IsKnown, IsUnknown, state_after, IsRun}
+use Rattle.hz_reach.proofs.Words.{end_of, flip_count, RunRecord, states_of, length-end_of, end_of-append, IsRun-append, IsCut, cut-member, IsWired}
+use Rattle.hz_reach.proofs.Words.{changes_in, sum_by-cons, Spends, HasRoomFor, nil_from_length}
 use Rattle.hz_reach.proofs.FlipCounts.{flips_per_unknown, steps_below_flips, flips_per_variable}
 use Rattle.std.proofs.Math.Bool.{not-not}
-use Rattle.hz_net.specs.Reads.{IsWired}
-use Rattle.hz_reach.specs.Spread.{changes_in}
 use Rattle.hz_cycle.specs.Cycles.{IsCycleOf}
 use Rattle.hz_cycle.specs.Pass.{IsFixed, AreEnough, IsPass, HasRoom}
 use Rattle.hz_cycle.specs.Turned.{IsTurned}
 use Rattle.hz_cycle.proofs.SettledVariables.{refines-unchanged, known-stable, no-input, wire-source, source-gate}
 use Rattle.hz_cycle.proofs.StepLemmas.{changes-append, unchanged-end, contains-end, contains-front, contains-begin}
 use Rattle.hz_reach.proofs.GateTurn.{same-or-differ, other-bit, not-itself, either-value}
-use Rattle.std.proofs.lemmas.List.{nil_from_length}
 use Rattle.hz_cycle.proofs.TurnedStates.{same-turned}
-use Rattle.std.specs.Prelude.{sum_by}
-use Rattle.std.proofs.lemmas.List.Sums.{sum_by-cons}
-use Rattle.hz_reach.specs.Room.{Spends, HasRoomFor}
 use Rattle.hz_reach.proofs.Room.{room-left}
 
 -- two changes are enough for each variable

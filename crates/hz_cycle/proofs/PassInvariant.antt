@@ -1,14 +1,7 @@
 -- What holds inside a pass, before and after each gate's turn.
-use Rattle.std.proofs.Common.{◌≡◌, ◌≢◌, ℕ, ◌+◌, ◌<◌, ◌⊎◌, Bool, true, false, not, cond, List, length, map}
-use Rattle.std.specs.Prelude.{slice_range}
-use Rattle.hz_core.specs.declared.tri.Tri.{Tri}
-use Rattle.hz_core.specs.declared.kind.Kind.{Kind}
-use Rattle.hz_core.specs.Ternary.{is_unknown, Refines}
-use Rattle.hz_core.specs.Pattern.{IsPattern}
-use Rattle.hz_net.specs.Network.{Driver, Function, Source, driver_at, bit_at, value_at}
-use Rattle.hz_net.specs.Passes.{IsKnown, IsUnknown}
-use Rattle.hz_reach.specs.Order.{IsEarlier}
-use Rattle.hz_net.specs.Reads.{IsWireInto}
+use Rattle.std.proofs.Common.{◌≡◌, ◌≢◌, ℕ, ◌+◌, ◌<◌, ◌⊎◌, Bool, true, false, not, cond, List, length, map, slice_range}
+use Rattle.hz_reach.proofs.Words.{Tri, Kind, is_unknown, Refines, IsPattern, Driver, Function, Source, driver_at, bit_at, value_at, IsKnown, IsUnknown}
+use Rattle.hz_reach.proofs.Words.{IsEarlier, IsWireInto}
 
 -- What the pins of a gate that has had its turn show: a settled pin the bit of its wire; an unsettled pin its source's bit
 -- if the source is not earlier and has had its turn, else the complement of its source's bit.

@@ -1,21 +1,10 @@
 -- A pass while it is made: its steps so far are a run, how often each variable has changed in it, and which bits the wires
 -- of gates that have had their turn have shown; and that it ends as a pass.
 use Rattle.std.proofs.Common.{◌≡◌, ◌≢◌, ℕ, ◌+◌, ◌≤◌, Bool, true, false, not, cond, List, map, sym, ap, ◌∙◌, subst, arith, inl, inr, Contains, refl, []}
-use Rattle.std.specs.Prelude.{slice_range}
-use Rattle.std.proofs.lemmas.Bool.{cases_eq, false_from_ne_true}
-use Rattle.hz_core.specs.declared.tri.Tri.{Tri}
-use Rattle.hz_core.specs.declared.kind.Kind.{Kind}
-use Rattle.hz_core.specs.Ternary.{is_unknown}
-use Rattle.hz_core.specs.Pattern.{IsPattern}
-use Rattle.hz_net.specs.Network.{Driver, Function, Source, driver_at, bit_at, value_at, External}
-use Rattle.hz_net.specs.Passes.{IsKnown, IsUnknown}
-use Rattle.hz_lists.specs.Listed.{is_listed}
-use Rattle.hz_gmw.specs.Runs.{IsRun, state_after, end_of}
-use Rattle.hz_gmw.specs.Cycles.{states_of}
-use Rattle.hz_reach.specs.Order.{IsEarlier}
-use Rattle.hz_reach.specs.Room.{with_step_if_any}
-use Rattle.hz_net.specs.Reads.{IsWireInto, IsWired}
-use Rattle.hz_reach.specs.Spread.{changes_in}
+use Rattle.std.proofs.Common.{slice_range}
+use Rattle.hz_reach.proofs.Words.{cases_eq, false_from_ne_true, Tri, Kind, is_unknown, IsPattern, Driver, Function, Source, driver_at, bit_at, value_at}
+use Rattle.hz_reach.proofs.Words.{External, IsKnown, IsUnknown, is_listed, IsRun, state_after, end_of, states_of, IsEarlier, with_step_if_any, IsWireInto}
+use Rattle.hz_reach.proofs.Words.{IsWired, changes_in}
 use Rattle.hz_reach.proofs.Order.{not-earlier, not-both, also, also-itself, also-other, earlier-or-not}
 use Rattle.hz_reach.proofs.GateTurn.{turn_wires, turn_middle, IsFunction, IsTurnPin, IsWithFanOut, pin-into, pin-from, listed-pin, kept-other, gate-kept, turn-run, turn-end, same-or-differ, same-source, either-value}
 use Rattle.hz_cycle.specs.Pass.{MayBegin, IsFixed, AreEnough, IsPass}

@@ -1,32 +1,12 @@
 -- The turns of a pass: what holds after so many variables of the order, that each turn has room and keeps it, and that there is
 -- a pass wherever one may begin.
-use Rattle.std.proofs.Common.{◌≡◌, ◌≢◌, ℕ, ◌+◌, ◌-◌, ◌<◌, ◌≤◌, Bool, true, false, not, List, [], ◌∷◌, length, get_or, refl, sym, ap, ◌∙◌, subst, arith, inl, inr, append-nil, IsTrue}
-use Rattle.std.specs.List.{range_with_len}
-use Rattle.std.specs.Prelude.{sum_by}
-use Rattle.std.proofs.lemmas.Bool.{cases_lt, both_ways, and_parts, and_from}
-use Rattle.std.proofs.lemmas.List.{length-map}
-use Rattle.std.proofs.lemmas.List.Sums.{sum_by-le-sum_by}
-use Rattle.hz_core.specs.declared.tri.Tri.{Tri}
-use Rattle.hz_core.specs.declared.kind.Kind.{Kind}
-use Rattle.hz_core.specs.Ternary.{is_unknown}
-use Rattle.hz_core.specs.Gate.{takes, gate_value}
-use Rattle.hz_core.specs.Netlist.{Netlist, IsCircuit, IsGateAmong, IsGateNumber, gate_at}
-use Rattle.hz_core.specs.Pattern.{IsCandidate, IsPattern}
+use Rattle.std.proofs.Common.{◌≡◌, ◌≢◌, ℕ, ◌+◌, ◌-◌, ◌<◌, ◌≤◌, Bool, true, false, not, List, [], ◌∷◌, length, get_or, refl, sym, ap, ◌∙◌, subst, arith, inl, inr, append-nil, IsTrue, sum_by}
+use Rattle.hz_reach.proofs.Words.{range_with_len, cases_lt, both_ways, and_parts, and_from, length-map, sum_by-le-sum_by, Tri, Kind, is_unknown, takes}
+use Rattle.hz_reach.proofs.Words.{gate_value, Netlist, IsCircuit, IsGateNumber, gate_at, IsCandidate, IsPattern, length-Refines, Driver, External, Function}
+use Rattle.hz_reach.proofs.Words.{Source, network_of, driver_at, bit_at, value_at, first_wire, at_wires, IsUnknown, driver_at-gate, length-part}
+use Rattle.hz_reach.proofs.Words.{wired-network_of, state_after, RunRecord, key_at, IsInKeyOrder, with_step_if_any, Spends, HasRoomFor, ScratchState}
+use Rattle.hz_reach.proofs.Words.{changes_in, is_gate_in, changed_wires, turn_end, turn_steps, listed-at, IsGateAmong}
 use Rattle.hz_core.proofs.CircuitLemmas.{takes-from_bounds}
-use Rattle.hz_core.proofs.Refinements.{length-Refines}
-use Rattle.hz_net.specs.Network.{Driver, External, Function, Source, network_of, driver_at, bit_at, value_at}
-use Rattle.hz_net.specs.Variables.{first_wire, at_wires}
-use Rattle.hz_net.specs.Passes.{IsUnknown}
-use Rattle.hz_net.proofs.Places.{driver_at-gate}
-use Rattle.hz_lists.proofs.PartLemmas.{length-part}
-use Rattle.hz_net.proofs.Wired.{wired-network_of}
-use Rattle.hz_gmw.specs.Runs.{state_after}
-use Rattle.hz_gmw.specs.RunRecord.{RunRecord}
-use Rattle.hz_reach.specs.Order.{key_at, IsInKeyOrder}
-use Rattle.hz_reach.specs.Room.{with_step_if_any, Spends, HasRoomFor}
-use Rattle.hz_reach.specs.ScratchState.{ScratchState}
-use Rattle.hz_reach.specs.Spread.{changes_in}
-use Rattle.hz_reach.specs.Turn.{is_gate_in, changed_wires, turn_end, turn_steps}
 use Rattle.hz_reach.proofs.FanOut.{marks-with-fan_out}
 use Rattle.hz_reach.proofs.FlipCounts.{flips_are_changes}
 use Rattle.hz_reach.proofs.GateTurn.{IsFunction, gate-number, pin-inside, unknown-is, is-unknown}

@@ -1,11 +1,9 @@
 -- Where some list gives a gate a value there is a canonical pattern for it.
 use Rattle.std.proofs.Common.{◌≡◌, ◌≢◌, ℕ, Bool, true, false, not, List, length, get_or, set, replicate, Option, Some, None, IsTrue, refl, inl, inr}
+use Rattle.std.proofs.Common.{position}
+use Rattle.hz_reach.proofs.Words.{Kind, takes, gate_value, IsCandidate, IsPattern}
 use Rattle.std.specs.Bool.{then_some}
-use Rattle.std.specs.List.{position}
-use Rattle.hz_core.specs.declared.kind.Kind.{Kind}
 use Rattle.hz_core.specs.declared.kind.Kind.TheVariants.{And, Nand, Or, Nor, Xor, Xnor, Not, Buff}
-use Rattle.hz_core.specs.Gate.{takes, gate_value}
-use Rattle.hz_core.specs.Pattern.{IsCandidate, IsPattern}
 use Rattle.hz_core.specs.BitOrSwitch.{HasBitOrSwitch}
 use Rattle.hz_core.proofs.Patterns.{IsPattern-now, IsPattern-lone, IsPattern-changed}
 use Rattle.hz_core.proofs.BitOrSwitchLemmas.{reached-and, reached-nand, reached-or, reached-nor, reached-xor, reached-xnor, reached-not, reached-buff}

@@ -1,29 +1,17 @@
 -- A settling round is a step, and settles its variables; the rounds can be made one after the other.
-use Rattle.std.proofs.Common.{◌≡◌, ◌≢◌, ℕ, zero, suc, ◌+◌, ◌-◌, ◌<◌, ◌≤◌, ◌⊎◌, ◌&&◌, Bool, true, false, not, List, [], length, refl, sym, ap, ◌∙◌, subst, arith, inl, inr, eqb, IsTrue}
-use Rattle.std.specs.Prelude.{sum_by}
-use Rattle.std.proofs.lemmas.Bool.{cases_Bool, cases_lt, both_ways, and_parts, and_from, eqb-true, eq-eqb, not-true, not_from_false, false_from_ne_true}
-use Rattle.std.proofs.lemmas.List.Sums.{get_or-le-sum_by}
-use Rattle.hz_core.specs.declared.tri.Tri.{Tri}
-use Rattle.hz_core.specs.declared.tri.Tri.TheVariants.{Zero, One, Unknown}
-use Rattle.hz_core.specs.Ternary.{admits, is_below, AllBelow, Refines}
-use Rattle.hz_core.proofs.Refinements.{length-Refines, get_or-Refines, Refines-get_or, get_or-AllBelow, AllBelow-same, AllBelow-through}
-use Rattle.hz_net.specs.Network.{Driver, driver_at, bit_at, value_at, excitation, IsUnstable}
-use Rattle.hz_net.specs.Passes.{excitations, algorithm_b, IsKnown, IsUnknown, IsFirstRound, IsSettlingRound}
-use Rattle.hz_net.proofs.Excitations.{admits-driver_value, at-excitations}
-use Rattle.hz_net.proofs.Sequences.{length-algorithm_b, AllBelow-algorithm_b}
-use Rattle.hz_lists.specs.Listed.{is_listed, IsRepeatFree}
-use Rattle.hz_gmw.specs.Runs.{IsStep, IsRun, state_after, end_of}
-use Rattle.hz_gmw.proofs.CoverB.{length-end_of}
-use Rattle.hz_reach.specs.FilteredRange.{filtered_range}
-use Rattle.hz_reach.specs.Order.{key_at}
-use Rattle.hz_reach.specs.Room.{with_step_if_any}
-use Rattle.hz_reach.specs.Spread.{changes_in}
+use Rattle.std.proofs.Common.{◌≡◌, ◌≢◌, ℕ, zero, suc, ◌+◌, ◌-◌, ◌<◌, ◌≤◌, ◌⊎◌, ◌&&◌, Bool, true, false, not, List, [], length, refl, sym, ap, ◌∙◌, subst, arith, inl, inr, eqb, IsTrue, sum_by}
+use Rattle.hz_reach.proofs.Words.{cases_Bool, cases_lt, both_ways, and_parts, and_from, not-true, not_from_false, false_from_ne_true, get_or-le-sum_by, Tri}
+use Rattle.hz_reach.proofs.Words.{Zero, One, Unknown, admits, is_below, AllBelow, Refines, length-Refines, get_or-Refines, Refines-get_or, get_or-AllBelow}
+use Rattle.hz_reach.proofs.Words.{Driver, driver_at, bit_at, value_at, excitation, IsUnstable, excitations, algorithm_b, IsKnown, IsUnknown, IsFirstRound}
+use Rattle.hz_reach.proofs.Words.{IsSettlingRound, admits-driver_value, at-excitations, length-algorithm_b, is_listed, IsRepeatFree, IsStep, IsRun}
+use Rattle.hz_reach.proofs.Words.{state_after, end_of, length-end_of, filtered_range, key_at, with_step_if_any, changes_in, AllBelow-excitations}
+use Rattle.std.proofs.lemmas.Bool.{eqb-true, eq-eqb}
 use Rattle.hz_reach.proofs.FilteredRangeLemmas.{filtered_range-is, is-filtered_range, filtered_range-once}
 use Rattle.hz_reach.proofs.GateTurn.{state_after-listed, state_after-unlisted, either-value}
 use Rattle.hz_reach.proofs.ListPlaces.{key-inside}
 use Rattle.hz_reach.proofs.Room.{end_of-after, run-after}
 use Rattle.hz_cycle.specs.Rounds.{AreRoundsOf, IsSettlingRun}
-use Rattle.hz_cycle.proofs.SettledVariables.{admits-unknown}
+use Rattle.hz_cycle.proofs.SettledVariables.{admits-unknown, below-first}
 use Rattle.hz_cycle.proofs.StepLemmas.{changes-after, listed-none, unchanged-end}
 use Rattle.hz_reach.proofs.FlipCounts.{listed}
 
@@ -102,30 +90,6 @@ module _ {net : List Driver} {input : List Bool} {a : List Tri} {when : List ℕ
   abbrev sequence : ℕ → List Tri
   sequence = algorithm_b net input a
 
-  -- later states of Algorithm B lie below earlier ones
-  later-below : (round more : ℕ) → AllBelow (algorithm_b net input a (more + round)) (algorithm_b net input a round)
-  later-below round zero =
-      let same : 0 + round ≡ round = omega arith in
-      subst (λ (n : ℕ). AllBelow (algorithm_b net input a n) (algorithm_b net input a round)) (sym same) (AllBelow-same (algorithm_b net input a round))
-  later-below round (suc more) =
-      let next : suc more + round ≡ suc (more + round) = omega arith in
-      subst (λ (n : ℕ). AllBelow (algorithm_b net input a n) (algorithm_b net input a round)) (sym next)
-      (AllBelow-through (algorithm_b net input a (suc (more + round))) (algorithm_b net input a (more + round)) (algorithm_b net input a round)
-      (AllBelow-algorithm_b net input a rounds.above (more + round)) (later-below round more))
-
-  below-at : (round later i : ℕ) → round ≤ later → IsTrue (is_below (value_at (algorithm_b net input a later) i) (value_at (algorithm_b net input a round) i))
-  below-at round later i early =
-      let same : later - round + round ≡ later = omega (arith, early) in
-      subst (λ (n : ℕ). IsTrue (is_below (value_at (algorithm_b net input a n) i) (value_at (algorithm_b net input a round) i))) same
-      (get_or-AllBelow (algorithm_b net input a (later - round + round)) (algorithm_b net input a round) (later-below round (later - round)) i)
-
-  -- once every value is settled, the sequence is at rest
-  stays-above : (round : ℕ) → algorithm_b net input a (suc rounds.result.0) ≡ algorithm_b net input a rounds.result.0 → algorithm_b net input a (round + rounds.result.0) ≡ algorithm_b net input a rounds.result.0
-  stays-above zero rest = (let same : 0 + rounds.result.0 ≡ rounds.result.0 = omega arith in ap (algorithm_b net input a) same)
-  stays-above (suc round) rest =
-      let next : suc round + rounds.result.0 ≡ suc (round + rounds.result.0) = omega arith in
-      ap (algorithm_b net input a) next ∙ (ap (excitations net input) (stays-above round rest) ∙ rest)
-
   at-rest : algorithm_b net input a (suc rounds.result.0) ≡ algorithm_b net input a rounds.result.0
   at-rest = rest rounds.result.0 rounds.result.1.some rounds.result.1.settled
     where
@@ -135,12 +99,15 @@ module _ {net : List Driver} {input : List Bool} {a : List Tri} {when : List ℕ
           let before : suc round - 1 ≡ round = omega arith in
           ap (excitations net input) (same ∙ ap (algorithm_b net input a) before)
 
-  -- the result lies below each state
+  -- the result lies below each state, since it lies below the first and a round keeps the order
+  result-lower : (round : ℕ) → AllBelow b (algorithm_b net input a round)
+  result-lower zero = subst (λ (values : List Tri). AllBelow values a) (sym rounds.result.2) (below-first net input a rounds.above rounds.result.0)
+  result-lower (suc round) =
+      subst (λ (values : List Tri). AllBelow values (algorithm_b net input a (suc round))) (ap (excitations net input) rounds.result.2 ∙ (at-rest ∙ sym rounds.result.2))
+      (AllBelow-excitations net input b (algorithm_b net input a round) (result-lower round))
+
   result-below : (round i : ℕ) → IsTrue (is_below (value_at b i) (value_at (algorithm_b net input a round) i))
-  result-below round i =
-      let last : algorithm_b net input a (round + rounds.result.0) ≡ b = stays-above round at-rest ∙ sym rounds.result.2 in
-      subst (λ (values : List Tri). IsTrue (is_below (value_at values i) (value_at (algorithm_b net input a round) i))) last
-      (below-at round (round + rounds.result.0) i (omega arith))
+  result-below round i = get_or-AllBelow b (algorithm_b net input a round) (result-lower round) i
 
   net-long : length b ≡ length net
   net-long = ap (length {A = Tri}) rounds.result.2 ∙ length-algorithm_b net input a rounds.long rounds.result.0

@@ -1,20 +1,9 @@
 -- The loops over settling rounds: that a mark may be set, that each step has room, and what holds after it.
-use Rattle.std.proofs.Common.{◌≡◌, ◌≢◌, ℕ, suc, ◌+◌, ◌-◌, ◌<◌, ◌≤◌, Bool, true, false, not, cond, List, [], ◌∷◌, ◌++◌, length, get_or, take, drop, sym, ap, ◌∙◌, subst, arith, inl, inr, append-nil}
-use Rattle.std.specs.List.{slice_range}
-use Rattle.std.proofs.lemmas.Bool.{cases_lt, not-true, not_from_false}
-use Rattle.std.proofs.lemmas.List.{get_or-drop, get_or-take, length-take, length-drop, take_more}
-use Rattle.std.proofs.lemmas.List.Elements.{filter-append}
-use Rattle.hz_core.specs.declared.tri.Tri.{Tri}
-use Rattle.hz_core.specs.Ternary.{admits}
-use Rattle.hz_net.specs.Network.{Driver, bit_at, value_at}
-use Rattle.hz_lists.specs.Listed.{is_listed}
-use Rattle.hz_gmw.specs.Runs.{state_after}
-use Rattle.hz_gmw.specs.RunRecord.{RunRecord}
-use Rattle.hz_gmw.proofs.Flips.{length-state_after}
-use Rattle.hz_reach.specs.Order.{key_at, IsEarlier, IsInKeyOrder}
-use Rattle.hz_reach.specs.Room.{with_step_if_any, Spends, HasRoomFor, HasRoomForStep}
-use Rattle.hz_reach.specs.ScratchState.{ScratchState}
-use Rattle.hz_lists.proofs.ListedLemmas.{listed-at, listed-place, Ascends, ascends-once, ascends-filter, filtered-is, is-filtered}
+use Rattle.std.proofs.Common.{◌≡◌, ◌≢◌, ℕ, suc, ◌+◌, ◌-◌, ◌<◌, ◌≤◌, Bool, true, false, not, cond, List, [], ◌∷◌, ◌++◌, length, get_or, take, drop, sym, ap, ◌∙◌, subst, arith, inl, inr, append-nil, slice_range}
+use Rattle.std.proofs.lemmas.List.{get_or-drop, get_or-take, length-take, length-drop}
+use Rattle.hz_reach.proofs.Words.{cases_lt, not-true, not_from_false, filter-append, Tri, admits, Driver, bit_at, value_at, is_listed, state_after}
+use Rattle.hz_reach.proofs.Words.{RunRecord, length-state_after, key_at, IsEarlier, IsInKeyOrder, with_step_if_any, Spends, HasRoomFor, HasRoomForStep}
+use Rattle.hz_reach.proofs.Words.{ScratchState, listed-at, listed-place, Ascends, ascends-once, ascends-filter, filtered-is, is-filtered, take_more}
 use Rattle.hz_cycle.specs.Rounds.{differing_variables, IsOneRound, AreRoundsOf, AreRoundsMade}
 use Rattle.hz_reach.proofs.FlipCounts.{flips_per_variable}
 use Rattle.hz_reach.proofs.ListPlaces.{key-inside}

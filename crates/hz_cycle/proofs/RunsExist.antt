@@ -1,31 +1,21 @@
 -- From every stable start, under every input, there are a settle run and a cycle at its end: the spread run, the settling
 -- rounds and one pass, and then two passes. They show that Algorithm B is exact.
 use Rattle.std.proofs.Common.{◌≡◌, ℕ, Bool, not, List, length, refl, sym, ap, ◌∙◌, subst, Contains, IsTrue, ◌++◌}
-use Rattle.hz_core.specs.declared.tri.Tri.{Tri}
-use Rattle.hz_core.specs.Ternary.{admits, Refines, IsJoinOf}
-use Rattle.hz_core.proofs.Refinements.{get_or-Refines}
-use Rattle.hz_net.specs.Network.{Driver, bit_at, value_at, network_of}
-use Rattle.hz_net.specs.Passes.{algorithm_a, algorithm_b, AreRounds, AreSettlingRounds}
-use Rattle.hz_gmw.specs.Runs.{IsRun, end_of}
-use Rattle.hz_gmw.specs.Cycles.{states_of, IsOutcome}
-use Rattle.hz_gmw.proofs.Paths.{IsRun-front, IsCut, cut-member}
+use Rattle.hz_reach.proofs.Words.{Tri, admits, Refines, IsJoinOf, get_or-Refines, Driver, bit_at, value_at, network_of, algorithm_a, algorithm_b, AreRounds}
+use Rattle.hz_reach.proofs.Words.{AreSettlingRounds, IsRun, end_of, states_of, IsCut, cut-member, ResultOfAExists, ResultOfBExists, RanksExist}
+use Rattle.hz_reach.proofs.Words.{SettlingRoundsExist, SparingRunExists, Zero, One, Unknown, Netlist, IsCircuit, IsStableStart, wired-network_of}
+use Rattle.hz_reach.proofs.Words.{IsSparingRun, IsOutcome, IsRun-front}
 use Rattle.hz_reach.proofs.Exact.{joins-by}
 use Rattle.hz_reach.proofs.RanksOrderGates.{turns-of}
-use Rattle.hz_reach.specs.Existence.{ResultOfAExists, ResultOfBExists, RanksExist, SettlingRoundsExist, SparingRunExists}
 use Rattle.hz_cycle.specs.Exact.{RunsShowB, HasSettleRunAndCycle, SettleRunsExist, BIsExact, OutcomesExist}
 use Rattle.hz_cycle.proofs.CycleExists.{cycle-found}
-use Rattle.hz_core.specs.declared.tri.Tri.TheVariants.{Zero, One, Unknown}
-use Rattle.hz_core.specs.Netlist.{Netlist, IsCircuit}
-use Rattle.hz_net.specs.Starts.{IsStableStart}
-use Rattle.hz_net.proofs.Wired.{wired-network_of}
-use Rattle.hz_reach.specs.Spread.{IsSparingRun}
 use Rattle.hz_cycle.specs.Cycles.{IsCycleOf}
 use Rattle.hz_cycle.specs.Pass.{MayBegin, IsPass}
 use Rattle.hz_cycle.specs.Turned.{IsTurned}
 use Rattle.hz_cycle.proofs.Change.{IsChange, change-fixed, fixed-and-ranked}
 use Rattle.hz_cycle.proofs.PassTurns.{pass-found}
 use Rattle.hz_cycle.proofs.RoundSteps.{rounds-found}
-use Rattle.hz_cycle.proofs.SettleRunExists.{IsBeforePass, rounds-may-begin, pass-may-begin, settle-found, settle-end}
+use Rattle.hz_cycle.proofs.SettleRunExists.{before-pass, rounds-may-begin, pass-may-begin, settle-found, settle-end}
 use Rattle.hz_cycle.proofs.TurnedStates.{turned-may-begin}
 use Rattle.hz_cycle.proofs.StepLemmas.{contains-begin}
 
@@ -82,15 +72,7 @@ module _ {netlist : Netlist} {input start : List Bool} {a : List Tri} {ranks : L
   both : {when : List ℕ} {spread : List (List ℕ)} → IsStableStart netlist start → AreSettlingRounds (algorithm_b (network_of netlist) input a) a b when → IsSparingRun (network_of netlist) input start a ranks spread → HasSettleRunAndCycle (network_of netlist) input start a b
   both {when} {spread} begins rounds sparing =
       let settled = rounds-found (rounds-may-begin change rounds sparing refl) in
-      let before : IsBeforePass netlist input start a ranks when b spread (end_of start spread) settled.0 settled.1.0 = record {
-        circuit = circuit;
-        begins = begins;
-        change = change;
-        rounds = rounds;
-        sparing = sparing;
-        spread_end = refl;
-        settling = settled.1.1;
-      } in
+      let before = before-pass begins change rounds sparing refl (λ may. settled.1.1) in
       let last = pass settled.1.0 (pass-may-begin before) in
       let round = cycle last.1.0 last.1.1.turned in
       record {

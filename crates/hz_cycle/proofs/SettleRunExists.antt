@@ -1,33 +1,16 @@
 -- The settle run: after the spread run and the settling rounds a pass may begin, and the three together are the settle run.
-use Rattle.std.proofs.Common.{◌≡◌, ◌≢◌, ℕ, ◌+◌, ◌-◌, ◌*◌, ◌<◌, ◌≤◌, ◌⊎◌, Bool, not, cond, List, [], ◌∷◌, ◌++◌, length, take, refl, sym, ap, ◌∙◌, subst, arith, inl, inr, add-zero}
-use Rattle.std.specs.Prelude.{sum_by, ◌%◌, nat_eq}
-use Rattle.std.specs.List.{range_with_len}
-use Rattle.std.proofs.lemmas.Bool.{cases_lt, cases_eq}
-use Rattle.std.proofs.lemmas.List.{get_or_past}
-use Rattle.std.proofs.lemmas.List.Sums.{sum_by-cons}
-use Rattle.hz_core.specs.declared.tri.Tri.{Tri}
-use Rattle.hz_core.specs.declared.tri.Tri.TheVariants.{Zero, One, Unknown}
-use Rattle.hz_core.specs.Ternary.{Refines}
-use Rattle.hz_core.specs.Netlist.{Netlist, IsCircuit}
-use Rattle.hz_net.specs.Network.{Driver, Source, network_of, driver_at, bit_at, value_at, driver_value, excitation}
-use Rattle.hz_net.specs.Passes.{algorithm_b, IsKnown, IsUnknown, IsSettlingRound, AreSettlingRounds}
-use Rattle.hz_net.specs.Starts.{IsStableStart}
-use Rattle.hz_net.proofs.Sequences.{start-refines}
-use Rattle.hz_gmw.specs.Runs.{IsRun, end_of}
-use Rattle.hz_gmw.specs.RunRecord.{RunRecord, flip_count}
-use Rattle.hz_gmw.proofs.Paths.{end_of-append, IsRun-append}
-use Rattle.hz_reach.specs.Order.{key_at, IsEarlier}
-use Rattle.hz_reach.specs.Room.{Spends, HasRoomFor}
+use Rattle.std.proofs.Common.{◌≡◌, ◌≢◌, ℕ, ◌+◌, ◌-◌, ◌*◌, ◌<◌, ◌≤◌, ◌⊎◌, Bool, not, cond, List, [], ◌∷◌, ◌++◌, length, take, refl, sym, ap, ◌∙◌, subst, arith, inl, inr, add-zero, sum_by, ◌%◌, nat_eq}
+use Rattle.hz_reach.proofs.Words.{range_with_len, cases_lt, cases_eq, get_or_past, sum_by-cons, Tri, Zero, One, Unknown, Refines, Netlist, IsCircuit}
+use Rattle.hz_reach.proofs.Words.{Driver, Source, network_of, driver_at, bit_at, value_at, driver_value, excitation, algorithm_b, IsKnown, IsUnknown}
+use Rattle.hz_reach.proofs.Words.{IsSettlingRound, AreSettlingRounds, IsStableStart, IsRun, end_of, RunRecord, flip_count, end_of-append, IsRun-append}
+use Rattle.hz_reach.proofs.Words.{key_at, IsEarlier, Spends, HasRoomFor, IsWireInto, IsWired, changes_in, IsSparingRun, wired-network_of, start-refines}
 use Rattle.hz_reach.proofs.FlipCounts.{flips_are_changes, flips_per_variable, flips_per_unknown, ends_by_changes}
 use Rattle.hz_reach.proofs.GateTurn.{not-itself, driver-inside}
 use Rattle.hz_reach.proofs.Order.{earlier-or-not}
 use Rattle.hz_reach.proofs.Room.{room-left}
-use Rattle.hz_net.specs.Reads.{IsWireInto, IsWired}
-use Rattle.hz_reach.specs.Spread.{changes_in, IsSparingRun}
-use Rattle.hz_net.proofs.Wired.{wired-network_of}
 use Rattle.hz_cycle.specs.Cycles.{IsSettleRun}
 use Rattle.hz_cycle.specs.Pass.{IsFixed, MayBegin, AreEnough, HasRoom, IsPass}
-use Rattle.hz_cycle.specs.Rounds.{AreRoundsOf, IsSettlingRun, AreRoundsMade}
+use Rattle.hz_cycle.specs.Rounds.{AreRoundsOf, IsSettlingRun}
 use Rattle.hz_cycle.proofs.SettledVariables.{refines-unchanged, known-stable, wire-source, unknown-inside}
 use Rattle.hz_cycle.proofs.Change.{IsChange, a-above, change-fixed, unsettled-unknown}
 use Rattle.hz_cycle.proofs.CycleExists.{twos}
@@ -51,7 +34,6 @@ sum-rest f (x ∷ xs) few =
 
 -- What stands after the spread run and the rounds.
 pub record IsBeforePass (netlist : Netlist) (input start : List Bool) (a : List Tri) (ranks when : List ℕ) (b : List Tri) (spread : List (List ℕ)) (spread_state : List Bool) (settle : List (List ℕ)) (state : List Bool) : Type 0 where
-  pub circuit : IsCircuit netlist
   pub begins : IsStableStart netlist start
   pub change : IsChange (network_of netlist) input start a ranks b
   pub rounds : AreSettlingRounds (algorithm_b (network_of netlist) input a) a b when
@@ -245,19 +227,19 @@ module _ {netlist : Netlist} {input start : List Bool} {a : List Tri} {ranks whe
   settle-end {pass} {last} is_pass =
       sym (end_of-append start (spread ++ settle) pass ∙ (ap (λ (s : List Bool). end_of s pass) end-so-far ∙ is_pass.ends))
 
--- what stands when the rounds of a call are made
+-- what stands when the rounds are made
 pub before-pass :
-    {netlist : Netlist} {input start : List Bool} {a b : List Tri} {ranks when : List ℕ} {spread after : List (List ℕ)} {spread_state state : List Bool} →
-    IsCircuit netlist → IsStableStart netlist start → IsChange (network_of netlist) input start a ranks b →
+    {netlist : Netlist} {input start : List Bool} {a b : List Tri} {ranks when : List ℕ} {spread settle : List (List ℕ)} {spread_state state : List Bool} →
+    IsStableStart netlist start → IsChange (network_of netlist) input start a ranks b →
     AreSettlingRounds (algorithm_b (network_of netlist) input a) a b when → IsSparingRun (network_of netlist) input start a ranks spread →
-    spread_state ≡ end_of start spread → (made : AreRoundsMade when b spread_state spread after state) →
-    IsBeforePass netlist input start a ranks when b spread spread_state made.made state
-before-pass {netlist} {input} {start} {a} circuit begins change rounds sparing ends made = record {
-  circuit = circuit;
+    spread_state ≡ end_of start spread →
+    (AreRoundsOf (network_of netlist) input a when b spread_state → IsSettlingRun (network_of netlist) input when b spread_state settle state) →
+    IsBeforePass netlist input start a ranks when b spread spread_state settle state
+before-pass begins change rounds sparing ends settled = record {
   begins = begins;
   change = change;
   rounds = rounds;
   sparing = sparing;
   spread_end = ends;
-  settling = made.settling (network_of netlist) input a (rounds-may-begin change rounds sparing ends);
+  settling = settled (rounds-may-begin change rounds sparing ends);
 }

@@ -1,30 +1,14 @@
 -- What the result of Algorithm B says of a state that refines it: settled variables are stable, and each pin of an
 -- unsettled gate that is not settled may take either bit.
-use Rattle.std.proofs.Common.{◌≡◌, ℕ, zero, suc, ◌+◌, ◌-◌, ◌<◌, ◌⊎◌, Bool, true, false, not, cond, List, [], ◌∷◌, length, map, get_or, refl, sym, ap, ◌∙◌, subst, arith, inl, inr, IsTrue, ◌≢◌}
-use Rattle.std.specs.Prelude.{slice_range}
-use Rattle.std.proofs.lemmas.Bool.{cases_lt, false_from_ne_true}
-use Rattle.std.proofs.lemmas.List.{get_or_past, get_or-map}
-use Rattle.hz_core.specs.declared.tri.Tri.{Tri}
-use Rattle.hz_core.specs.declared.tri.Tri.TheVariants.{Zero, One, Unknown}
-use Rattle.hz_core.specs.declared.kind.Kind.{Kind}
-use Rattle.hz_core.specs.Ternary.{tri_of, is_unknown, admits, Refines}
-use Rattle.hz_core.specs.Extension.{extension}
-use Rattle.hz_core.specs.Pattern.{IsCandidate}
-use Rattle.hz_core.proofs.Refinements.{length-Refines, get_or-Refines, Refines-get_or, Refines-slice_range}
+use Rattle.std.proofs.Common.{◌≡◌, ℕ, zero, suc, ◌+◌, ◌-◌, ◌<◌, ◌⊎◌, Bool, true, false, not, cond, List, [], ◌∷◌, length, map, get_or, refl, sym, ap, ◌∙◌, subst, arith, inl, inr, IsTrue, ◌≢◌, slice_range}
+use Rattle.hz_reach.proofs.Words.{cases_lt, false_from_ne_true, get_or_past, get_or-map, Tri, Zero, One, Unknown, Kind, tri_of, is_unknown, admits}
+use Rattle.hz_reach.proofs.Words.{AllBelow, Refines, extension, IsCandidate, length-Refines, get_or-Refines, Refines-get_or, Driver, External, Function}
+use Rattle.hz_reach.proofs.Words.{Source, driver_at, bit_at, value_at, driver_value3, excitation, excitations, algorithm_b, IsKnown, IsUnknown, AreRounds}
+use Rattle.hz_reach.proofs.Words.{admits-driver_value, at-excitations, length-part, length-algorithm_b, AllBelow-algorithm_b, is_listed, state_after}
+use Rattle.hz_reach.proofs.Words.{end_of, length-end_of, changes_in, IsWired, is_gate_in, Refines-slice_range, AllBelow-same, AllBelow-through}
 use Rattle.hz_core.proofs.Patterns.{candidate-extension}
-use Rattle.hz_net.specs.Network.{Driver, External, Function, Source, driver_at, bit_at, value_at, driver_value3, excitation}
-use Rattle.hz_net.specs.Passes.{algorithm_b, IsKnown, IsUnknown, AreRounds}
-use Rattle.hz_net.proofs.Excitations.{admits-driver_value, at-excitations}
-use Rattle.hz_lists.proofs.PartLemmas.{length-part}
-use Rattle.hz_net.proofs.Sequences.{length-algorithm_b}
-use Rattle.hz_lists.specs.Listed.{is_listed}
-use Rattle.hz_gmw.specs.Runs.{state_after, end_of}
-use Rattle.hz_gmw.proofs.CoverB.{length-end_of}
-use Rattle.hz_reach.specs.Spread.{changes_in}
 use Rattle.hz_reach.proofs.FlipCounts.{changes-more}
 use Rattle.hz_cycle.proofs.StepLemmas.{listed-none, unchanged-end}
-use Rattle.hz_net.specs.Reads.{IsWired}
-use Rattle.hz_reach.specs.Turn.{is_gate_in}
 use Rattle.hz_reach.proofs.GateTurn.{driver-inside, either-value}
 use Rattle.hz_cycle.specs.Pass.{IsFixed}
 
@@ -76,7 +60,13 @@ refines-state_after state b flips refined only =
     refines-unchanged state (flips ∷ []) b refined (λ i known.
     omega (arith, changes-more flips [] i, listed-none flips i (false_from_ne_true _ (λ there. known (only i there)))))
 
--- the result of Algorithm B is one
+-- the states of Algorithm B lie below its first one
+pub below-first : (net : List Driver) (input : List Bool) (first : List Tri) → AllBelow (excitations net input first) first → (round : ℕ) → AllBelow (algorithm_b net input first round) first
+below-first net input first above zero = AllBelow-same first
+below-first net input first above (suc round) =
+    AllBelow-through (algorithm_b net input first (suc round)) (algorithm_b net input first round) first (AllBelow-algorithm_b net input first above round) (below-first net input first above round)
+
+-- a round leaves its result as it is
 pub fixed-result : (net : List Driver) (input : List Bool) (first : List Tri) (rounds : ℕ) → length first ≡ length net → AreRounds (algorithm_b net input first) rounds → IsFixed net input (algorithm_b net input first rounds)
 fixed-result net input first zero long are = absurd (omega (arith, are.some))
 fixed-result net input first (suc round) long are =

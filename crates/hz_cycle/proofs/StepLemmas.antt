@@ -1,14 +1,7 @@
 -- One more step of a run: how often variables have changed, where the run ends, and the states on the way.
-use Rattle.std.proofs.Common.{◌≡◌, ℕ, suc, ◌+◌, Bool, false, List, [], ◌∷◌, ◌++◌, refl, sym, ap, ◌∙◌, subst, arith, inl, inr, append_assoc, Contains}
-use Rattle.std.proofs.lemmas.Bool.{cases_Bool}
-use Rattle.std.proofs.lemmas.List.Sums.{sum_by-append, sum_by_push}
-use Rattle.hz_net.specs.Network.{bit_at}
-use Rattle.hz_lists.specs.Listed.{is_listed}
-use Rattle.hz_gmw.specs.Runs.{state_after, end_of}
-use Rattle.hz_gmw.specs.Cycles.{states_of}
-use Rattle.hz_gmw.proofs.Paths.{IsCut, cut-member}
-use Rattle.hz_reach.specs.Room.{with_step_if_any}
-use Rattle.hz_reach.specs.Spread.{changes_in}
+use Rattle.std.proofs.Common.{◌≡◌, ℕ, suc, ◌+◌, Bool, false, List, [], ◌∷◌, ◌++◌, refl, sym, ap, ◌∙◌, subst, arith, inl, inr, append-nil, append_assoc, Contains}
+use Rattle.hz_reach.proofs.Words.{cases_Bool, sum_by-append, sum_by_push, bit_at, is_listed, state_after, end_of, states_of, IsCut, cut-member}
+use Rattle.hz_reach.proofs.Words.{with_step_if_any, changes_in}
 use Rattle.hz_reach.proofs.GateTurn.{state_after-unlisted}
 use Rattle.hz_reach.proofs.FlipCounts.{listed, changes-more}
 
@@ -47,10 +40,7 @@ contains-cut state (flips ∷ earlier) later =
 
 -- the last state is one of them
 pub contains-end : (begun : List Bool) (steps : List (List ℕ)) → Contains (states_of begun steps) (end_of begun steps)
-contains-end begun [] = contains-begin begun []
-contains-end begun (flips ∷ steps) =
-    let there = contains-end (state_after flips begun) steps in
-    (suc there.0, (let less = there.1 in omega arith), there.2)
+contains-end begun steps = subst (λ (list : List (List ℕ)). Contains (states_of begun list) (end_of begun steps)) (append-nil steps) (contains-cut begun steps [])
 
 -- and the states so far stay among them
 pub contains-front : (begun member : List Bool) (steps more : List (List ℕ)) → Contains (states_of begun steps) member → Contains (states_of begun (steps ++ more)) member

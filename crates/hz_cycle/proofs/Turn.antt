@@ -1,24 +1,10 @@
 -- A gate's turn in a pass: each unsettled pin differs from its source, so the turn can be taken; what it makes of the state;
 -- and that what holds inside a pass holds again after it, with this gate among those that have had their turn.
-use Rattle.std.proofs.Common.{◌≡◌, ◌≢◌, ℕ, ◌+◌, ◌<◌, Bool, true, false, not, List, length, map, get_or, refl, sym, ap, ◌∙◌, subst, arith, inl, inr, ◌⊎◌, cond}
-use Rattle.std.specs.Prelude.{slice_range}
-use Rattle.std.proofs.lemmas.Bool.{and_parts, and_from, false_from_ne_true, cases_eq, both_ways}
-use Rattle.std.proofs.lemmas.List.{get_or-map}
-use Rattle.hz_core.specs.declared.tri.Tri.{Tri}
-use Rattle.hz_core.specs.declared.tri.Tri.TheVariants.{Zero}
-use Rattle.hz_core.specs.declared.kind.Kind.{Kind}
-use Rattle.hz_core.specs.Ternary.{is_unknown, Refines}
-use Rattle.hz_core.specs.Pattern.{IsPattern}
-use Rattle.hz_core.proofs.Refinements.{length-Refines}
-use Rattle.hz_net.specs.Network.{Driver, Function, Source, driver_at, bit_at, value_at, External}
-use Rattle.hz_net.specs.Passes.{IsUnknown, IsKnown}
-use Rattle.hz_net.specs.Reads.{IsWired, IsWireInto}
-use Rattle.hz_lists.proofs.PartLemmas.{length-part, at-part}
-use Rattle.hz_lists.specs.Listed.{is_listed}
-use Rattle.hz_gmw.specs.Runs.{state_after}
-use Rattle.hz_gmw.proofs.Flips.{length-state_after}
-use Rattle.hz_reach.specs.Order.{key_at, IsEarlier}
-use Rattle.hz_reach.specs.Turn.{is_gate_in}
+use Rattle.std.proofs.Common.{◌≡◌, ◌≢◌, ℕ, ◌+◌, ◌<◌, Bool, true, false, not, List, length, map, get_or, refl, sym, ap, ◌∙◌, subst, arith, inl, inr, ◌⊎◌}
+use Rattle.std.proofs.Common.{cond, slice_range}
+use Rattle.hz_reach.proofs.Words.{and_parts, and_from, false_from_ne_true, cases_eq, both_ways, get_or-map, Tri, Zero, Kind, is_unknown, Refines, IsPattern}
+use Rattle.hz_reach.proofs.Words.{length-Refines, Driver, Function, Source, driver_at, bit_at, value_at, External, IsUnknown, IsKnown, IsWired, IsWireInto}
+use Rattle.hz_reach.proofs.Words.{length-part, at-part, is_listed, state_after, length-state_after, key_at, IsEarlier, is_gate_in}
 use Rattle.hz_reach.proofs.Order.{earlier-or-not, IsNext as IsNextOf, not-earlier, not-both, also, also-itself, also-other}
 use Rattle.hz_reach.proofs.GateTurn.{driver-inside, other-bit, same-or-differ, state_after-listed, state_after-unlisted, turn_wires, turn_middle, IsFunction, IsWithFanOut, MayTurn, pin-into, pin-inside, no-pin, listed-pin, set-pin, kept-other, gate-kept, middle-long, not-itself, same-source, unknown-is, is-unknown}
 use Rattle.hz_cycle.specs.Pass.{IsFixed}

@@ -1,17 +1,9 @@
 -- A pass may begin in a turned state and ends in one, and a turned state is determined by its gates.
-use Rattle.std.proofs.Common.{◌≡◌, ℕ, ◌+◌, ◌-◌, ◌<◌, ◌≤◌, ◌⊎◌, Bool, true, false, not, List, map, refl, sym, ap, ◌∙◌, subst, arith, inl, inr}
-use Rattle.std.specs.Prelude.{slice_range}
+use Rattle.std.proofs.Common.{◌≡◌, ℕ, ◌+◌, ◌-◌, ◌<◌, ◌≤◌, ◌⊎◌, Bool, true, false, not, List, map, refl, sym, ap, ◌∙◌, subst, arith, inl, inr, slice_range}
+use Rattle.hz_reach.proofs.Words.{Tri, Kind, is_unknown, IsPattern, length-Refines, Driver, External, Function, Source, driver_at, bit_at, value_at}
+use Rattle.hz_reach.proofs.Words.{IsKnown, IsUnknown, IsEarlier, IsWireInto, IsWired}
 use Rattle.std.proofs.lemmas.List.{ext_get_or}
-use Rattle.hz_core.specs.declared.tri.Tri.{Tri}
-use Rattle.hz_core.specs.declared.kind.Kind.{Kind}
-use Rattle.hz_core.specs.Ternary.{is_unknown}
-use Rattle.hz_core.specs.Pattern.{IsPattern}
-use Rattle.hz_core.proofs.Refinements.{length-Refines}
 use Rattle.hz_core.proofs.Patterns.{same-IsPattern}
-use Rattle.hz_net.specs.Network.{Driver, External, Function, Source, driver_at, bit_at, value_at}
-use Rattle.hz_net.specs.Passes.{IsKnown, IsUnknown}
-use Rattle.hz_reach.specs.Order.{IsEarlier}
-use Rattle.hz_net.specs.Reads.{IsWireInto, IsWired}
 use Rattle.hz_cycle.specs.Pass.{IsFixed, MayBegin}
 use Rattle.hz_cycle.specs.Turned.{IsShown, HasPattern, IsTurned}
 use Rattle.hz_reach.proofs.Order.{earlier-or-not}

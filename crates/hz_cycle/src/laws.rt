@@ -6,6 +6,7 @@ use hz_reach::{passes_end, spread_runs_exist};
 
 /// If a change has a settle run and a cycle that begins at its end, the value of the result of Algorithm B at a variable
 /// is the join of the values that the variable has in the outcome states.
+#[tactic(auto, using(crate::proofs::RunsExist::runs_show_b))]
 pub fn runs_show_b()
     ensures { RunsShowB }
 {
@@ -13,6 +14,7 @@ pub fn runs_show_b()
 }
 
 /// Every change has a settle run and a cycle at its end: the runs that `settle_run` and `cycle_run` make.
+#[tactic(auto, using(crate::proofs::RunsExist::settle_runs_exist))]
 pub fn settle_runs_exist()
     ensures { SettleRunsExist }
 {

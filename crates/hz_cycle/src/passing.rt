@@ -1,15 +1,12 @@
 //! A pass over the unsettled gates.
-ghost use Rattle.std.specs.Prelude.{◌≡◌, ℕ, ◌+◌, ◌≤◌, Bool, true, ◌&&◌, List, [], length, map, not, IsTrue};
+ghost use Rattle.std.specs.Prelude.{◌≡◌, ℕ, ◌+◌, ◌<◌, ◌≤◌, Bool, true, ◌&&◌, List, [], length, map, not, IsTrue};
 ghost use Rattle.hz_core.specs.Ternary.{is_unknown};
-ghost use Rattle.hz_core.specs.Netlist.{IsCircuit, IsGateNumber, gate_at};
-ghost use Rattle.hz_core.specs.Pattern.{IsCandidate};
-ghost use Rattle.hz_net.specs.Network.{network_of, bit_at, value_at, IsState, IsVariable};
-ghost use Rattle.hz_net.specs.Variables.{at_wires};
-ghost use Rattle.hz_gmw.specs.Runs.{state_after};
+ghost use Rattle.hz_core.specs.Netlist.{IsCircuit, IsGateNumber};
+ghost use Rattle.hz_net.specs.Network.{network_of, IsState, IsVariable};
 ghost use Rattle.hz_reach.specs.Order.{IsInKeyOrder};
-ghost use Rattle.hz_reach.specs.Room.{Spends, HasRoomFor};
+ghost use Rattle.hz_reach.specs.Room.{Spends};
 ghost use Rattle.hz_reach.specs.Given.{IsScratchFor};
-ghost use Rattle.hz_reach.specs.Turn.{AreTurnWires, turn_flips, IsTurn};
+ghost use Rattle.hz_reach.specs.Turn.{IsTurn, CanTurn, HasRoomForTurn};
 ghost use Rattle.hz_cycle.specs.Turns.{has_turn_in, unsettled_pins};
 ghost use Rattle.hz_cycle.specs.Pass.{AreFixedAndRanked, MayBegin, HasRoom, IsPassMade};
 
@@ -26,7 +23,8 @@ pub(crate) fn make_pass(net: &Net, rank: &[u32], b: &[Tri], scratch: &mut Scratc
     requires scratch { IsScratchFor net.now scratch.old }
     requires sorted { IsInKeyOrder rank.now scratch.old.sorted }
     requires room { HasRoom (network_of net.now) rank.now b.now scratch.old.state run.old }
-    ensures pass { IsPassMade (network_of net.now) rank.now b.now scratch.old.state run.old.steps run.new.steps scratch.new.state }
+    ensures pass { IsPassMade (network_of net.now) rank.now b.now
+        scratch.old.state run.old.steps run.new.steps scratch.new.state }
     ensures marked { scratch.new.marked ≡ [] }
     ensures sorted { IsInKeyOrder rank.now scratch.new.sorted }
     ensures room { Spends run.old run.new }
@@ -66,11 +64,10 @@ fn turn_unsettled(net: &Net, b: &[Tri], gate: u32, scratch: &mut Scratch, run: &
     requires circuit { IsCircuit net.now }
     requires b { IsState net.now b.now }
     requires gate { IsGateNumber net.now gate }
-    requires possible { (list : List Bool) × IsCandidate (gate_at net.now gate).kind
-        (at_wires net.now gate scratch.old.state) (unsettled_pins net.now b.now gate) (not (bit_at scratch.old.state gate)) list }
+    requires possible { CanTurn net.now gate (unsettled_pins net.now b.now gate) scratch.old.state }
     requires scratch { IsScratchFor net.now scratch.old }
-    requires room { (wires : List ℕ) → AreTurnWires net.now gate (unsettled_pins net.now b.now gate) scratch.old.state wires →
-        HasRoomFor (length wires + length (turn_flips net.now gate true (state_after wires scratch.old.state))) run.old }
+    requires room { HasRoomForTurn net.now gate (unsettled_pins net.now b.now gate) true
+        scratch.old.state run.old }
     ensures turn { IsTurn net.now gate (unsettled_pins net.now b.now gate) true
         scratch.old.state scratch.new.state run.old.steps run.new.steps }
     ensures marked { scratch.new.marked ≡ [] }

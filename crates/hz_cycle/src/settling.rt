@@ -79,17 +79,21 @@ pub fn settle_run(
 pub fn settle_from(change: &Change, results: &Results, scratch: &mut Scratch, run: &mut Run)
     requires change { AreResultsOfBoth change.now.net.now change.now.start.now change.now.input.now
         results.now.a.now results.now.ranks.now results.now.b.now results.now.when.now }
-    requires begun { IsSparingRun (network_of change.now.net.now) change.now.input.now change.now.start.now
+    requires begun { IsSparingRun (network_of change.now.net.now)
+        change.now.input.now change.now.start.now
         results.now.a.now results.now.ranks.now run.old.steps }
     requires state { scratch.old.state ≡ end_of change.now.start.now run.old.steps }
     requires none_marked { scratch.old.marked ≡ [] }
     requires sorted { IsInKeyOrder results.now.ranks.now scratch.old.sorted }
-    requires room_for_flips { 2 * length (network_of change.now.net.now) ≤ run.old.spare_flips + flip_count run.old.steps }
-    requires room_for_steps { 2 * length (network_of change.now.net.now) ≤ run.old.spare_steps + length run.old.steps }
-    ensures run { IsSettleRun (network_of change.now.net.now) change.now.input.now change.now.start.now
+    requires room_for_flips { 2 * length (network_of change.now.net.now) ≤
+        run.old.spare_flips + flip_count run.old.steps }
+    requires room_for_steps { 2 * length (network_of change.now.net.now) ≤
+        run.old.spare_steps + length run.old.steps }
+    ensures run { IsSettleRun (network_of change.now.net.now)
+        change.now.input.now change.now.start.now
         results.now.a.now results.now.b.now run.new.steps }
-    ensures turned { IsTurned (network_of change.now.net.now) results.now.ranks.now results.now.b.now
-        scratch.new.state }
+    ensures turned { IsTurned (network_of change.now.net.now)
+        results.now.ranks.now results.now.b.now scratch.new.state }
     ensures state { scratch.new.state ≡ end_of change.now.start.now run.new.steps }
     ensures marked { scratch.new.marked ≡ [] }
     ensures sorted { IsInKeyOrder results.now.ranks.now scratch.new.sorted }
@@ -107,9 +111,11 @@ fn settle_rounds(when: &[u32], b: &[Tri], scratch: &mut Scratch, run: &mut Run)
     requires when { length when.now ≡ length scratch.old.state }
     requires b { length b.now ≡ length scratch.old.state }
     requires none_marked { scratch.old.marked ≡ [] }
-    requires rounds { (net : List Driver) × (input : List Bool) × (a : List Tri) × AreRoundsOf net input a when.now b.now scratch.old.state }
+    requires rounds { (net : List Driver) × (input : List Bool) × (a : List Tri) ×
+        AreRoundsOf net input a when.now b.now scratch.old.state }
     requires room { HasRoomFor (length when.now) run.old }
-    ensures rounds { AreRoundsMade when.now b.now scratch.old.state run.old.steps run.new.steps scratch.new.state }
+    ensures rounds { AreRoundsMade when.now b.now
+        scratch.old.state run.old.steps run.new.steps scratch.new.state }
     ensures marked { scratch.new.marked ≡ [] }
     ensures sorted { scratch.new.sorted ≡ scratch.old.sorted }
     ensures room { Spends run.old run.new }
@@ -130,7 +136,8 @@ fn mark_round(when: &[u32], b: &[Tri], from: usize, scratch: &mut Scratch) -> us
     requires from { from < length scratch.old.by_round }
     requires none_marked { scratch.old.marked ≡ [] }
     ensures round { IsOneRound when.now scratch.old.by_round from result }
-    ensures marked { scratch.new.marked ≡ differing_variables b.now scratch.old.state (slice_range scratch.old.by_round from result) }
+    ensures marked { scratch.new.marked ≡
+        differing_variables b.now scratch.old.state (slice_range scratch.old.by_round from result) }
     ensures state { scratch.new.state ≡ scratch.old.state }
     ensures by_round { scratch.new.by_round ≡ scratch.old.by_round }
     ensures sorted { scratch.new.sorted ≡ scratch.old.sorted }

@@ -1,18 +1,9 @@
 -- Algorithm A is exact, and every change has a spread run: from a stable start there is one, and so each X of the result has
 -- both values in states that are reached.
-use Rattle.std.proofs.Common.{◌≡◌, ℕ, ◌<◌, Bool, true, false, not, List, [], length, refl, ap, ◌∙◌, subst, arith, cond, eqb, IsTrue}
-use Rattle.std.specs.Prelude.{◌%◌}
-use Rattle.hz_core.specs.declared.tri.Tri.{Tri}
-use Rattle.hz_core.specs.declared.tri.Tri.TheVariants.{Zero, One, Unknown}
-use Rattle.hz_core.specs.Ternary.{admits, IsJoinOf, Refines}
-use Rattle.hz_core.specs.Netlist.{Netlist, IsCircuit}
-use Rattle.hz_core.proofs.Refinements.{get_or-Refines}
-use Rattle.hz_net.specs.Network.{Driver, network_of, bit_at, value_at, IsStable}
-use Rattle.hz_net.specs.Passes.{algorithm_a, AreRounds}
-use Rattle.hz_net.proofs.Wired.{wired-network_of}
-use Rattle.hz_gmw.specs.Runs.{end_of, IsReachable, JoinsTo}
-use Rattle.hz_reach.specs.Existence.{AIsExact, SpreadRunExists, SparingRunExists}
-use Rattle.hz_reach.specs.Spread.{IsSpreadRun}
+use Rattle.std.proofs.Common.{◌≡◌, ℕ, ◌<◌, Bool, true, false, not, List, [], length, refl, ap, ◌∙◌, subst, arith, cond, eqb, IsTrue, ◌%◌}
+use Rattle.hz_reach.proofs.Words.{Tri, Zero, One, Unknown, admits, IsJoinOf, Refines, Netlist, IsCircuit, get_or-Refines, Driver, network_of, bit_at}
+use Rattle.hz_reach.proofs.Words.{value_at, IsStable, algorithm_a, AreRounds, wired-network_of, end_of, SparingRunExists, IsSpreadRun, IsReachable, JoinsTo}
+use Rattle.hz_reach.proofs.Words.{AIsExact, SpreadRunExists}
 use Rattle.hz_reach.proofs.RanksOrderGates.{AreTurns, ranked-turns, turns-of}
 use Rattle.hz_reach.proofs.SpreadSteps.{turns-made, sparing-run, whole-run}
 use Rattle.hz_reach.proofs.FlipCounts.{ends_by_changes}

@@ -1,18 +1,12 @@
 -- A node's fan-out ascends, so the gate and those of its fan-out that pass a test may be marked one after the other.
-use Rattle.std.proofs.Common.{◌≡◌, ℕ, suc, ◌<◌, Bool, true, eqb, List, [], ◌∷◌, length, get_or, take, refl, arith, inl, inr}
-use Rattle.std.specs.List.{filter}
-use Rattle.std.proofs.lemmas.Bool.{cases_Bool, or_cases, or_left, or_right, eqb-true, eq-eqb, false_from_ne_true}
+use Rattle.std.proofs.Common.{◌≡◌, ℕ, suc, ◌<◌, Bool, true, eqb, List, [], ◌∷◌, length, get_or, take, refl, arith, inl, inr, filter}
+use Rattle.hz_reach.proofs.Words.{listed-above, at-least, listed-before, cases_Bool, or_cases, or_left, or_right, false_from_ne_true, Netlist, IsCircuit}
+use Rattle.hz_reach.proofs.Words.{differs, network_of, bit_at, fan_out_of, length-network_of, is_listed, turn_flips, Ascends, ascends-lower, ascends-filter}
+use Rattle.hz_reach.proofs.Words.{ascends-once, filtered-is, is-filtered, Wire, wires_of, readers_from}
+use Rattle.std.proofs.lemmas.Bool.{eqb-true, eq-eqb}
 use Rattle.std.proofs.lemmas.Grind.{get_or_default_zero}
-use Rattle.hz_core.specs.Netlist.{Netlist, IsCircuit}
-use Rattle.hz_core.specs.Pattern.{differs}
-use Rattle.hz_net.specs.Network.{Wire, wires_of, network_of, bit_at}
-use Rattle.hz_net.specs.Variables.{readers_from, fan_out_of}
-use Rattle.hz_net.proofs.Places.{length-network_of}
 use Rattle.hz_net.proofs.Wires.{IsWireFrom, IsWireFrom-fan_out_of}
-use Rattle.hz_lists.specs.Listed.{is_listed}
 use Rattle.hz_gmw.proofs.DriverLemmas.{fan-driver, driver-fan}
-use Rattle.hz_reach.specs.Turn.{turn_flips}
-use Rattle.hz_lists.proofs.ListedLemmas.{Ascends, ascends-lower, ascends-filter, listed-above, ascends-once, at-least, listed-before, filtered-is, is-filtered}
 use Rattle.hz_reach.proofs.FilteredRangeLemmas.{differs-true, true-differs}
 use Rattle.hz_reach.proofs.GateTurn.{IsWithFanOut}
 

@@ -1,13 +1,9 @@
 -- The variables that pass a test: which they are, that none comes twice, and how they are marked one after the other.
-use Rattle.std.proofs.Common.{◌≡◌, ◌≢◌, ℕ, zero, suc, ◌+◌, ◌<◌, Bool, true, false, cond, List, [], ◌∷◌, ◌++◌, length, refl, sym, ap, ◌∙◌, subst, arith, inl, inr, eqb, length-append, append-nil, add-one}
-use Rattle.std.specs.List.{filter, range_with_len}
-use Rattle.std.proofs.lemmas.List.Elements.{filter-append}
-use Rattle.std.proofs.lemmas.List.FromFn.{length-range_with_len, get_or-range_with_len}
-use Rattle.std.proofs.lemmas.Bool.{or_cases, eqb-true, eq-eqb, or_left, false_from_ne_true}
-use Rattle.hz_core.specs.Pattern.{differs}
-use Rattle.hz_lists.specs.Listed.{is_listed, IsRepeatFree}
-use Rattle.hz_lists.proofs.ListedLemmas.{Contains-listed, listed-Contains, listed-cases, is_repeat_free-append, is_repeat_free-bound, Ascends, ascends-lower, ascends-filter, ascends-once, filtered-is, is-filtered}
-use Rattle.hz_reach.specs.FilteredRange.{filtered_range}
+use Rattle.std.proofs.Common.{◌≡◌, ◌≢◌, ℕ, zero, suc, ◌+◌, ◌<◌, Bool, true, false, cond, List, [], ◌∷◌, ◌++◌, length, refl, sym, ap, ◌∙◌, subst, arith, inl, inr, eqb, length-append, append-nil, add-one, filter}
+use Rattle.hz_reach.proofs.Words.{range_with_len, filter-append, length-range_with_len, or_cases, or_left, false_from_ne_true, differs, is_listed}
+use Rattle.hz_reach.proofs.Words.{IsRepeatFree, Contains-listed, listed-Contains, filtered_range, listed-cases, is_repeat_free-append, is_repeat_free-bound}
+use Rattle.hz_reach.proofs.Words.{Ascends, ascends-lower, ascends-filter, ascends-once, filtered-is, is-filtered, get_or-range_with_len}
+use Rattle.std.proofs.lemmas.Bool.{eqb-true, eq-eqb}
 
 -- a list of one
 pub only-one : (x i : ℕ) → i ≡ x → is_listed (x ∷ []) i ≡ true

@@ -1,26 +1,16 @@
 -- How many flips a run has, by how often it changes each variable, and the state in which it ends.
-use Rattle.std.proofs.Common.{◌≡◌, ◌≢◌, ℕ, ◌+◌, ◌*◌, ◌<◌, ◌≤◌, Bool, true, false, not, cond, List, [], ◌∷◌, length, map, get_or, refl, sym, ap, ◌∙◌, subst, arith, inl, inr, eqb}
-use Rattle.std.specs.Prelude.{sum, sum_by, ◌%◌}
-use Rattle.std.specs.List.{range_with_len}
-use Rattle.std.proofs.lemmas.Bool.{cases_eq, ne_eqb, eq-eqb}
-use Rattle.std.proofs.lemmas.List.Sums.{sum_by-cons, sum_by-le, sum_by-le-sum_by, sum-map}
-use Rattle.std.proofs.lemmas.List.{ext_get_or, length-map, get_or-map}
-use Rattle.std.proofs.lemmas.List.FromFn.{length-range_with_len, length-map-range_with_len, get_or-map-range_with_len}
+use Rattle.std.proofs.Common.{◌≡◌, ◌≢◌, ℕ, ◌+◌, ◌*◌, ◌<◌, ◌≤◌, Bool, true, false, not, cond, List, [], ◌∷◌, length, map, get_or, refl, sym, ap, ◌∙◌, subst, arith, inl, inr, eqb, sum, sum_by, ◌%◌}
+use Rattle.hz_reach.proofs.Words.{range_with_len, cases_eq, sum_by-cons, sum_by-le-sum_by, length-map, get_or-map, length-range_with_len}
+use Rattle.hz_reach.proofs.Words.{length-map-range_with_len, get_or-map-range_with_len, Tri, Zero, One, Unknown, is_unknown, unknown_count, bit_at}
+use Rattle.hz_reach.proofs.Words.{value_at, IsKnown, IsUnknown, is_listed, IsRepeatFree, state_after, length-state_after, at-state_after, changes_in}
+use Rattle.hz_reach.proofs.Words.{listed-at, sum_by-le, sum-map}
+use Rattle.std.proofs.lemmas.Bool.{ne_eqb, eq-eqb}
+use Rattle.std.proofs.lemmas.List.{ext_get_or}
 use Rattle.std.proofs.lemmas.Grind.{get_or_default_zero}
 use Rattle.std.proofs.Math.Bool.{not-not}
 use Rattle.std.proofs.Math.Nat.{mul-add, mul_comm, mul-suc, mul-zero}
-use Rattle.hz_core.specs.declared.tri.Tri.{Tri}
-use Rattle.hz_core.specs.declared.tri.Tri.TheVariants.{Zero, One, Unknown}
-use Rattle.hz_core.specs.Ternary.{is_unknown, unknown_count}
-use Rattle.hz_net.specs.Network.{bit_at, value_at}
-use Rattle.hz_net.specs.Passes.{IsKnown, IsUnknown}
-use Rattle.hz_lists.specs.Listed.{is_listed, IsRepeatFree}
-use Rattle.hz_gmw.specs.Runs.{state_after}
 use Rattle.hz_gmw.proofs.Counting.{list-same, list-turned, range-listed}
 use Rattle.hz_gmw.proofs.Counts.{nothing, zeros}
-use Rattle.hz_gmw.proofs.Flips.{length-state_after, at-state_after}
-use Rattle.hz_reach.specs.Spread.{changes_in}
-use Rattle.hz_lists.proofs.ListedLemmas.{listed-at}
 use Rattle.hz_reach.specs.Counts.{FlipsAreChanges, StepsAreNoMoreThanFlips, FlipsPerVariable, FlipsPerUnknown, FlipsOfSpreadRun, EndsByChanges}
 
 -- Sums

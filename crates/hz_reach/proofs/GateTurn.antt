@@ -1,29 +1,14 @@
 -- A gate's turn: the wires that set its pattern, and then the gate with what goes along, are two steps of a run.
-use Rattle.std.proofs.Common.{◌≡◌, ℕ, ◌+◌, ◌<◌, Bool, false, List, length, sym, ◌∙◌, arith, inl, inr, ◌≢◌, ◌-◌, ◌≤◌, ◌⊎◌, true, not, cond, [], ◌∷◌, get_or, refl, ap, subst}
-use Rattle.std.specs.Prelude.{slice_range}
-use Rattle.std.proofs.lemmas.Bool.{cases_lt, both_ways, false_from_ne_true}
-use Rattle.std.proofs.lemmas.List.{get_or_past, ext_get_or}
-use Rattle.hz_net.specs.Network.{Driver, External, Source, driver_at, bit_at, Function, driver_value, excitation, network_of, IsUnstable}
-use Rattle.hz_lists.proofs.PartLemmas.{length-part, at-part}
-use Rattle.hz_core.specs.declared.kind.Kind.{Kind}
-use Rattle.hz_core.specs.Gate.{gate_value}
-use Rattle.hz_core.specs.Netlist.{Netlist, IsCircuit, IsGateNumber}
-use Rattle.hz_core.specs.Pattern.{differs, IsCandidate}
+use Rattle.std.proofs.Common.{◌≡◌, ℕ, ◌+◌, ◌<◌, Bool, false, List, length, sym, ◌∙◌, arith, inl, inr, ◌≢◌, ◌-◌, ◌≤◌, ◌⊎◌, true, not, cond, [], ◌∷◌, get_or, refl, ap, subst, slice_range}
+use Rattle.hz_reach.proofs.Words.{cases_lt, both_ways, false_from_ne_true, get_or_past, Driver, External, Source, driver_at, bit_at, Function, driver_value}
+use Rattle.hz_reach.proofs.Words.{excitation, network_of, IsUnstable, length-part, at-part, Kind, gate_value, Netlist, IsCircuit, IsGateNumber, differs}
+use Rattle.hz_reach.proofs.Words.{IsCandidate, length-network_of, driver_at-input, driver_at-gate, driver_at-wire, IsWireInto, IsWired, is_listed}
+use Rattle.hz_reach.proofs.Words.{IsRepeatFree, IsStep, IsRun, state_after, end_of, length-state_after, at-state_after, with_step_if_any, is_gate_in}
+use Rattle.hz_reach.proofs.Words.{changed_wires, Tri, Zero, One, Unknown, is_unknown, IsKnown, IsUnknown, is_gate_of}
+use Rattle.std.proofs.lemmas.List.{ext_get_or}
 use Rattle.hz_core.proofs.Patterns.{free-changed}
-use Rattle.hz_net.proofs.Places.{length-network_of, driver_at-input, driver_at-gate, driver_at-wire}
-use Rattle.hz_net.specs.Reads.{IsWireInto, IsWired}
-use Rattle.hz_net.proofs.Wired.{is_gate_of}
-use Rattle.hz_lists.specs.Listed.{is_listed, IsRepeatFree}
-use Rattle.hz_gmw.specs.Runs.{IsStep, IsRun, state_after, end_of}
-use Rattle.hz_gmw.proofs.Flips.{length-state_after, at-state_after}
-use Rattle.hz_reach.specs.Room.{with_step_if_any}
-use Rattle.hz_reach.specs.Turn.{is_gate_in, changed_wires}
 use Rattle.hz_reach.proofs.FilteredRangeLemmas.{filtered_range-is, is-filtered_range, filtered_range-once, differs-true, true-differs, only-one, is-one}
 use Rattle.hz_reach.proofs.Room.{end_of-after, run-after}
-use Rattle.hz_core.specs.declared.tri.Tri.{Tri}
-use Rattle.hz_core.specs.declared.tri.Tri.TheVariants.{Zero, One, Unknown}
-use Rattle.hz_core.specs.Ternary.{is_unknown}
-use Rattle.hz_net.specs.Passes.{IsKnown, IsUnknown}
 
 -- what is driven by a node is a variable
 pub driver-inside : (net : List Driver) (i source : ℕ) → driver_at net i ≡ Source source → i < length net

@@ -1,3 +1,5 @@
+-- The names that most proofs cite, passed on from one place
+pub mod Words
 -- The variables that pass a test: which they are, that none comes twice, and how they are marked one after the other
 pub mod FilteredRangeLemmas
 -- What the ranks of Algorithm A say of a stable start: which inputs turn, and that what a wire or a gate needs in order to turn has a lesser rank

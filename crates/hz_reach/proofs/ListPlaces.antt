@@ -1,8 +1,6 @@
 -- Variables in a list, by their places.
 use Rattle.std.proofs.Common.{◌≢◌, ℕ, ◌<◌, List, length, arith, inl, inr}
-use Rattle.std.proofs.lemmas.Bool.{cases_lt}
-use Rattle.std.proofs.lemmas.List.{get_or_past}
-use Rattle.hz_reach.specs.Order.{key_at}
+use Rattle.hz_reach.proofs.Words.{cases_lt, get_or_past, key_at}
 
 -- what has a key is a variable
 pub key-inside : (keys : List ℕ) (i : ℕ) → key_at keys i ≢ 0 → i < length keys

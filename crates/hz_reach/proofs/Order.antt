@@ -1,16 +1,12 @@
 -- Turns in the order of a key: who has had one and whose comes next, and that they keep what each turn keeps.
-use Rattle.std.proofs.Common.{◌≡◌, ◌≢◌, ℕ, zero, suc, ◌+◌, ◌<◌, ◌≤◌, ◌⊎◌, ◌&&◌, ◌||◌, Bool, true, false, List, [], ◌∷◌, ◌++◌, length, get_or, take, refl, sym, ap, ◌∙◌, subst, arith, inl, inr, eqb}
+use Rattle.std.proofs.Common.{◌≡◌, ◌≢◌, ℕ, zero, suc, ◌+◌, ◌<◌, ◌≤◌, ◌⊎◌, ◌&&◌, ◌||◌, Bool, true, false, List, [], ◌∷◌, ◌++◌, length, get_or, take, refl, sym, ap, ◌∙◌, subst, arith, inl, inr, eqb, sum_by}
+use Rattle.hz_reach.proofs.Words.{cases_eq, cases_lt, cases_order, both_ways, and_parts, and_from, or_right, false_from_ne_true, get_or-le-sum_by}
+use Rattle.hz_reach.proofs.Words.{is_listed, key_at, IsEarlier, IsInKeyOrder, IsBefore, AreBefore, listed-at, listed-place}
+use Rattle.std.proofs.lemmas.Bool.{eqb-true, eq-eqb, ne_eqb}
 use Rattle.std.proofs.Math.Path.{fun_ext}
-use Rattle.std.specs.Prelude.{sum_by}
-use Rattle.std.proofs.lemmas.Bool.{cases_eq, cases_lt, cases_order, both_ways, and_parts, and_from, or_right, eqb-true, eq-eqb, ne_eqb, false_from_ne_true}
 use Rattle.std.proofs.lemmas.List.{take_all, length-take, get_or-take}
 use Rattle.std.proofs.lemmas.List.Folds.{list_any_more}
-use Rattle.std.proofs.lemmas.List.Sums.{get_or-le-sum_by}
-use Rattle.hz_lists.specs.Listed.{is_listed}
-use Rattle.hz_reach.specs.Order.{key_at, IsEarlier, IsInKeyOrder}
-use Rattle.hz_reach.specs.Linked.{AreBefore}
 use Rattle.hz_reach.proofs.Links.{before-more}
-use Rattle.hz_lists.proofs.ListedLemmas.{listed-at, listed-place}
 use Rattle.hz_reach.proofs.ListPlaces.{key-inside}
 
 -- The order by a key and then by number
@@ -159,34 +155,30 @@ module _ {keys order : List ℕ} (sorted : IsInKeyOrder keys order) (turning : �
 
 -- There is such an order
 
+-- two bounds that let the same variables through
+same-before :
+    {keys list : List ℕ} {key from later to : ℕ} → ((i : ℕ) → key_at keys i ≢ 0 → IsBefore keys key from i → IsBefore keys later to i) →
+    ((i : ℕ) → key_at keys i ≢ 0 → IsBefore keys later to i → IsBefore keys key from i) → AreBefore keys key from list → AreBefore keys later to list
+same-before there back before = record {
+  keyed = λ i. ((λ is. let was = (before.keyed i).0 is in (was.0, there i was.0 was.1)), (λ is. (before.keyed i).1 (is.0, back i is.0 is.1)));
+  ordered = before.ordered;
+}
+
 ordered-to : (keys : List ℕ) (key from : ℕ) → (list : List ℕ) × AreBefore keys (suc key) from list
 ordered-to keys zero zero = (
   [],
   record {
-    keyed = λ i. (
-      (λ there. absurd (both_ways false refl there)),
-      (λ is. elim is.1 [ inl less ↦ absurd (is.0 (omega (arith, less))) | inr same ↦ absurd (omega (arith, same.1)) ]),
-    );
+    keyed = λ i. ((λ there. absurd (both_ways false refl there)), (λ is. elim is.1 [ inl less ↦ absurd (is.0 (omega (arith, less))) | inr same ↦ absurd (omega (arith, same.1)) ]));
     ordered = λ j k less inside. absurd (omega (arith, inside));
   },
 )
 ordered-to keys (suc key) zero =
-    let before = ordered-to keys key (length keys) in (
-      before.0,
-      record {
-        keyed = λ i. (
-          (λ there. let is = (before.1.keyed i).0 there in (is.0, inl (elim is.1 [ inl less ↦ omega (arith, less) | inr same ↦ omega (arith, same.0) ]))),
-          (λ is. (before.1.keyed i).1 (
-            is.0,
-            elim is.1 [
-              | inl less ↦ elim (cases_eq (key_at keys i) (suc key)) [ inl same ↦ inr (same, key-inside keys i is.0) | inr other ↦ inl (omega (arith, less, other)) ]
-              | inr same ↦ absurd (omega (arith, same.1))
-            ],
-          )),
-        );
-        ordered = before.1.ordered;
-      },
-    )
+    let before = ordered-to keys key (length keys) in
+    (before.0, same-before {from = length keys} (λ i some is. inl (elim is [ inl less ↦ omega (arith, less) | inr same ↦ omega (arith, same.0) ])) back before.1)
+  where
+    back : (i : ℕ) → key_at keys i ≢ 0 → IsBefore keys (suc (suc key)) 0 i → IsBefore keys (suc key) (length keys) i
+    back i some (inl less) = elim (cases_eq (key_at keys i) (suc key)) [ inl same ↦ inr (same, key-inside keys i some) | inr other ↦ inl (omega (arith, less, other)) ]
+    back i some (inr same) = absurd (omega (arith, same.1))
 ordered-to keys key (suc from) =
     let before = ordered-to keys key from in
     elim (cases_eq (key_at keys from) (suc key)) [
@@ -196,26 +188,15 @@ ordered-to keys key (suc from) =
             (record { at_least = omega arith; within = omega (arith, key-inside keys from (some here)); skips = λ i above below same. omega (arith, above, below); has = λ inside. here })
             (key-inside keys from (some here)),
       )
-      | inr other ↦ (
-        before.0,
-        record {
-          keyed = λ i. (
-            (λ there. let is = (before.1.keyed i).0 there in (is.0, elim is.1 [ inl less ↦ inl less | inr same ↦ inr (same.0, omega (arith, same.1)) ])),
-            (λ is. (before.1.keyed i).1 (
-              is.0,
-              elim is.1 [
-                | inl less ↦ inl less
-                | inr same ↦ inr (same.0, elim (cases_eq i from) [ inl this ↦ absurd (other (ap (key_at keys) (sym this) ∙ same.0)) | inr away ↦ omega (arith, same.1, away) ])
-              ],
-            )),
-          );
-          ordered = before.1.ordered;
-        },
-      )
+      | inr other ↦ (before.0, same-before {from = from} (λ i keyed is. elim is [ inl less ↦ inl less | inr same ↦ inr (same.0, omega (arith, same.1)) ]) (back other) before.1)
     ]
   where
     some : {n : ℕ} → n ≡ suc key → n ≢ 0
     some is none = omega (arith, is, none)
+
+    back : key_at keys from ≢ suc key → (i : ℕ) → key_at keys i ≢ 0 → IsBefore keys (suc key) (suc from) i → IsBefore keys (suc key) from i
+    back other i keyed (inl less) = inl less
+    back other i keyed (inr same) = inr (same.0, elim (cases_eq i from) [ inl this ↦ absurd (other (ap (key_at keys) (sym this) ∙ same.0)) | inr away ↦ omega (arith, same.1, away) ])
 
 pub order-found : (keys : List ℕ) → (list : List ℕ) × IsInKeyOrder keys list
 order-found keys =

@@ -1,27 +1,13 @@
 -- What the ranks of Algorithm A say of a stable start: which inputs turn, and that what a wire or a gate needs in order to
 -- turn has a lesser rank.
-use Rattle.std.proofs.Common.{◌≡◌, ◌≢◌, ℕ, ◌+◌, ◌<◌, Bool, not, List, length, suc, ◌≤◌, true, false, take, refl, sym, ap, ◌∙◌, subst, arith, inl, inr, IsTrue}
-use Rattle.hz_core.specs.declared.tri.Tri.{Tri}
-use Rattle.hz_core.specs.declared.kind.Kind.{Kind}
-use Rattle.hz_core.specs.Gate.{gate_value}
-use Rattle.hz_net.specs.Network.{Driver, External, Function, Source, driver_at, bit_at, value_at, driver_value, driver_value3, IsStable, network_of}
-use Rattle.hz_net.specs.Reads.{IsWired, IsWireInto}
-use Rattle.hz_net.specs.Passes.{IsUnknown, algorithm_a, AreRounds, IsFirstRound, IsResult, IsRank, AreRanks}
-use Rattle.hz_net.specs.Starts.{IsStableStart}
-use Rattle.hz_reach.specs.Given.{AreResultsOfA}
-use Rattle.hz_reach.specs.Order.{key_at}
-use Rattle.std.specs.Prelude.{slice_range}
-use Rattle.std.proofs.lemmas.Bool.{cases_lt}
-use Rattle.std.proofs.lemmas.List.{get_or_past}
-use Rattle.hz_core.specs.declared.tri.Tri.TheVariants.{Zero, One, Unknown}
-use Rattle.hz_core.specs.Netlist.{Netlist, IsCircuit}
-use Rattle.hz_core.specs.Ternary.{tri_of, admits, join_of, IsJoinOf}
-use Rattle.hz_core.specs.Extension.{extension, IsValueOver}
-use Rattle.hz_core.proofs.Refinements.{known-admits, length-Refines, get_or-Refines}
+use Rattle.std.proofs.Common.{◌≡◌, ◌≢◌, ℕ, ◌+◌, ◌<◌, Bool, not, List, length, suc, ◌≤◌, true, false, take, refl, sym, ap, ◌∙◌, subst, arith, inl, inr}
+use Rattle.std.proofs.Common.{IsTrue, slice_range}
+use Rattle.hz_reach.proofs.Words.{Tri, Kind, gate_value, Driver, External, Function, Source, driver_at, bit_at, value_at, driver_value, driver_value3}
+use Rattle.hz_reach.proofs.Words.{IsStable, network_of, IsWired, IsWireInto, IsUnknown, algorithm_a, AreRounds, IsFirstRound, IsResult, IsRank, AreRanks}
+use Rattle.hz_reach.proofs.Words.{IsStableStart, AreResultsOfA, key_at, cases_lt, get_or_past, Zero, One, Unknown, Netlist, IsCircuit, tri_of, admits}
+use Rattle.hz_reach.proofs.Words.{IsJoinOf, extension, length-Refines, get_or-Refines, wired-network_of, length-part, at-part, length-algorithm_a, join_of}
+use Rattle.hz_reach.proofs.Words.{IsValueOver, known-admits}
 use Rattle.hz_core.proofs.Extensions.{IsExtension-extension}
-use Rattle.hz_net.proofs.Wired.{wired-network_of}
-use Rattle.hz_lists.proofs.PartLemmas.{length-part, at-part}
-use Rattle.hz_net.proofs.Sequences.{length-algorithm_a}
 use Rattle.hz_net.proofs.Ranks.{unknown-later, unknown-or-start, one-round, at-tri_of, turns-before-rank}
 use Rattle.hz_reach.proofs.GateTurn.{driver-inside, not-itself}
 use Rattle.hz_reach.proofs.ListPlaces.{key-inside}

@@ -1,15 +1,10 @@
 -- Where the sequences of the passes come to rest, and their ranks and settling rounds.
 use Rattle.std.proofs.Common.{◌≡◌, ◌≢◌, ℕ, zero, suc, ◌+◌, ◌-◌, ◌<◌, ◌≤◌, ◌⊎◌, Bool, List, length, get_or, map, refl, sym, ap, ◌∙◌, subst, arith, inl, inr}
-use Rattle.std.specs.List.{range_with_len}
-use Rattle.std.proofs.lemmas.Bool.{cases_eq}
-use Rattle.std.proofs.lemmas.List.FromFn.{length-map-range_with_len, get_or-map-range_with_len}
-use Rattle.hz_core.specs.declared.tri.Tri.{Tri}
-use Rattle.hz_core.specs.declared.tri.Tri.TheVariants.{Zero, One, Unknown}
-use Rattle.hz_core.specs.Ternary.{unknown_count, AllBelow}
-use Rattle.hz_net.specs.Network.{Driver, value_at}
-use Rattle.hz_net.specs.Passes.{excitations, algorithm_a, algorithm_b, IsKnown, IsUnknown, AreRounds, IsResult, IsFirstRound, IsRank, AreRanks, IsSettlingRound}
-use Rattle.hz_net.proofs.Sequences.{unknown_count-le-length, same-or-more, length-algorithm_a, AllBelow-algorithm_a, AllBelow-closed, closed-result, AllBelow-algorithm_b}
-use Rattle.hz_reach.specs.Existence.{ResultOfAExists, ResultOfBExists, RoundsOfAAreFew, RoundsOfBAreFew, RanksExist, SettlingRoundsExist}
+use Rattle.hz_reach.proofs.Words.{range_with_len, cases_eq, length-map-range_with_len, get_or-map-range_with_len, Tri, Zero, One, Unknown, unknown_count}
+use Rattle.hz_reach.proofs.Words.{AllBelow, Driver, value_at, excitations, algorithm_a, algorithm_b, IsKnown, IsUnknown, AreRounds, IsResult, IsFirstRound}
+use Rattle.hz_reach.proofs.Words.{IsRank, AreRanks, IsSettlingRound, length-algorithm_a, AllBelow-closed, closed-result, AllBelow-algorithm_b}
+use Rattle.hz_reach.proofs.Words.{ResultOfAExists, ResultOfBExists, RanksExist, SettlingRoundsExist, unknown_count-le-length, same-or-more}
+use Rattle.hz_reach.proofs.Words.{AllBelow-algorithm_a, RoundsOfAAreFew, RoundsOfBAreFew}
 use Rattle.hz_reach.proofs.GateTurn.{either-value}
 
 -- Rounds

@@ -1,12 +1,7 @@
 -- One more step of a run, and the room that a run takes: since no step is empty, room for its flips is room for its steps.
 use Rattle.std.proofs.Common.{◌≡◌, ◌≢◌, ℕ, ◌+◌, ◌≤◌, Bool, List, [], ◌∷◌, ◌++◌, length, refl, ap, ◌∙◌, arith, append_assoc, length-append, sym}
-use Rattle.std.proofs.lemmas.List.Sums.{sum_by-append, sum_by_push}
-use Rattle.hz_net.specs.Network.{Driver}
-use Rattle.hz_gmw.specs.Runs.{state_after, IsStep, IsRun, end_of}
-use Rattle.hz_gmw.specs.RunRecord.{RunRecord, flip_count}
-use Rattle.hz_gmw.proofs.Paths.{end_of-append, IsRun-append}
-use Rattle.hz_reach.specs.Room.{with_step_if_any, Spends, HasRoomForStep, HasRoomFor}
-use Rattle.hz_gmw.proofs.Flips.{state_after-none}
+use Rattle.hz_reach.proofs.Words.{sum_by-append, sum_by_push, Driver, state_after, IsStep, IsRun, end_of, RunRecord, flip_count, end_of-append}
+use Rattle.hz_reach.proofs.Words.{IsRun-append, with_step_if_any, Spends, HasRoomForStep, HasRoomFor, state_after-none}
 use Rattle.hz_reach.proofs.FlipCounts.{steps_below_flips}
 
 -- one more step

@@ -1,25 +1,12 @@
 -- The spread run while it is made: what holds after each of its steps, and that each of its steps keeps it.
-use Rattle.std.proofs.Common.{◌≡◌, ◌≢◌, ℕ, ◌+◌, ◌<◌, ◌≤◌, ◌⊎◌, Bool, true, false, not, cond, ◌&&◌, List, [], ◌∷◌, ◌++◌, length, get_or, refl, sym, ap, ◌∙◌, subst, arith, inl, inr, append-nil, eqb, ltb}
-use Rattle.std.specs.Prelude.{slice_range, ◌%◌}
-use Rattle.std.specs.List.{concat}
-use Rattle.std.proofs.lemmas.Bool.{cases_Bool, both_ways, and_parts, and_from, or_cases, or_left, or_right, not-true, not_from_false, eqb-false, eqb-true, eq-eqb, ne_eqb, ltb-true, lt-ltb, false_from_ne_true}
-use Rattle.std.proofs.lemmas.List.{get_or-map}
+use Rattle.std.proofs.Common.{◌≡◌, ◌≢◌, ℕ, ◌+◌, ◌<◌, ◌≤◌, ◌⊎◌, Bool, true, false, not, cond, ◌&&◌, List, [], ◌∷◌, ◌++◌, length, get_or, refl, sym, ap, ◌∙◌, subst, arith, inl, inr, append-nil, eqb, ltb, slice_range, ◌%◌}
+use Rattle.hz_reach.proofs.Words.{unlisted-parts, is_repeat_free-apart, cases_Bool, both_ways, and_parts, and_from, or_cases, or_left, or_right, not-true}
+use Rattle.hz_reach.proofs.Words.{not_from_false, eqb-false, false_from_ne_true, get_or-map, Tri, Kind, IsCandidate, Driver, External, Function, Source}
+use Rattle.hz_reach.proofs.Words.{driver_at, bit_at, driver_value, IsWireInto, length-part, at-part, is_listed, IsRepeatFree, IsRun, state_after, end_of}
+use Rattle.hz_reach.proofs.Words.{flip_count, length-end_of, key_at, with_step_if_any, changes_in, is_gate_in, free_pins, listed-cases, listed-left}
+use Rattle.hz_reach.proofs.Words.{listed-right, is_repeat_free-append, is_repeat_free-right, IsNode, concat}
+use Rattle.std.proofs.lemmas.Bool.{eqb-true, eq-eqb, ne_eqb, ltb-true, lt-ltb}
 use Rattle.std.proofs.lemmas.List.Folds.{concat-append}
-use Rattle.hz_core.specs.declared.tri.Tri.{Tri}
-use Rattle.hz_core.specs.declared.kind.Kind.{Kind}
-use Rattle.hz_core.specs.Pattern.{IsCandidate}
-use Rattle.hz_net.specs.Network.{Driver, External, Function, Source, driver_at, bit_at, driver_value}
-use Rattle.hz_net.specs.Reads.{IsWireInto, IsNode}
-use Rattle.hz_lists.proofs.PartLemmas.{length-part, at-part}
-use Rattle.hz_lists.specs.Listed.{is_listed, IsRepeatFree}
-use Rattle.hz_gmw.specs.Runs.{IsRun, state_after, end_of}
-use Rattle.hz_gmw.specs.RunRecord.{flip_count}
-use Rattle.hz_gmw.proofs.CoverB.{length-end_of}
-use Rattle.hz_reach.specs.Order.{key_at}
-use Rattle.hz_reach.specs.Room.{with_step_if_any}
-use Rattle.hz_reach.specs.Spread.{changes_in}
-use Rattle.hz_reach.specs.Turn.{is_gate_in, free_pins}
-use Rattle.hz_lists.proofs.ListedLemmas.{listed-cases, listed-left, listed-right, unlisted-parts, is_repeat_free-append, is_repeat_free-right, is_repeat_free-apart}
 use Rattle.hz_reach.proofs.FlipCounts.{changes-more, flips_per_variable, ends_by_changes}
 use Rattle.hz_reach.proofs.FilteredRangeLemmas.{only-one, is-one}
 use Rattle.hz_reach.proofs.RanksOrderGates.{IsChangedAfter, AreTurns}

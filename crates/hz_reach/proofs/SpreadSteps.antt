@@ -1,25 +1,13 @@
 -- The spread run of a change: its steps have room, it ends as it should, and there is one.
 use Rattle.std.proofs.Common.{◌≡◌, ◌≢◌, ℕ, ◌+◌, ◌-◌, ◌<◌, ◌≤◌, Bool, true, false, not, ◌&&◌, List, [], ◌∷◌, ◌++◌, length, get_or, refl, sym, ap, ◌∙◌, subst, arith, inl, inr}
-use Rattle.std.proofs.lemmas.Bool.{cases_Bool, cases_lt, both_ways, and_parts, and_from, not-true, not_from_false, false_from_ne_true}
-use Rattle.hz_core.specs.declared.tri.Tri.{Tri}
-use Rattle.hz_core.specs.declared.tri.Tri.TheVariants.{Unknown}
-use Rattle.hz_core.specs.Ternary.{is_unknown}
-use Rattle.hz_core.specs.Netlist.{Netlist, IsCircuit, IsGateNumber, gate_at}
-use Rattle.hz_core.specs.Pattern.{differs, IsCandidate}
-use Rattle.hz_net.specs.Network.{Driver, External, Function, Source, driver_at, network_of, bit_at, value_at, driver_value}
-use Rattle.hz_net.specs.Variables.{first_wire, at_wires}
-use Rattle.hz_net.proofs.Places.{length-network_of, driver_at-input, driver_at-gate, driver_at-wire}
+use Rattle.hz_reach.proofs.Words.{cases_Bool, cases_lt, both_ways, and_parts, and_from, not-true, not_from_false, false_from_ne_true, Tri, Unknown}
+use Rattle.hz_reach.proofs.Words.{is_unknown, Netlist, IsCircuit, IsGateNumber, gate_at, differs, IsCandidate, Driver, External, Function, Source}
+use Rattle.hz_reach.proofs.Words.{driver_at, network_of, bit_at, value_at, driver_value, first_wire, at_wires, length-network_of, driver_at-input}
+use Rattle.hz_reach.proofs.Words.{driver_at-gate, driver_at-wire, is_listed, IsRepeatFree, IsRun, state_after, end_of, RunRecord, flip_count, AreResultsOfA}
+use Rattle.hz_reach.proofs.Words.{key_at, IsInKeyOrder, with_step_if_any, Spends, HasRoomFor, HasRoomForStep, ScratchState, IsSpreadRun, IsSparingRun}
+use Rattle.hz_reach.proofs.Words.{is_gate_in, changed_inputs, AreTurnWires, IsTurn, listed-cases, listed-left, listed-right, is_repeat_free-append}
+use Rattle.hz_reach.proofs.Words.{listed-at, IsEmptyRun, earlier_pins, unchanged_wires}
 use Rattle.hz_net.proofs.Wires.{IsWireFrom-driver_at}
-use Rattle.hz_lists.specs.Listed.{is_listed, IsRepeatFree}
-use Rattle.hz_gmw.specs.Runs.{IsRun, state_after, end_of}
-use Rattle.hz_gmw.specs.RunRecord.{RunRecord, flip_count}
-use Rattle.hz_reach.specs.Given.{AreResultsOfA, IsEmptyRun}
-use Rattle.hz_reach.specs.Order.{key_at, IsInKeyOrder}
-use Rattle.hz_reach.specs.Room.{with_step_if_any, Spends, HasRoomFor, HasRoomForStep}
-use Rattle.hz_reach.specs.ScratchState.{ScratchState}
-use Rattle.hz_reach.specs.Spread.{IsSpreadRun, IsSparingRun}
-use Rattle.hz_reach.specs.Turn.{is_gate_in, changed_inputs, earlier_pins, unchanged_wires, AreTurnWires, IsTurn}
-use Rattle.hz_lists.proofs.ListedLemmas.{listed-cases, listed-left, listed-right, is_repeat_free-append}
 use Rattle.hz_reach.proofs.FilteredRangeLemmas.{filtered_range-is, is-filtered_range, filtered_range-once, differs-true, true-differs}
 use Rattle.hz_reach.proofs.RanksOrderGates.{IsChangedAfter, AreTurns, turns-of}
 use Rattle.hz_reach.proofs.Order.{had_before, also, IsNext, all-had, after-turns, order-found}

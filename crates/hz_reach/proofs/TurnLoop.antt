@@ -1,19 +1,15 @@
 -- A loop over the places of an order: what holds at a place, and that a gate's turn, or none, leads to the next one.
 use Rattle.std.proofs.Common.{◌≡◌, ◌≢◌, ℕ, ◌+◌, ◌<◌, ◌≤◌, Bool, true, false, not, List, [], ◌++◌, length, get_or, sym, ap, ◌∙◌, subst, arith}
-use Rattle.hz_core.specs.Netlist.{Netlist, IsCircuit, IsGateNumber, gate_at}
-use Rattle.hz_core.specs.Pattern.{IsCandidate, IsPattern}
-use Rattle.hz_net.specs.Network.{bit_at, network_of}
-use Rattle.hz_net.specs.Variables.{first_wire, at_wires}
-use Rattle.hz_gmw.specs.Runs.{IsRun, state_after}
-use Rattle.hz_gmw.specs.RunRecord.{RunRecord, flip_count}
-use Rattle.hz_reach.specs.Order.{IsInKeyOrder}
-use Rattle.hz_reach.specs.Room.{with_step_if_any, Spends, HasRoomFor}
-use Rattle.hz_reach.specs.ScratchState.{ScratchState}
-use Rattle.hz_reach.specs.Turn.{AreTurnWires, changed_wires, turn_flips, turn_end, turn_steps, IsTurn}
-use Rattle.hz_lists.proofs.ListedLemmas.{listed-at}
+use Rattle.hz_reach.proofs.Words.{Netlist, IsCircuit, IsGateNumber, gate_at, IsCandidate, IsPattern, bit_at, network_of, first_wire, at_wires, IsRun}
+use Rattle.hz_reach.proofs.Words.{state_after, RunRecord, flip_count, IsInKeyOrder, with_step_if_any, Spends, HasRoomFor, ScratchState, AreTurnWires}
+use Rattle.hz_reach.proofs.Words.{changed_wires, turn_flips, turn_end, turn_steps, IsTurn, listed-at, CanTurn, HasRoomForTurn}
 use Rattle.hz_reach.proofs.ListPlaces.{key-inside}
 use Rattle.hz_reach.proofs.Order.{had_before, also, IsNext, place-next, turn-comes, none-comes, none-yet}
 use Rattle.hz_reach.proofs.Room.{steps-after, spends-more, flips-after, room-left}
+
+-- the variable at a place of an order that is read
+pub read : {list order : List ℕ} (place : ℕ) → list ≡ order → get_or list place 0 ≡ get_or order place 0
+read place same = ap (λ (list : List ℕ). get_or list place 0) same
 
 -- What turns in the order of a key keep of who has had a turn, the steps made and the state: a turn that comes next may be taken,
 -- and keeps it; the steps are a run, and have at most so many flips.
@@ -27,8 +23,7 @@ pub record AreTurnsThatKeep (netlist : Netlist) (keys : List ℕ) (turning : ℕ
   pub few : (had : ℕ → Bool) (made : List (List ℕ)) (state : List Bool) → Holds had made state → flip_count made ≤ most
   pub possible :
       (had : ℕ → Bool) (made : List (List ℕ)) (state : List Bool) (gate : ℕ) → Holds had made state → IsNext keys turning had gate →
-      IsGateNumber netlist gate →
-      (list : List Bool) × IsCandidate (gate_at netlist gate).kind (at_wires netlist gate state) (free gate) (not (bit_at state gate)) list
+      IsGateNumber netlist gate → CanTurn netlist gate (free gate) state
   pub kept :
       (had : ℕ → Bool) (made : List (List ℕ)) (state : List Bool) (gate : ℕ) (pattern : List Bool) → Holds had made state →
       IsNext keys turning had gate → IsGateNumber netlist gate →
@@ -97,7 +92,7 @@ module _ {netlist : Netlist} {keys : List ℕ} {turning : ℕ → Bool} {free : 
         next : IsNext keys turning (had_before turning scratch.sorted place) var
         next = subst (IsNext keys turning (had_before turning scratch.sorted place)) (sym here) (place-next at.sorted turning place inside (ap turning (sym here) ∙ comes))
 
-        pub at-possible : (list : List Bool) × IsCandidate (gate_at netlist var).kind (at_wires netlist var scratch.state) (free var) (not (bit_at scratch.state var)) list
+        pub at-possible : CanTurn netlist var (free var) scratch.state
         at-possible = at.turns.possible _ _ _ var at.holds next is_gate
 
         turned :
@@ -107,9 +102,7 @@ module _ {netlist : Netlist} {keys : List ℕ} {turning : ℕ → Bool} {free : 
             subst (λ (list : List ℕ). Holds (also (had_before turning scratch.sorted place) var) (turn_steps netlist var with_fan_out list scratch.state at.made) (turn_end netlist var with_fan_out list scratch.state)) (sym are.marks)
             (at.turns.kept _ _ _ var are.pattern at.holds next is_gate are.canonical)
 
-        pub at-room :
-            (wires : List ℕ) → AreTurnWires netlist var (free var) scratch.state wires →
-            HasRoomFor (length wires + length (turn_flips netlist var with_fan_out (state_after wires scratch.state))) now
+        pub at-room : HasRoomForTurn netlist var (free var) with_fan_out scratch.state now
         at-room wires are =
             let flips = turn_flips netlist var with_fan_out (state_after wires scratch.state) in
             let run = at.turns.run _ _ _ at.holds in

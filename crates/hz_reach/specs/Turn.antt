@@ -1,16 +1,17 @@
 -- A gate's turn, and which variables change in the other steps of the spread run.
-use Rattle.std.specs.Prelude.{◌≡◌, ℕ, ◌-◌, Bool, true, false, not, ◌&&◌, List, [], ◌∷◌, length, map, nat_lt, ◌==◌, if◌then◌else◌}
+use Rattle.std.specs.Prelude.{◌≡◌, ℕ, ◌+◌, ◌-◌, Bool, true, false, not, ◌&&◌, List, [], ◌∷◌, length, map, nat_lt, ◌==◌, if◌then◌else◌}
 use Rattle.std.specs.List.{filter}
 use Rattle.hz_core.specs.declared.tri.Tri.{Tri}
 use Rattle.hz_core.specs.Ternary.{is_unknown}
 use Rattle.hz_core.specs.Netlist.{Netlist, gate_at}
-use Rattle.hz_core.specs.Pattern.{differs, IsPattern}
+use Rattle.hz_core.specs.Pattern.{differs, IsCandidate, IsPattern}
 use Rattle.hz_net.specs.Network.{Driver, External, Function, Source, driver_at, bit_at, value_at, network_of}
 use Rattle.hz_net.specs.Variables.{first_wire, at_wires, fan_out_of}
 use Rattle.hz_gmw.specs.Runs.{state_after}
+use Rattle.hz_gmw.specs.RunRecord.{RunRecord}
 use Rattle.hz_reach.specs.Order.{key_at}
 use Rattle.hz_reach.specs.FilteredRange.{filtered_range}
-use Rattle.hz_reach.specs.Room.{with_step_if_any}
+use Rattle.hz_reach.specs.Room.{with_step_if_any, HasRoomFor}
 
 -- whether a variable is a gate
 abbrev pub has_function : Driver → Bool
@@ -37,6 +38,17 @@ pub record AreTurnWires (netlist : Netlist) (gate : ℕ) (free state : List Bool
 abbrev pub turn_flips : Netlist → ℕ → Bool → List Bool → List ℕ
 turn_flips netlist gate with_fan_out state =
     gate ∷ (if with_fan_out then filter (λ wire. differs (bit_at state wire) (bit_at state gate)) (fan_out_of netlist gate) else [])
+
+-- a gate can turn: some bits at its pins give it the complement of its bit, and differ from the wires at free pins alone
+abbrev pub CanTurn : Netlist → ℕ → List Bool → List Bool → Type 0
+CanTurn netlist gate free state =
+    (list : List Bool) × IsCandidate (gate_at netlist gate).kind (at_wires netlist gate state) free (not (bit_at state gate)) list
+
+-- a run has the room for its turn
+abbrev pub HasRoomForTurn : Netlist → ℕ → List Bool → Bool → List Bool → RunRecord → Type 0
+HasRoomForTurn netlist gate free with_fan_out state run =
+    (wires : List ℕ) → AreTurnWires netlist gate free state wires →
+    HasRoomFor (length wires + length (turn_flips netlist gate with_fan_out (state_after wires state))) run
 
 -- the state after a turn, and the steps with its own
 abbrev pub turn_end : Netlist → ℕ → Bool → List ℕ → List Bool → List Bool

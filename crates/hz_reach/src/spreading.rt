@@ -10,18 +10,17 @@
 //!
 //! What breaks if you add a change: a wire before its source, or a gate before its wires, is stable then, and the step is
 //! none. A second change of a variable falsifies `IsSpreadRun`, and the room. A new kind of gate needs its canonical pattern.
-ghost use Rattle.std.specs.Prelude.{◌≡◌, ℕ, ◌+◌, ◌≤◌, Bool, true, false, not, ◌&&◌, List, [], length, MatchBool};
+ghost use Rattle.std.specs.Prelude.{◌≡◌, ℕ, ◌+◌, ◌<◌, ◌≤◌, Bool, true, false, not, ◌&&◌, List, [], length, MatchBool};
 ghost use Rattle.hz_core.specs.Ternary.{is_unknown};
-ghost use Rattle.hz_core.specs.Netlist.{IsCircuit, IsGateNumber, gate_at};
-ghost use Rattle.hz_core.specs.Pattern.{differs, IsCandidate};
-ghost use Rattle.hz_net.specs.Network.{network_of, bit_at, IsState, AreByVariable, IsInput};
-ghost use Rattle.hz_net.specs.Variables.{at_wires};
+ghost use Rattle.hz_core.specs.Netlist.{IsCircuit, IsGateNumber};
+ghost use Rattle.hz_core.specs.Pattern.{differs};
+ghost use Rattle.hz_net.specs.Network.{network_of, IsState, AreByVariable, IsInput};
 ghost use Rattle.hz_gmw.specs.Runs.{end_of};
 ghost use Rattle.hz_reach.specs.Order.{IsInKeyOrder};
-ghost use Rattle.hz_reach.specs.Room.{Spends, with_step_if_any, HasRoomForStep, HasRoomFor};
+ghost use Rattle.hz_reach.specs.Room.{Spends, with_step_if_any, HasRoomForStep};
 ghost use Rattle.hz_reach.specs.Given.{AreResultsOfA, IsScratchFor, IsEmptyRun};
 ghost use Rattle.hz_reach.specs.Spread.{IsSpreadRun, IsSparingRun};
-ghost use Rattle.hz_reach.specs.Turn.{changed_inputs, free_pins, earlier_pins, AreTurnWires, IsTurn, unchanged_wires};
+ghost use Rattle.hz_reach.specs.Turn.{changed_inputs, free_pins, earlier_pins, IsTurn, unchanged_wires, CanTurn, HasRoomForTurn};
 
 use crate::turn::{is_gate, take_turn};
 use crate::{Change, Scratch};
@@ -74,7 +73,8 @@ pub fn spread_in_order(
     scratch: &mut Scratch,
     run: &mut Run,
 )
-    requires change { AreResultsOfA change.now.net.now change.now.start.now change.now.input.now a.now rank.now }
+    requires change { AreResultsOfA change.now.net.now change.now.start.now change.now.input.now
+        a.now rank.now }
     requires scratch { IsScratchFor change.now.net.now scratch.old }
     requires sorted { IsInKeyOrder rank.now scratch.old.sorted }
     requires run { IsEmptyRun (length (network_of change.now.net.now)) run.old }
@@ -106,13 +106,15 @@ pub fn sparing_in_order(
     scratch: &mut Scratch,
     run: &mut Run,
 )
-    requires change { AreResultsOfA change.now.net.now change.now.start.now change.now.input.now a.now rank.now }
+    requires change { AreResultsOfA change.now.net.now change.now.start.now change.now.input.now
+        a.now rank.now }
     requires scratch { IsScratchFor change.now.net.now scratch.old }
     requires sorted { IsInKeyOrder rank.now scratch.old.sorted }
     requires run { IsEmptyRun (length (network_of change.now.net.now)) run.old }
-    ensures sparing { IsSparingRun (network_of change.now.net.now) change.now.input.now change.now.start.now
-        a.now rank.now run.new.steps }
-    ensures whole { IsSpreadRun (network_of change.now.net.now) change.now.input.now change.now.start.now a.now
+    ensures sparing { IsSparingRun (network_of change.now.net.now)
+        change.now.input.now change.now.start.now a.now rank.now run.new.steps }
+    ensures whole { IsSpreadRun (network_of change.now.net.now)
+        change.now.input.now change.now.start.now a.now
         (with_step_if_any run.new.steps
         (unchanged_wires change.now.net.now a.now change.now.start.now scratch.new.state)) }
     ensures room_for_unused { HasRoomForStep
@@ -141,7 +143,8 @@ pub fn add_unused(net: &Net, start: &[bool], a: &[Tri], scratch: &mut Scratch, r
     requires start { IsState net.now start.now }
     requires a { IsState net.now a.now }
     requires scratch { IsScratchFor net.now scratch.old }
-    requires room { HasRoomForStep (unchanged_wires net.now a.now start.now scratch.old.state) run.old }
+    requires room { HasRoomForStep
+        (unchanged_wires net.now a.now start.now scratch.old.state) run.old }
     ensures steps { run.new.steps ≡
         with_step_if_any run.old.steps (unchanged_wires net.now a.now start.now scratch.old.state) }
     ensures room { Spends run.old run.new }
@@ -173,11 +176,10 @@ fn turn_by_rank(net: &Net, rank: &[u32], gate: u32, scratch: &mut Scratch, run: 
     requires circuit { IsCircuit net.now }
     requires rank { AreByVariable net.now rank.now }
     requires gate { IsGateNumber net.now gate }
-    requires possible { (list : List Bool) × IsCandidate (gate_at net.now gate).kind
-        (at_wires net.now gate scratch.old.state) (earlier_pins net.now rank.now gate) (not (bit_at scratch.old.state gate)) list }
+    requires possible { CanTurn net.now gate (earlier_pins net.now rank.now gate) scratch.old.state }
     requires scratch { IsScratchFor net.now scratch.old }
-    requires room { (wires : List ℕ) → AreTurnWires net.now gate (earlier_pins net.now rank.now gate) scratch.old.state wires →
-        HasRoomFor (length wires + 1) run.old }
+    requires room { HasRoomForTurn net.now gate (earlier_pins net.now rank.now gate) false
+        scratch.old.state run.old }
     ensures turn { IsTurn net.now gate (earlier_pins net.now rank.now gate) false
         scratch.old.state scratch.new.state run.old.steps run.new.steps }
     ensures marked { scratch.new.marked ≡ [] }
@@ -211,7 +213,8 @@ fn mark_unchanged(net: &Net, start: &[bool], a: &[Tri], scratch: &mut Scratch)
     requires start { IsState net.now start.now }
     requires a { IsState net.now a.now }
     requires scratch { IsScratchFor net.now scratch.old }
-    ensures marked { scratch.new.marked ≡ unchanged_wires net.now a.now start.now scratch.old.state }
+    ensures marked { scratch.new.marked ≡
+        unchanged_wires net.now a.now start.now scratch.old.state }
     ensures state { scratch.new.state ≡ scratch.old.state }
     ensures sorted { scratch.new.sorted ≡ scratch.old.sorted }
     ensures by_round { scratch.new.by_round ≡ scratch.old.by_round }

@@ -6,17 +6,14 @@
 //!
 //! What must stay true: each free pin differs from its source, else its wire is stable and the first step is none. The gate is
 //! unstable only after its wires, so the two can't be one step.
-ghost use Rattle.std.specs.Prelude.{◌≡◌, ℕ, ◌+◌, ◌≤◌, Bool, true, IsTrue, not, List, [], ◌∷◌, ◌++◌, length};
+ghost use Rattle.std.specs.Prelude.{◌≡◌, ℕ, ◌+◌, ◌<◌, ◌≤◌, Bool, true, IsTrue, not, List, [], ◌∷◌, ◌++◌, length};
 ghost use Rattle.std.specs.List.{slice_range};
 ghost use Rattle.hz_core.specs.Netlist.{IsCircuit, IsGateNumber, gate_at};
-ghost use Rattle.hz_core.specs.Pattern.{IsCandidate};
 ghost use Rattle.hz_core.specs.Limits.{most_variables};
-ghost use Rattle.hz_net.specs.Network.{network_of, bit_at, IsVariable};
-ghost use Rattle.hz_net.specs.Variables.{at_wires};
-ghost use Rattle.hz_gmw.specs.Runs.{state_after};
+ghost use Rattle.hz_net.specs.Network.{network_of, IsVariable};
 ghost use Rattle.hz_reach.specs.Given.{IsScratchFor};
-ghost use Rattle.hz_reach.specs.Room.{Spends, HasRoomFor};
-ghost use Rattle.hz_reach.specs.Turn.{is_gate_in, changed_wires, AreTurnWires, turn_flips, IsTurn};
+ghost use Rattle.hz_reach.specs.Room.{Spends};
+ghost use Rattle.hz_reach.specs.Turn.{is_gate_in, changed_wires, AreTurnWires, turn_flips, IsTurn, CanTurn, HasRoomForTurn};
 
 use crate::Scratch;
 use hz_core::MAX_PINS;
@@ -49,12 +46,11 @@ pub fn take_turn(
     requires circuit { IsCircuit net.now }
     requires gate { IsGateNumber net.now gate }
     requires free { length free.now ≡ length (gate_at net.now gate).sources }
-    requires possible { (list : List Bool) × IsCandidate (gate_at net.now gate).kind
-        (at_wires net.now gate scratch.old.state) free.now (not (bit_at scratch.old.state gate)) list }
+    requires possible { CanTurn net.now gate free.now scratch.old.state }
     requires scratch { IsScratchFor net.now scratch.old }
-    requires room { (wires : List ℕ) → AreTurnWires net.now gate free.now scratch.old.state wires →
-        HasRoomFor (length wires + length (turn_flips net.now gate with_fan_out (state_after wires scratch.old.state))) run.old }
-    ensures turn { IsTurn net.now gate free.now with_fan_out scratch.old.state scratch.new.state run.old.steps run.new.steps }
+    requires room { HasRoomForTurn net.now gate free.now with_fan_out scratch.old.state run.old }
+    ensures turn { IsTurn net.now gate free.now with_fan_out
+        scratch.old.state scratch.new.state run.old.steps run.new.steps }
     ensures marked { scratch.new.marked ≡ [] }
     ensures sorted { scratch.new.sorted ≡ scratch.old.sorted }
     ensures room { Spends run.old run.new }
@@ -69,8 +65,7 @@ pub fn take_turn(
 fn mark_pattern(net: &Net, gate: u32, free: &[bool], scratch: &mut Scratch)
     requires gate { IsGateNumber net.now gate }
     requires free { length free.now ≡ length (gate_at net.now gate).sources }
-    requires possible { (list : List Bool) × IsCandidate (gate_at net.now gate).kind
-        (at_wires net.now gate scratch.old.state) free.now (not (bit_at scratch.old.state gate)) list }
+    requires possible { CanTurn net.now gate free.now scratch.old.state }
     requires scratch { IsScratchFor net.now scratch.old }
     ensures marked { AreTurnWires net.now gate free.now scratch.old.state scratch.new.marked }
     ensures state { scratch.new.state ≡ scratch.old.state }
@@ -94,7 +89,8 @@ fn mark_changed(first: u32, pattern: &[bool], scratch: &mut Scratch)
     requires few { length scratch.old.state ≤ most_variables }
     requires none_marked { scratch.old.marked ≡ [] }
     ensures marked { scratch.new.marked ≡
-        changed_wires first (slice_range scratch.old.state first (first + length pattern.now)) pattern.now }
+        changed_wires first
+        (slice_range scratch.old.state first (first + length pattern.now)) pattern.now }
     ensures state { scratch.new.state ≡ scratch.old.state }
     ensures sorted { scratch.new.sorted ≡ scratch.old.sorted }
 {

@@ -1,8 +1,6 @@
 -- The second pass leads back to the state in which the first began.
 use Rattle.std.proofs.Common.{◌≡◌, ◌∙◌, ◌++◌, ℕ, List, sym, ap, subst, arith}
-use Rattle.hz_core.proofs.Refinements.{length-Refines}
-use Rattle.hz_net.specs.Network.{network_of}
-use Rattle.hz_net.proofs.Wired.{wired-network_of}
+use Rattle.hz_reach.proofs.Words.{length-Refines, network_of, wired-network_of}
 use Rattle.hz_cycle.specs.Cycles.{IsCycleOf}
 use Rattle.hz_cycle.proofs.Change.{of-change, change-fixed, fixed-and-ranked}
 use Rattle.hz_cycle.proofs.CycleExists.{cycle-found, returned, room-twice, room-again}

@@ -1,5 +1,5 @@
 use Rattle.std.proofs.Common.{◌∙◌, sym}
-use Rattle.hz_core.proofs.Refinements.{length-Refines}
+use Rattle.hz_reach.proofs.Words.{length-Refines}
 use Rattle.hz_reach.proofs.RanksOrderGates.{ranks-long}
 use Rattle.hz_cycle.proofs.Change.{b-long}
 use Rattle.hz_cycle.proofs.cycling.cycle_run.Goals as goal

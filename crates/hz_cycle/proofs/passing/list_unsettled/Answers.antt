@@ -1,6 +1,6 @@
 use Rattle.std.proofs.Common.{false, arith, map}
-use Rattle.std.proofs.lemmas.List.{ext_get_or, length-map}
-use Rattle.hz_core.specs.Ternary.{is_unknown}
+use Rattle.hz_reach.proofs.Words.{length-map, is_unknown}
+use Rattle.std.proofs.lemmas.List.{ext_get_or}
 use Rattle.hz_cycle.proofs.passing.list_unsettled.Goals as goal
 
 pub returns : goal.returns

@@ -1,6 +1,5 @@
 use Rattle.std.proofs.Common.{◌≡◌, ◌<◌, ℕ, map}
-use Rattle.hz_core.specs.Ternary.{is_unknown}
-use Rattle.hz_net.specs.Network.{bit_at}
+use Rattle.hz_reach.proofs.Words.{is_unknown, bit_at}
 use Rattle.hz_cycle.proofs.passing.list_unsettled.Given as goal
 
 -- the pins so far are known

@@ -1,6 +1,6 @@
 -- Each gate of the order has its turn; what is no unsettled gate has none.
-use Rattle.std.proofs.Common.{◌≡◌, ◌∙◌, ℕ, List, length, get_or, refl, sym, ap, arith}
-use Rattle.hz_reach.proofs.TurnLoop.{at-long, at-inside, at-next, at-possible, at-room, at-turn}
+use Rattle.std.proofs.Common.{◌≡◌, ◌∙◌, ℕ, length, refl, sym, ap, arith}
+use Rattle.hz_reach.proofs.TurnLoop.{read, at-long, at-inside, at-next, at-possible, at-room, at-turn}
 use Rattle.hz_cycle.proofs.PassTurns.{passing-begin, passing-end}
 use Rattle.hz_cycle.proofs.passing.make_pass.Goals as goal
 use Rattle.hz_cycle.proofs.passing.make_pass.Goals.{then-has_turn, else-has_turn}
@@ -10,10 +10,6 @@ loop-place-init c = record {
   at = passing-begin c.len-variables.ensures.circuit c.requires.given c.requires.begins c.requires.room c.requires.sorted c.requires.scratch.none_marked refl;
   end = ap (length {A = ℕ}) c.sorted-place-end.ensures;
 }
-
--- the variable at a place of an order that is read
-read : {list order : List ℕ} (place : ℕ) → list ≡ order → get_or list place 0 ≡ get_or order place 0
-read place same = ap (λ (list : List ℕ). get_or list place 0) same
 
 pub has_turn-requires : goal.has_turn-requires
 has_turn-requires c = record {

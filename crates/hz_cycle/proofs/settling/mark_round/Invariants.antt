@@ -1,6 +1,5 @@
-use Rattle.std.proofs.Common.{◌≡◌, ◌<◌, ◌≤◌, ℕ, get_or}
-use Rattle.std.specs.List.{slice_range}
-use Rattle.hz_reach.specs.Order.{key_at}
+use Rattle.std.proofs.Common.{◌≡◌, ◌<◌, ◌≤◌, ℕ, get_or, slice_range}
+use Rattle.hz_reach.proofs.Words.{key_at}
 use Rattle.hz_cycle.specs.Rounds.{differing_variables}
 use Rattle.hz_cycle.proofs.settling.mark_round.Given as goal
 

@@ -1,9 +1,6 @@
 -- The rounds begin where the run so far ends, the pass where they end; the three are the settle run.
 use Rattle.std.proofs.Common.{◌≡◌, ◌∙◌, ◌++◌, append_assoc, ℕ, Bool, List, length, sym, ap, subst, arith}
-use Rattle.hz_core.proofs.Refinements.{length-Refines}
-use Rattle.hz_net.specs.Network.{network_of}
-use Rattle.hz_gmw.specs.Runs.{end_of}
-use Rattle.hz_gmw.proofs.CoverB.{length-end_of}
+use Rattle.hz_reach.proofs.Words.{length-Refines, network_of, end_of, length-end_of}
 use Rattle.hz_reach.proofs.Room.{spends-more}
 use Rattle.hz_cycle.specs.Cycles.{IsSettleRun}
 use Rattle.hz_cycle.proofs.Change.{of-both, change-fixed, fixed-and-ranked}
@@ -27,7 +24,7 @@ settle_rounds-requires c =
 pub make_pass-requires : goal.make_pass-requires
 make_pass-requires c =
     let change = of-both c.len-variables.ensures.circuit c.requires.change in
-    let before = before-pass c.len-variables.ensures.circuit c.requires.change.of_a.begins change c.requires.change.settling c.requires.begun c.requires.state c.settle_rounds.ensures.rounds in
+    let before = before-pass c.requires.change.of_a.begins change c.requires.change.settling c.requires.begun c.requires.state (c.settle_rounds.ensures.rounds.settling _ _ _) in
     record {
       given = fixed-and-ranked change;
       begins = pass-may-begin before;
@@ -41,7 +38,7 @@ pub returns : goal.returns
 returns c =
     let change = of-both c.len-variables.ensures.circuit c.requires.change in
     let rounds = c.settle_rounds.ensures.rounds in
-    let before = before-pass c.len-variables.ensures.circuit c.requires.change.of_a.begins change c.requires.change.settling c.requires.begun c.requires.state rounds in
+    let before = before-pass c.requires.change.of_a.begins change c.requires.change.settling c.requires.begun c.requires.state (rounds.settling _ _ _) in
     let passed = c.make_pass.ensures.pass in
     let pass = passed.pass c.args.change.now.input.now (change-fixed change) in
     let whole : c.make_pass.new.run.steps ≡ (c.args.run.now.steps ++ rounds.made) ++ passed.made =

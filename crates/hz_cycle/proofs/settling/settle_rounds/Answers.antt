@@ -1,6 +1,6 @@
 -- Each round is a step that has room; at the end every variable that settles has its value.
 use Rattle.std.proofs.Common.{◌∙◌, ℕ, length, ap, arith}
-use Rattle.hz_gmw.specs.Runs.{state_after}
+use Rattle.hz_reach.proofs.Words.{state_after}
 use Rattle.hz_cycle.proofs.RoundTurns.{rounds-begin, round-room, rounds-next, rounds-end}
 use Rattle.hz_cycle.proofs.settling.settle_rounds.Goals as goal
 

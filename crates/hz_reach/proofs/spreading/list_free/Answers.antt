@@ -1,6 +1,6 @@
 use Rattle.std.proofs.Common.{false, arith, not, ◌&&◌, eqb, ltb}
-use Rattle.std.proofs.lemmas.List.{ext_get_or, length-map}
-use Rattle.hz_reach.specs.Turn.{free_pins}
+use Rattle.hz_reach.proofs.Words.{length-map, free_pins}
+use Rattle.std.proofs.lemmas.List.{ext_get_or}
 use Rattle.hz_reach.proofs.spreading.list_free.Goals as goal
 
 pub returns : goal.returns

@@ -1,6 +1,5 @@
 use Rattle.std.proofs.Common.{◌≡◌, ◌<◌, ℕ}
-use Rattle.hz_net.specs.Network.{bit_at}
-use Rattle.hz_reach.specs.Turn.{free_pins}
+use Rattle.hz_reach.proofs.Words.{bit_at, free_pins}
 use Rattle.hz_reach.proofs.spreading.list_free.Given as goal
 
 -- the pins so far are known

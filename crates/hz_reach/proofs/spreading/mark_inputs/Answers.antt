@@ -1,8 +1,5 @@
-use Rattle.std.proofs.Common.{◌≡◌, ◌∙◌, ◌+◌, ◌∷◌, ◌++◌, [], ℕ, Bool, List, cond, ap, arith}
-use Rattle.hz_core.specs.Netlist.{Netlist}
-use Rattle.hz_core.specs.Pattern.{differs}
-use Rattle.hz_net.specs.Network.{bit_at}
-use Rattle.hz_net.proofs.Places.{length-network_of}
+use Rattle.std.proofs.Common.{◌∙◌, ◌∷◌, ◌++◌, [], ℕ, Bool, List, cond, ap, arith}
+use Rattle.hz_reach.proofs.Words.{Netlist, differs, bit_at, length-network_of}
 use Rattle.hz_reach.proofs.FilteredRangeLemmas.{filtered_range-below, filtered_range-next}
 use Rattle.hz_reach.proofs.spreading.mark_inputs.Goals as goal
 

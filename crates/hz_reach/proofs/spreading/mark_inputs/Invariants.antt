@@ -1,7 +1,5 @@
 use Rattle.std.proofs.Common.{◌≡◌}
-use Rattle.hz_core.specs.Pattern.{differs}
-use Rattle.hz_net.specs.Network.{bit_at}
-use Rattle.hz_reach.specs.FilteredRange.{filtered_range}
+use Rattle.hz_reach.proofs.Words.{differs, bit_at, filtered_range}
 use Rattle.hz_reach.proofs.spreading.mark_inputs.Given as goal
 
 -- the inputs so far that differ are marked

@@ -1,9 +1,5 @@
-use Rattle.std.proofs.Common.{◌≡◌, ◌∙◌, ◌≤◌, ◌-◌, ◌+◌, ℕ, Bool, List, [], ◌∷◌, ◌++◌, length, cond, not, ◌&&◌, ap, sym, arith}
-use Rattle.hz_core.specs.Netlist.{Netlist}
-use Rattle.hz_core.specs.Pattern.{differs}
-use Rattle.hz_core.specs.Ternary.{is_unknown}
-use Rattle.hz_net.specs.Network.{bit_at, value_at}
-use Rattle.hz_reach.specs.FilteredRange.{filtered_range}
+use Rattle.std.proofs.Common.{◌≡◌, ◌∙◌, ◌≤◌, ◌-◌, ◌+◌, ℕ, Bool, List, length, not, ◌&&◌, ap, arith}
+use Rattle.hz_reach.proofs.Words.{Netlist, differs, is_unknown, bit_at, value_at, filtered_range}
 use Rattle.hz_reach.proofs.FilteredRangeLemmas.{filtered_range-below, filtered_range-next}
 use Rattle.hz_reach.proofs.spreading.mark_unchanged.Goals as goal
 

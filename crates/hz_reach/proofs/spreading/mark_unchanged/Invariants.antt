@@ -1,8 +1,5 @@
 use Rattle.std.proofs.Common.{◌≡◌, ◌-◌, not, ◌&&◌, length}
-use Rattle.hz_core.specs.Pattern.{differs}
-use Rattle.hz_net.specs.Network.{bit_at, value_at}
-use Rattle.hz_reach.specs.FilteredRange.{filtered_range}
-use Rattle.hz_core.specs.Ternary.{is_unknown}
+use Rattle.hz_reach.proofs.Words.{differs, bit_at, value_at, filtered_range, is_unknown}
 use Rattle.hz_reach.proofs.spreading.mark_unchanged.Given as goal
 
 -- the wires so far that are X and have not changed are marked

@@ -1,10 +1,8 @@
 -- The first step turns the inputs; then each gate of the order has its turn; last come the wires that are left.
-use Rattle.std.proofs.Common.{◌≡◌, ◌∙◌, ◌<◌, ℕ, List, length, get_or, sym, ap, arith}
-use Rattle.hz_gmw.specs.Runs.{state_after}
-use Rattle.hz_reach.specs.Room.{with_step_if_any}
-use Rattle.hz_reach.specs.Turn.{changed_inputs}
+use Rattle.std.proofs.Common.{◌≡◌, ◌∙◌, ℕ, length, sym, ap, arith, List}
+use Rattle.hz_reach.proofs.Words.{state_after, with_step_if_any, changed_inputs}
 use Rattle.hz_reach.proofs.SpreadSteps.{inputs-room, spreading-begin, spread-made}
-use Rattle.hz_reach.proofs.TurnLoop.{at-long, at-inside, at-next, at-possible, at-room, at-turn}
+use Rattle.hz_reach.proofs.TurnLoop.{read, at-long, at-inside, at-next, at-possible, at-room, at-turn}
 use Rattle.hz_reach.proofs.spreading.sparing_in_order.Goals as goal
 use Rattle.hz_reach.proofs.spreading.sparing_in_order.Goals.{then-is_gate, else-is_gate}
 
@@ -24,10 +22,6 @@ loop-place-init c =
           (c.step.ensures.steps ∙ ap (with_step_if_any c.args.run.now.steps) c.mark_inputs.ensures.marked) c.step.ensures.room;
       end = ap (length {A = ℕ}) c.sorted-place-end.ensures;
     }
-
--- the variable at a place of an order that is read
-read : {list order : List ℕ} (place : ℕ) → list ≡ order → get_or list place 0 ≡ get_or order place 0
-read place same = ap (λ (list : List ℕ). get_or list place 0) same
 
 pub is_gate-requires : goal.is_gate-requires
 is_gate-requires c = at-inside c.loop-place.invariant.at c.loop-place-test.true c.loop-place.invariant.end (read c.loop-place.place c.sorted.ensures)

@@ -1,7 +1,6 @@
 -- The wires that are left come last.
 use Rattle.std.proofs.Common.{◌∙◌, Bool, length, sym, ap}
-use Rattle.hz_gmw.specs.Runs.{state_after, end_of}
-use Rattle.hz_gmw.proofs.CoverB.{length-end_of}
+use Rattle.hz_reach.proofs.Words.{state_after, end_of, length-end_of}
 use Rattle.hz_reach.proofs.RanksOrderGates.{a-long}
 use Rattle.hz_reach.proofs.Room.{end_of-after}
 use Rattle.hz_reach.proofs.spreading.spread_in_order.Goals as goal

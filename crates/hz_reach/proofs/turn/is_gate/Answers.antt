@@ -1,7 +1,7 @@
 -- A variable is an input, a gate or a wire.
 use Rattle.std.proofs.Common.{◌∙◌, length, sym, ap, arith, inl, inr}
-use Rattle.std.proofs.lemmas.Bool.{cases_lt, lt-ltb, ltb-true, false_from_ne_true}
-use Rattle.hz_core.specs.Netlist.{Netlist}
+use Rattle.hz_reach.proofs.Words.{cases_lt, false_from_ne_true, Netlist}
+use Rattle.std.proofs.lemmas.Bool.{lt-ltb, ltb-true}
 use Rattle.hz_reach.proofs.GateTurn.{gate-is, input-is, wire-is}
 use Rattle.hz_reach.proofs.turn.is_gate.Goals as goal
 

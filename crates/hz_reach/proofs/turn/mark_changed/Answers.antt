@@ -1,9 +1,5 @@
-use Rattle.std.proofs.Common.{◌≡◌, ◌∙◌, ◌-◌, ◌+◌, ◌<◌, ◌∷◌, ◌++◌, [], ℕ, Bool, List, false, cond, length, refl, sym, ap, arith}
-use Rattle.std.specs.List.{slice_range}
-use Rattle.hz_core.specs.Pattern.{differs}
-use Rattle.hz_net.specs.Network.{bit_at}
-use Rattle.hz_lists.proofs.PartLemmas.{length-part, at-part}
-use Rattle.hz_reach.specs.FilteredRange.{filtered_range}
+use Rattle.std.proofs.Common.{◌≡◌, ◌∙◌, ◌-◌, ◌+◌, ◌<◌, ℕ, Bool, List, false, length, refl, ap, arith, slice_range}
+use Rattle.hz_reach.proofs.Words.{differs, bit_at, length-part, at-part, filtered_range}
 use Rattle.hz_reach.proofs.FilteredRangeLemmas.{filtered_range-below, filtered_range-next}
 use Rattle.hz_reach.proofs.turn.mark_changed.Goals as goal
 

@@ -1,8 +1,5 @@
-use Rattle.std.proofs.Common.{◌≡◌, ◌-◌, ◌+◌, length}
-use Rattle.std.specs.List.{slice_range}
-use Rattle.hz_core.specs.Pattern.{differs}
-use Rattle.hz_net.specs.Network.{bit_at}
-use Rattle.hz_reach.specs.FilteredRange.{filtered_range}
+use Rattle.std.proofs.Common.{◌≡◌, ◌-◌, ◌+◌, length, slice_range}
+use Rattle.hz_reach.proofs.Words.{differs, bit_at, filtered_range}
 use Rattle.hz_reach.proofs.turn.mark_changed.Given as goal
 
 -- the wires so far that differ from the pattern are marked

@@ -1,5 +1,5 @@
 use Rattle.std.proofs.Common.{arith}
-use Rattle.hz_net.proofs.Places.{length-network_of}
+use Rattle.hz_reach.proofs.Words.{length-network_of}
 use Rattle.hz_reach.proofs.turn.mark_pattern.Goals as goal
 
 pub mark_changed-requires-clause-few : goal.mark_changed-requires-clause-few

@@ -1,8 +1,5 @@
-use Rattle.std.proofs.Common.{◌≡◌, ◌∷◌, take}
-use Rattle.std.specs.List.{filter}
-use Rattle.hz_core.specs.Pattern.{differs}
-use Rattle.hz_net.specs.Network.{bit_at}
-use Rattle.hz_net.specs.Variables.{fan_out_of}
+use Rattle.std.proofs.Common.{◌≡◌, ◌∷◌, take, filter}
+use Rattle.hz_reach.proofs.Words.{differs, bit_at, fan_out_of}
 use Rattle.hz_reach.proofs.turn.mark_with_fan_out.Given as goal
 
 -- the gate is marked, and of the wires so far those that differ from it

@@ -1,8 +1,6 @@
 -- The room for both steps is asked for; the first one takes its part.
 use Rattle.std.proofs.Common.{◌≡◌, ◌∙◌, Bool, length, ap}
-use Rattle.hz_gmw.specs.Runs.{state_after}
-use Rattle.hz_gmw.proofs.Flips.{length-state_after}
-use Rattle.hz_reach.specs.Turn.{turn_flips}
+use Rattle.hz_reach.proofs.Words.{state_after, length-state_after, turn_flips}
 use Rattle.hz_reach.proofs.Room.{room-for-step, room-after}
 use Rattle.hz_reach.proofs.turn.take_turn.Goals as goal
 
