@@ -1,4 +1,4 @@
-// The circuit of a draft.
+//! The circuit of a draft.
 
 ghost use Rattle.std.specs.Prelude.{◌≡◌, ◌+◌, ◌++◌, ◌<◌, ◌≤◌, ℕ, All, decimal, IfOk, OnOk, fold, length, map};
 ghost use Rattle.std.specs.List.{AllByRecursion};
@@ -41,15 +41,14 @@ pub(crate) fn build(alloc: Global, draft: &Draft) -> Result<Circuit, Memory>
 // none, and 0 stands in.
 fn number_nodes(alloc: Global, draft: &Draft) -> Result<Vec<u32>, Memory>
     requires inputs { AreNumbers draft.now.names draft.now.inputs.items }
-    requires gates { All (λ gate. gate.output < length draft.now.names) draft.now.gates.gates.items }
+    requires gates { All (λ gate. gate.output < length draft.now.names)
+        draft.now.gates.gates.items }
     requires few { length draft.now.inputs.items + length draft.now.gates.gates.items ≤
         most_variables }
     ensures nodes { IfOk result (λ nodes. AreNodesBy draft.now nodes.items) }
     ensures plain { OnOk result (AllByRecursion IsPlain (seen_names draft.now.names)) }
 {
-    let Ok(mut nodes) = vec![in alloc; 0u32; draft.names.len()] else {
-        return Err(Memory);
-    };
+    let mut nodes = vec![in alloc; 0u32; draft.names.len()]?;
     let inputs = draft.inputs.as_slice();
     number_inputs(&mut nodes, inputs);
     number_gates(&mut nodes, draft.gates.as_slice(), inputs.len() as u32);
@@ -108,17 +107,13 @@ fn resolve_pins(
         × All (ReadsGateBelow gates) sources.now }
     ensures { IfOk result (λ pins. pins.items ≡ map (source_node nodes.now inputs) sources.now) }
 {
-    let Ok(mut pins) = Vec::with_capacity(alloc, sources.len()) else {
-        return Err(Memory);
-    };
+    let mut pins = Vec::with_capacity(alloc, sources.len())?;
     for source in sources {
         let node = match source {
             Source::Name(name) => nodes[*name as usize],
             Source::Gate(gate) => (inputs + *gate) as u32,
         };
-        let Ok(()) = pins.push(node) else {
-            return Err(Memory);
-        };
+        pins.push(node)?;
     }
     Ok(pins)
 }
@@ -151,10 +146,7 @@ fn add_inputs(circuit: &mut Circuit, names: &TextNames, inputs: &[u32]) -> Resul
         ≡ fold (with_input_numbered (name_at names.now)) circuit.old inputs.now) }
 {
     for input in inputs {
-        match circuit.add_input(names.name(*input)) {
-            Ok(_) => {}
-            Err(Memory) => return Err(Memory),
-        }
+        circuit.add_input(names.name(*input))?;
     }
     Ok(())
 }
@@ -174,10 +166,7 @@ fn add_gates(
 {
     let mut buffer = Vec::new(alloc);
     for gate in gates {
-        match add_gate(circuit, names, &mut buffer, gate) {
-            Ok(()) => {}
-            Err(Memory) => return Err(Memory),
-        }
+        add_gate(circuit, names, &mut buffer, gate)?;
     }
     Ok(())
 }
@@ -241,10 +230,7 @@ fn connect_gates(circuit: &mut Circuit, gates: &[Gate], pins: &[u32]) -> Result<
     let mut left = pins;
     for gate in gates {
         let (sources, rest) = left.split_at(gate.pins);
-        match connect_gate(circuit, number, sources) {
-            Ok(()) => {}
-            Err(Memory) => return Err(Memory),
-        }
+        connect_gate(circuit, number, sources)?;
         number += 1;
         left = rest;
     }

@@ -1,4 +1,4 @@
-// What a line is, and whether it may stand where it stands.
+//! What a line is, and whether it may stand where it stands.
 
 ghost use Rattle.std.specs.Prelude.{◌≡◌, ◌++◌, ◌∷◌, [], ℕ, List, false};
 ghost use Rattle.std.specs.List.{list_any};

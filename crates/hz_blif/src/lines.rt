@@ -1,4 +1,4 @@
-// Joined lines and their tokens.
+//! Joined lines and their tokens.
 
 ghost use Rattle.std.specs.Prelude.{◌≡◌, ◌+◌, ◌≤◌, ◌++◌, IfOk, OnOk, length};
 ghost use Rattle.hz_line.specs.Line.{most_text_bytes, rest_length};
@@ -40,10 +40,7 @@ pub(crate) fn read_line<'t>(
     while let Some(left) = rest {
         let cut = split_line(left);
         let piece = piece_of(cut.line);
-        match push_words(piece.bytes, tokens) {
-            Ok(()) => {}
-            Err(Memory) => return Err(Memory),
-        }
+        push_words(piece.bytes, tokens)?;
         lines += 1;
         is_forbidden = is_forbidden | has_forbidden(piece.bytes);
         rest = cut.rest;
@@ -110,9 +107,7 @@ fn push_words<'t>(line: &'t [u8], tokens: &mut Vec<&'t [u8]>) -> Result<(), Memo
 {
     let mut left = line;
     while let Some((word, rest)) = first_word(left) {
-        let Ok(()) = tokens.push(word) else {
-            return Err(Memory);
-        };
+        tokens.push(word)?;
         left = rest;
     }
     Ok(())

@@ -1,4 +1,4 @@
-// The names of a text, which have no '\', so that no gate of a cover is taken for one of them.
+//! The names of a text, which have no '\', so that no gate of a cover is taken for one of them.
 
 ghost use Rattle.std.specs.Prelude.{◌≡◌, ◌<◌, [], IfOk, OnErr, OnOk, Some, length, position};
 ghost use Rattle.std.specs.List.{AllByRecursion};

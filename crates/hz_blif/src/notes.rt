@@ -1,4 +1,4 @@
-// What is noted of the lines of a text while they are read.
+//! What is noted of the lines of a text while they are read.
 
 ghost use Rattle.std.specs.Prelude.{◌≡◌, Some};
 ghost use Rattle.std.specs.Option.{option_or};

@@ -1,4 +1,4 @@
-// Reading a netlist.
+//! Reading a netlist.
 
 ghost use Rattle.std.specs.Prelude.{◌≡◌, ◌<◌, ◌≤◌, ◌⊎◌, false, nat_eq, ℕ, List, IfOk, IfErr, MatchResult, OnOk, IsErrOf, length};
 ghost use Rattle.std.specs.List.{All, list_any, slice_index_or};
@@ -171,9 +171,7 @@ fn marks(alloc: Global, names: usize, marked: &[u32]) -> Result<Vec<bool>, Memor
     ensures set { IfOk result (λ marks. (number : ℕ) → number < names
         → slice_index_or marks.items number false ≡ list_any (nat_eq number) marked.now) }
 {
-    let Ok(mut marks) = vec![in alloc; false; names] else {
-        return Err(Memory);
-    };
+    let mut marks = vec![in alloc; false; names]?;
     for number in marked {
         marks[*number as usize] = true;
     }

@@ -1,4 +1,4 @@
-// Texts read as a whole: what each is read as, or why it is refused.
+//! Texts read as a whole: what each is read as, or why it is refused.
 
 use crate::{BlifFault, read};
 use hz_core::{Circuit, Kind};

@@ -1,4 +1,4 @@
-// The circuit of a number.
+//! The circuit of a number.
 
 ghost use Rattle.std.specs.Prelude.{◌≡◌, ◌-◌, ◌∷◌, [], IfOk, OnOk};
 ghost use Rattle.hz_core.specs.Netlist.{empty_netlist};
@@ -11,7 +11,7 @@ use crate::node::{GO, INVERTER, PULSE, X, ring_gate};
 use hz_core::{Circuit, Kind, Memory};
 use std::alloc::Global;
 
-// Makes the circuit of a number.
+/// Makes the circuit of a number.
 pub(crate) fn make_circuit(alloc: Global, n: u32) -> Result<Circuit, Memory>
     requires { IsDemoNumber n }
     ensures { IfOk result (λ circuit. circuit ≡ demo_netlist n) }

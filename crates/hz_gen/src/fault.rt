@@ -1,4 +1,4 @@
-// Why no circuit is made.
+//! Why no circuit is made.
 
 use thiserror::Error;
 

@@ -1,4 +1,4 @@
-// Gates with their pins, one after the other.
+//! Gates with their pins, one after the other.
 
 ghost use Rattle.std.specs.Prelude.{◌≡◌, ◌∷◌, OnOk, decimal};
 ghost use Rattle.hz_gen.specs.BuiltDemo.{MayAddWiredGate, with_wired_gate};
@@ -9,7 +9,7 @@ use itoa::Buffer;
 // The most bytes of a letter and the digits of a number.
 const MAX_NUMBERED: usize = 11;
 
-// Adds a gate whose pins read these nodes.
+/// Adds a gate whose pins read these nodes.
 pub(crate) fn add_connected(
     circuit: &mut Circuit,
     name: &[u8],
@@ -26,7 +26,7 @@ pub(crate) fn add_connected(
     Ok(())
 }
 
-// Adds a gate whose pins read these nodes. Its name is a letter with a number behind it.
+/// Adds a gate whose pins read these nodes. Its name is a letter with a number behind it.
 pub(crate) fn add_numbered(
     circuit: &mut Circuit,
     letter: u8,
@@ -35,7 +35,8 @@ pub(crate) fn add_numbered(
     sources: &[u32],
 ) -> Result<(), Memory>
     requires { MayAddWiredGate circuit.old (letter ∷ decimal number) kind sources.now }
-    ensures { OnOk result (circuit.new ≡ with_wired_gate circuit.old (letter ∷ decimal number) kind sources.now) }
+    ensures { OnOk result (circuit.new
+        ≡ with_wired_gate circuit.old (letter ∷ decimal number) kind sources.now) }
 {
     let mut buffer = Buffer::new();
     let digits = buffer.format(number).as_bytes();

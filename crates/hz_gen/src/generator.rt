@@ -1,4 +1,4 @@
-// The circuit and the script of a number.
+//! The circuit and the script of a number.
 
 ghost use Rattle.std.specs.Prelude.{◌≡◌, ◌+◌, ◌*◌, ◌↔◌, IfOk, IsErrOf};
 ghost use Rattle.hz_core.specs.Netlist.{IsCircuit, IsWhole, variable_count};

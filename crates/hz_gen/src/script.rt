@@ -1,4 +1,4 @@
-// The script of a number.
+//! The script of a number.
 
 ghost use Rattle.std.specs.Prelude.{◌≡◌, ◌*◌, ◌+◌, IfOk};
 ghost use Rattle.hz_options.specs.Numbers.{IsDemoNumber};
@@ -9,7 +9,7 @@ use hz_core::Memory;
 use hz_text::Script;
 use std::alloc::Global;
 
-// Makes the script of a number, for its circuit's nodes: the ring at rest, and `go` rises.
+/// Makes the script of a number, for its circuit's nodes: the ring at rest, and `go` rises.
 pub(crate) fn make_script(alloc: Global, n: u32, nodes: u32) -> Result<Script, Memory>
     requires number { IsDemoNumber n }
     requires nodes { nodes ≡ 4 * n + 4 }

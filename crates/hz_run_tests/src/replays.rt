@@ -19,13 +19,39 @@ fn states_on(alloc: Global, net: &Net, text: &str) -> Result<String, Fail> {
     if told.runs() == 0 {
         return Err("no run".into());
     }
+    states_after(alloc, net, told.nodes(), told.input(), told.lead(0))
+}
+
+// Each large value has a function of its own, with one `?` behind it, so that its proof drops it once.
+fn states_after(
+    alloc: Global,
+    net: &Net,
+    nodes: &[bool],
+    input: &[bool],
+    run: &Run,
+) -> Result<String, Fail>
+    requires nodes { length nodes.now ≡ length net.now.names }
+    requires input { length input.now ≡ net.now.inputs }
+{
     let mut start = vec![in alloc; false; net.len() as usize]?;
-    net.expand(told.nodes(), &mut start);
+    net.expand(nodes, &mut start);
+    states_from(alloc, net, &start, input, run)
+}
+
+fn states_from(
+    alloc: Global,
+    net: &Net,
+    start: &[bool],
+    input: &[bool],
+    run: &Run,
+) -> Result<String, Fail>
+    requires start { length start.now ≡ length (network_of net.now) }
+    requires input { length input.now ≡ net.now.inputs }
+{
     let mut replay = Replay::new(alloc, net)?;
-    replay.begin(told.input(), &start);
+    replay.begin(input, start);
     let mut states = String::new(alloc);
-    push_state(&mut states, &replay, net.len())?;
-    push_states(&mut states, &mut replay, net.len(), told.lead(0))?;
+    push_states(&mut states, &mut replay, net.len(), run)?;
     Ok(states)
 }
 
@@ -37,6 +63,7 @@ fn push_states(
 ) -> Result<(), Fail>
     requires { length (network_of replay.old.circuit) ≡ variables }
 {
+    push_state(text, replay, variables)?;
     for number in 0..run.steps() {
         let flips = run.step(number);
         if !below(flips, variables) {

@@ -1,5 +1,8 @@
 //! Circuits worked by hand: their feedback cycles and cores, and the words of their nodes.
-ghost use Rattle.std.specs.Prelude.{◌≡◌, ◌<◌, length};
+ghost use Rattle.std.specs.Prelude.{◌≡◌, ◌<◌, ◌≤◌, length};
+ghost use Rattle.hz_net.specs.Starts.{IsStableStart};
+ghost use Rattle.hz_word.specs.Capped.{greatest_cap};
+ghost use Rattle.hz_free.specs.FreePart.{IsFreePart};
 
 use hz_core::Tri;
 use hz_free::Free;
@@ -76,20 +79,63 @@ fn words(alloc: Global, netlist: &str, change: &str, cap: u64) -> Result<String,
 
 fn words_on(alloc: Global, net: &Net, change: &str, cap: u64) -> Result<String, Fail> {
     let told = runs_of(alloc, net, change)?;
-    let variables = net.len() as usize;
+    words_after(alloc, net, told.nodes(), told.input(), cap)
+}
+
+// Each large value has a function of its own, with one `?` behind it, so that its proof drops it once.
+fn words_after(
+    alloc: Global,
+    net: &Net,
+    nodes: &[bool],
+    input: &[bool],
+    cap: u64,
+) -> Result<String, Fail>
+    requires nodes { length nodes.now ≡ length net.now.names }
+    requires input { length input.now ≡ net.now.inputs }
+{
+    let mut start = vec![in alloc; false; net.len() as usize]?;
+    net.expand(nodes, &mut start);
     let inputs = net.circuit().inputs() as usize;
-    let mut start = vec![in alloc; false; variables]?;
-    net.expand(told.nodes(), &mut start);
-    if cap == 0 || cap > MAX_CAP || inputs > variables || !net.settled(&start[..inputs], &start) {
+    if cap == 0 || cap > MAX_CAP || inputs > start.len() || !net.settled(&start[..inputs], &start) {
         return Err("no stable start, or no cap".into());
     }
+    words_from(alloc, net, &start, input, cap)
+}
+
+fn words_from(
+    alloc: Global,
+    net: &Net,
+    start: &[bool],
+    input: &[bool],
+    cap: u64,
+) -> Result<String, Fail>
+    requires start { IsStableStart net.now start.now }
+    requires input { length input.now ≡ net.now.inputs }
+    requires cap_low { 1 ≤ cap }
+    requires cap_high { cap ≤ greatest_cap }
+{
     let free = Free::build(alloc, net)?;
-    let mut words = vec![in alloc; None; variables]?;
-    free.words(net, &start, told.input(), cap, &mut words);
-    text_of(
-        alloc,
-        words.get(..told.nodes().len()).ok_or("too few words")?,
-    )
+    words_by(alloc, net, &free, start, input, cap)
+}
+
+fn words_by(
+    alloc: Global,
+    net: &Net,
+    free: &Free,
+    start: &[bool],
+    input: &[bool],
+    cap: u64,
+) -> Result<String, Fail>
+    requires part { IsFreePart net.now free.now }
+    requires start { IsStableStart net.now start.now }
+    requires input { length input.now ≡ net.now.inputs }
+    requires cap_low { 1 ≤ cap }
+    requires cap_high { cap ≤ greatest_cap }
+{
+    let mut words = vec![in alloc; None; net.len() as usize]?;
+    free.words(net, start, input, cap, &mut words);
+    let nodes = net.circuit().nodes() as usize;
+    text_of(alloc, words.get(..nodes).ok_or("too few words")?)
 }
 
 fn text_of(alloc: Global, words: &[Option<Word>]) -> Result<String, Fail> {

@@ -118,29 +118,48 @@ fn gathered_output_that_fills(rt: HostRuntime) -> Result<(), Fail> {
     Ok(())
 }
 
-/// The second name is held twice, the third not at all, and the second load fails in one of the two.
+// What is held: the second name twice.
+const HELD: [(&str, &str); 3] = [("a", "abc"), ("b", "first"), ("b", "second")];
+
+/// The second name is held twice, and the third that is asked for not at all.
 #[test]
 fn files_in_memory(rt: HostRuntime) -> Result<(), Fail> {
-    let mut failing = MemFiles::new(rt.alloc());
-    let mut plain = PlainFiles::new(rt.alloc());
-    for (name, bytes) in [("a", "abc"), ("b", "first"), ("b", "second")] {
-        failing.add(name, bytes.as_bytes())?;
-        plain.add(name, bytes.as_bytes())?;
+    let mut files = PlainFiles::new(rt.alloc());
+    for (name, bytes) in HELD {
+        files.add(name, bytes.as_bytes())?;
     }
-    failing.fail(2)?;
-    let (failed, long) = (Err(LoadFault::Failed), Err(LoadFault::TooLong));
     let rows = [
-        ("a", 3, Ok("abc"), Ok("abc")),
-        ("a", 3, failed, Ok("abc")),
-        ("a", 2, long, long),
-        ("b", 5, Ok("first"), Ok("first")),
-        ("c", 0, Ok(""), Ok("")),
+        ("a", 3, Ok("abc")),
+        ("a", 3, Ok("abc")),
+        ("a", 2, Err(LoadFault::TooLong)),
+        ("b", 5, Ok("first")),
+        ("c", 0, Ok("")),
     ];
-    for (name, most, from_failing, from_plain) in rows {
-        let loaded = failing.load(rt.alloc(), Place::First, name, most);
-        assert!(rt; is_answer(&loaded, from_failing), "{name}");
-        let loaded = plain.load(rt.alloc(), Place::Second, name, most);
-        assert!(rt; is_answer(&loaded, from_plain), "{name}");
+    for (name, most, wanted) in rows {
+        let loaded = files.load(rt.alloc(), Place::Second, name, most);
+        assert!(rt; is_answer(&loaded, wanted), "{name}");
+    }
+    Ok(())
+}
+
+/// The same files, of which the second load fails.
+#[test]
+fn files_that_fail(rt: HostRuntime) -> Result<(), Fail> {
+    let mut files = MemFiles::new(rt.alloc());
+    for (name, bytes) in HELD {
+        files.add(name, bytes.as_bytes())?;
+    }
+    files.fail(2)?;
+    let rows = [
+        ("a", 3, Ok("abc")),
+        ("a", 3, Err(LoadFault::Failed)),
+        ("a", 2, Err(LoadFault::TooLong)),
+        ("b", 5, Ok("first")),
+        ("c", 0, Ok("")),
+    ];
+    for (name, most, wanted) in rows {
+        let loaded = files.load(rt.alloc(), Place::First, name, most);
+        assert!(rt; is_answer(&loaded, wanted), "{name}");
     }
     Ok(())
 }

@@ -31,5 +31,5 @@ loop-rest-preserved c =
       joining = joining-told c.args.text.now _ (suc c.loop-rest.lines) _ c.split_line-cut.result.rest _ (c.loop-rest.lines + 1) _
           (joining-more c.args.text.now (bytes_of c.loop-rest.tokens.items) c.loop-rest.lines c.loop-rest.is_forbidden c.in-Some.left line c.split_line-cut.result.rest front
           was c.split_line-cut.ensures.lines more is)
-          c.in-Ok.ensures (omega arith) (ap (λ b. c.loop-rest.is_forbidden || b) c.has_forbidden-is_forbidden.ensures);
+          c.in_ok-push_words.ensures (omega arith) (ap (λ b. c.loop-rest.is_forbidden || b) c.has_forbidden-is_forbidden.ensures);
     }

@@ -15,10 +15,10 @@ loop-pin-preserved c =
     record {
       grown = grow-as cover c.args.self.now c.invert_pin.new.self
           (λ name. inverters_from (name cover.output) (planes_by cover) 0 (map name (take i cover.pins.items)) ++ inverters_from (name cover.output) (planes_by cover) i (name pin ∷ [])) _
-          (grow-twice cover c.args.self.now c.loop-pin.self c.invert_pin.new.self _ _ c.loop-pin.invariant.grown c.in-Ok.ensures.grown)
+          (grow-twice cover c.args.self.now c.loop-pin.self c.invert_pin.new.self _ _ c.loop-pin.invariant.grown c.in_ok-invert_pin.ensures.grown)
           (λ name. inverters-step name cover i pin there is);
       inverted = reads-as cover c.invert_pin.new.self.gates.items c.invert_pin.new.self.inverted.items
           (λ name. inverted_from (name cover.output) (planes_by cover) 0 (map name (take i cover.pins.items)) ++ inverted_from (name cover.output) (planes_by cover) i (name pin ∷ [])) _
-          (c.in-Ok.ensures.inverted _ c.loop-pin.invariant.inverted)
+          (c.in_ok-invert_pin.ensures.inverted _ c.loop-pin.invariant.inverted)
           (λ name. inverted-step name cover i pin there is);
     }

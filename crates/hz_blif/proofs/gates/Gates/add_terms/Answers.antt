@@ -29,11 +29,11 @@ loop-plane-preserved c =
     record {
       row = omega (arith, c.loop-plane.invariant.row);
       grown = grow-as cover c.args.self.now c.add_term.new.self (λ name. row_gates_by name cover (take i (bytes_of words)) ++ row_gate_by name cover row plane) _
-          (grow-twice cover c.args.self.now c.loop-plane.self c.add_term.new.self _ _ c.loop-plane.invariant.grown c.in-Ok.ensures.grown)
+          (grow-twice cover c.args.self.now c.loop-plane.self c.add_term.new.self _ _ c.loop-plane.invariant.grown c.in_ok-add_term.ensures.grown)
           (λ name. rows-step name cover words i none row there is);
       terms = reads-as cover c.add_term.new.self.gates.items c.add_term.new.self.terms.items
           (λ name. terms_by name cover (take i (bytes_of words)) ++ term_by name cover row plane ∷ []) _
-          (c.in-Ok.ensures.terms _ c.loop-plane.invariant.terms)
+          (c.in_ok-add_term.ensures.terms _ c.loop-plane.invariant.terms)
           (λ name. terms-step name cover words i none row there is);
-      inverted = c.in-Ok.ensures.inverted;
+      inverted = c.in_ok-add_term.ensures.inverted;
     }
