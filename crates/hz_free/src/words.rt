@@ -1,13 +1,14 @@
 //! The words of the feedback-free variables, one after the other in their order.
-ghost use Rattle.std.specs.Prelude.{◌≡◌, ℕ, ◌<◌, ◌≤◌, Some, [], ◌∷◌, length, map, IsTrue, All};
+ghost use Rattle.std.specs.Prelude.{◌≡◌, ℕ, ◌+◌, ◌≤◌, Some, [], ◌∷◌, length, map, slice_range, IsTrue, All};
 ghost use Rattle.hz_core.specs.Gate.{takes};
+ghost use Rattle.hz_core.specs.Limits.{most_gate_pins, most_variables};
 ghost use Rattle.hz_word.specs.Capped.{capped_word};
 ghost use Rattle.hz_free.specs.VariableWords.{input_word};
 ghost use Rattle.hz_free.specs.CappedWords.{HasCountedWord, IsGateWord};
 ghost use Rattle.hz_word.specs.Capped.{greatest_cap};
 
-use crate::packed::StoredWord;
-use hz_core::Kind;
+use crate::packed::ToldWords;
+use hz_core::{Kind, MAX_PINS};
 use hz_word::{Count, Word, fold};
 
 // The word of a variable that keeps its value.
@@ -30,27 +31,79 @@ pub(crate) fn input_word(old: bool, new: bool) -> Word
     }
 }
 
-// The word of a gate, given those of its wires. The pins are room for them.
-pub(crate) fn gate_word<S: StoredWord>(kind: Kind, wires: &[S], cap: u64, pins: &mut [Word]) -> Word
-    requires takes { IsTrue (takes kind (length wires.now)) }
-    requires counted { All (HasCountedWord cap) (map S.word_in wires.now) }
+// Room for a word.
+const NO_WORD: Word = Word {
+    first: false,
+    changes: Count::Exact(0),
+};
+
+// Few gates have more pins.
+const FEW_PINS: usize = 4;
+
+// The word of a gate, given those of its wires, which follow one another from a first one on.
+pub(crate) fn gate_word<T: ToldWords>(kind: Kind, told: T, first: u32, count: u32, cap: u64) -> Word
+    requires takes { IsTrue (takes kind count) }
+    requires few { count ≤ most_gate_pins }
+    requires inside { first + count ≤ most_variables }
+    requires wires { length (slice_range (T.told told) first (first + count)) ≡ count }
+    requires counted { All (HasCountedWord cap) (slice_range (T.told told) first (first + count)) }
     requires cap_low { 1 ≤ cap }
     requires cap_high { cap ≤ greatest_cap }
-    requires room { length wires.now ≤ length pins.old }
-    ensures { IsGateWord kind (map S.word_in wires.now) cap result }
+    ensures { IsGateWord kind (slice_range (T.told told) first (first + count)) cap result }
 {
-    let pins = &mut pins[..wires.len()];
-    gather(wires, pins, cap);
+    if count as usize > FEW_PINS {
+        return wide_gate_word(kind, told, first, count, cap);
+    }
+    fold_wires(kind, told, first, count, cap, &mut [NO_WORD; FEW_PINS])
+}
+
+// The same of a gate with more pins.
+#[cold]
+fn wide_gate_word<T: ToldWords>(kind: Kind, told: T, first: u32, count: u32, cap: u64) -> Word
+    requires takes { IsTrue (takes kind count) }
+    requires few { count ≤ most_gate_pins }
+    requires inside { first + count ≤ most_variables }
+    requires wires { length (slice_range (T.told told) first (first + count)) ≡ count }
+    requires counted { All (HasCountedWord cap) (slice_range (T.told told) first (first + count)) }
+    requires cap_low { 1 ≤ cap }
+    requires cap_high { cap ≤ greatest_cap }
+    ensures { IsGateWord kind (slice_range (T.told told) first (first + count)) cap result }
+{
+    fold_wires(kind, told, first, count, cap, &mut [NO_WORD; MAX_PINS])
+}
+
+// The same, with room for the words of the wires.
+fn fold_wires<T: ToldWords>(
+    kind: Kind,
+    told: T,
+    first: u32,
+    count: u32,
+    cap: u64,
+    room: &mut [Word],
+) -> Word
+    requires takes { IsTrue (takes kind count) }
+    requires inside { first + count ≤ most_variables }
+    requires wires { length (slice_range (T.told told) first (first + count)) ≡ count }
+    requires counted { All (HasCountedWord cap) (slice_range (T.told told) first (first + count)) }
+    requires cap_low { 1 ≤ cap }
+    requires cap_high { cap ≤ greatest_cap }
+    requires room { count ≤ length room.old }
+    ensures { IsGateWord kind (slice_range (T.told told) first (first + count)) cap result }
+{
+    let pins = &mut room[..count as usize];
+    gather(told, first, count, cap, pins);
     fold(kind, pins, cap)
 }
 
 // The words of wires that all have one.
-fn gather<S: StoredWord>(wires: &[S], pins: &mut [Word], cap: u64)
-    requires counted { All (HasCountedWord cap) (map S.word_in wires.now) }
-    requires room { length pins.old ≡ length wires.now }
-    ensures { map Some pins.new ≡ map S.word_in wires.now }
+fn gather<T: ToldWords>(told: T, first: u32, count: u32, cap: u64, pins: &mut [Word])
+    requires inside { first + count ≤ most_variables }
+    requires wires { length (slice_range (T.told told) first (first + count)) ≡ count }
+    requires counted { All (HasCountedWord cap) (slice_range (T.told told) first (first + count)) }
+    requires room { length pins.old ≡ count }
+    ensures { map Some pins.new ≡ slice_range (T.told told) first (first + count) }
 {
-    for pin in 0..wires.len() {
-        pins[pin] = wires[pin].get().unwrap();
+    for pin in 0..count {
+        pins[pin as usize] = told.word(first + pin);
     }
 }
