@@ -1,7 +1,6 @@
 //! What each lane was loaded with.
 ghost use Rattle.std.specs.Prelude.{◌≡◌, ◌≢◌, ◌+◌, ◌*◌, ◌/◌, ◌<◌, ◌≤◌, ◌++◌, ℕ, All, None, Some, [], IfOk, IsTrue, drop, false, true, length, map, replicate, slice_get, slice_set};
 ghost use Rattle.std.specs.List.{slice_index_or};
-ghost use Rattle.hz_net.specs.Network.{IsInput};
 ghost use Rattle.hz_plane.specs.Bits.{has_lane};
 ghost use Rattle.hz_plane.specs.Loads.{Loaded, block_loads, held_load, lane_input, lane_listed, held_at, listed_with, loaded_from};
 
@@ -95,7 +94,7 @@ impl Loads {
     /// Loads a lane with a new input and a listed start.
     pub(crate) fn load(&mut self, lane: u32, input: &[bool], listed: &[Option<bool>])
         requires lane { lane < 512 }
-        requires input { IsInput self.old input.now }
+        requires input { length input.now ≡ self.old.inputs }
         requires listed { length listed.now ≡ self.old.nodes }
         ensures { self.new ≡ record self.old {
           lanes = slice_set self.old.lanes lane
@@ -117,7 +116,7 @@ impl Loads {
         held: &[(u32, bool)],
     )
         requires lane { lane < 512 }
-        requires input { IsInput self.old input.now }
+        requires input { length input.now ≡ self.old.inputs }
         requires first { length first.now ≤ self.old.nodes }
         requires inputs { length first.now ≤ self.old.inputs }
         requires held { All (λ node. node.0 < self.old.nodes) held.now }
