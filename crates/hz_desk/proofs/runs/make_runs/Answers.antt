@@ -30,6 +30,22 @@ settle_from-requires-clause-change c =
       settling = passed.2.settling;
     }
 
+pub cycle_in_order-requires-clause-change : goal.cycle_in_order-requires-clause-change
+cycle_in_order-requires-clause-change c =
+    let passed = c.requires.passed in
+    rw (c.as_slice-ranks.ensures.value, c.values_b-b.ensures)
+    record {
+      start = c.args.start.now;
+      a = values_a c.args.rows.now;
+      of_a = record {
+        begins = c.requires.start;
+        input_long = c.requires.input;
+        a_result = (passed.0, passed.2.a_rounds, passed.2.a_result);
+        ranked = passed.2.ranked;
+      };
+      b_result = (passed.1, passed.2.b_rounds, passed.2.b_result);
+    }
+
 pub returns-clause-runs : goal.returns-clause-runs
 returns-clause-runs c =
     let passes = c.args.passes.now in
