@@ -97,24 +97,16 @@ def last_form(n):
     return "INPUT(a)\n" + "OUTPUT(a)\n" * n + "OUTPUT(", START
 
 
-def last_undefined(n):
-    return "INPUT(a)\n" + lines(n, lambda k: f"g{k}=NOT(a)\n") + "OUTPUT(b)\n", START
+def after_gates(last):
+    """Gates in .bench, and one line behind them."""
+    return lambda n: ("INPUT(a)\n" + lines(n, lambda k: f"g{k}=NOT(a)\n") + last, START)
 
 
-def last_kind(n):
-    return "INPUT(a)\n" + lines(n, lambda k: f"g{k}=NOT(a)\n") + "h = FOO(a)\n", START
-
-
-def last_twice(n):
-    return "INPUT(a)\n" + lines(n, lambda k: f"g{k}=NOT(a)\n") + "INPUT(a)\n", START
-
-
-def last_name(n):
-    return "INPUT(a)\n" + lines(n, lambda k: f"g{k}=NOT(a)\n") + "INPUT(" + "n" * 256 + ")\n", START
-
-
-def last_pins(n):
-    return "INPUT(a)\n" + lines(n, lambda k: f"g{k}=NOT(a)\n") + "h = NOT(a, a)\n", START
+last_undefined = after_gates("OUTPUT(b)\n")
+last_kind = after_gates("h = FOO(a)\n")
+last_twice = after_gates("INPUT(a)\n")
+last_name = after_gates("INPUT(" + "n" * 256 + ")\n")
+last_pins = after_gates("h = NOT(a, a)\n")
 
 
 # ---- netlists in BLIF that are only read
@@ -180,20 +172,15 @@ def blif_twice(n):
     return ".inputs " + "a " * n, "start\n"
 
 
-def blif_last_form(n):
-    return ".inputs a\n" + lines(n, lambda k: f".names a g{k}\n1 1\n") + "( 1\n", START
+def after_covers(last):
+    """Covers in BLIF, and one line behind them."""
+    return lambda n: (".inputs a\n" + lines(n, lambda k: f".names a g{k}\n1 1\n") + last, START)
 
 
-def blif_last_construct(n):
-    return ".inputs a\n" + lines(n, lambda k: f".names a g{k}\n1 1\n") + ".latch a b\n", START
-
-
-def blif_last_undefined(n):
-    return ".inputs a\n" + lines(n, lambda k: f".names a g{k}\n1 1\n") + ".outputs b\n", START
-
-
-def blif_last_cover(n):
-    return ".inputs a\n" + lines(n, lambda k: f".names a g{k}\n1 1\n") + "0 0\n", START
+blif_last_form = after_covers("( 1\n")
+blif_last_construct = after_covers(".latch a b\n")
+blif_last_undefined = after_covers(".outputs b\n")
+blif_last_cover = after_covers("0 0\n")
 
 
 # ---- circuits
