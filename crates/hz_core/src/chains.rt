@@ -80,6 +80,7 @@ impl Chains {
     }
 
     /// Makes buckets for that many entries.
+    #[inline(always)]
     pub fn reserve(&mut self, entries: usize) -> Result<(), Memory>
         ensures { self.new ≡ self.old }
     {
@@ -93,6 +94,7 @@ impl Chains {
     }
 
     /// Adds an entry with this hash.
+    #[inline(always)]
     pub fn push(&mut self, hash: u32) -> Result<(), Memory>
         ensures ok { OnOk result (self.new ≡ self.old ++ hash ∷ []) }
         ensures err { OnErr result (self.new ≡ self.old) }
@@ -142,6 +144,7 @@ impl Chains {
     }
 
     // Makes that many buckets.
+    #[cold]
     fn widen(&mut self, count: usize) -> Result<(), Memory>
         requires { 0 < count }
         ensures { self.new ≡ self.old }
@@ -216,6 +219,7 @@ fn join_all(heads: &mut Vec<u32>, links: &mut Vec<Link>) -> u32
 }
 
 // Puts an entry on the chain of its bucket, after those before it, and returns how long the chain is then.
+#[inline(always)]
 fn join(heads: &mut Vec<u32>, links: &mut Vec<Link>, entry: usize) -> u32
     requires entry { entry < length links.old.items }
     requires few { entry + 1 < 2 ^ 32 }
@@ -239,6 +243,7 @@ fn join(heads: &mut Vec<u32>, links: &mut Vec<Link>, entry: usize) -> u32
 }
 
 // How many entries the chain has up to the one with this number.
+#[inline(always)]
 fn depth_of(links: &[Link], number: u32) -> u32
     requires { number ≤ length links.now }
 {

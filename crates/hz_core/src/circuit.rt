@@ -128,6 +128,7 @@ impl Circuit {
     }
 
     /// Adds a gate, which has no pin yet, and returns its number.
+    #[inline(always)]
     pub fn add_gate(&mut self, name: &[u8], kind: Kind) -> Result<u32, Memory>
         requires name { IsName name.now }
         requires fresh { node_named self.old name.now ≡ None }
@@ -146,6 +147,7 @@ impl Circuit {
     }
 
     /// Adds a pin to a gate, after its last one.
+    #[inline(always)]
     pub fn connect(&mut self, gate: u32, source: u32) -> Result<(), Memory>
         requires gate { IsGateNumber self.old gate }
         requires source { source < length self.old.names }
@@ -277,6 +279,7 @@ impl Circuit {
 }
 
 // Adds a name after the others, and to the chains.
+#[inline(always)]
 fn add_name(
     names: &mut Vec<NameEntry>,
     chains: &mut Chains,

@@ -35,7 +35,7 @@ impl NameHashing {
     }
 
     /// The hash of a name.
-    #[inline]
+    #[inline(always)]
     pub fn hash(&self, name: &[u8]) -> u32
         ensures { result ≡ hash_of self.now name.now }
     {
@@ -55,7 +55,7 @@ impl Debug for NameHashing {
 // Names that differ in their last byte alone, as `g120` to `g129`, have hashes that differ in their lowest bits alone, so that a
 // table has them side by side: the names of a netlist come mostly in such rows. What stands before the last byte is hashed by the
 // library.
-#[inline]
+#[inline(always)]
 #[tactic(auto, unfolding(crate::specs::NameHash::plain_hash))]
 fn plain_hash(name: &[u8]) -> u32
     ensures { result ≡ plain_hash name.now }
@@ -70,6 +70,7 @@ fn plain_hash(name: &[u8]) -> u32
 }
 
 // The hash by a hasher that has its key.
+#[inline(never)]
 #[tactic(auto, unfolding(crate::specs::NameHash::keyed_hash))]
 fn keyed_hash(hasher: DefaultHasher, name: &[u8]) -> u32
     ensures { result ≡ keyed_hash hasher name.now }

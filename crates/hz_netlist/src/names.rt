@@ -133,6 +133,7 @@ impl<'a> NameTable<'a> {
     }
 
     /// The number of a name; a new name comes last.
+    #[inline(always)]
     pub fn sight(&mut self, name: &'a [u8]) -> Result<u32, Memory>
         ensures seen { OnOk result (self.new ≡ with_sight self.old name.now) }
         ensures number { IfOk result (λ number. position (bytes_eq name.now)
@@ -293,6 +294,7 @@ pub(crate) enum Search {
 }
 
 // Searches entries, which are on chains, for a name.
+#[inline(always)]
 fn find_entry(entries: &[Entry], chains: &Chains, hashing: &NameHashing, name: &[u8]) -> Search
     requires { chains.now ≡ map (hash_of hashing.now) (entry_names entries.now) }
     ensures { IsDistinct bytes_eq (entry_names entries.now)
@@ -311,6 +313,7 @@ fn find_entry(entries: &[Entry], chains: &Chains, hashing: &NameHashing, name: &
 }
 
 // Adds an entry for a name with this hash, which no line defines or uses so far.
+#[inline(always)]
 fn add_entry<'a>(
     entries: &mut Vec<Entry<'a>>,
     chains: &mut Chains,
