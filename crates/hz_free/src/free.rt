@@ -12,15 +12,14 @@ ghost use Rattle.hz_free.specs.FreePart.{IsFreePart};
 ghost use Rattle.hz_free.specs.CappedWords.{IsReady, IsNextWord};
 ghost use Rattle.hz_free.specs.VariableWords.{AreCappedWords};
 ghost use Rattle.hz_word.specs.Capped.{greatest_cap, IsWithinCap};
-ghost use Rattle.hz_core.specs.Limits.{most_gate_pins};
 
 use crate::feedback::{Feedback, find_feedback};
 use crate::order::{count_reads, place_all};
 use crate::packed::{PackedWord, StoredWord};
-use crate::words::{constant_word, gate_word, input_word};
-use hz_core::{MAX_PINS, Memory, Tri};
+use crate::words::{NO_WORD, constant_word, gate_word, input_word};
+use hz_core::{Memory, Tri};
 use hz_net::{Net, VarKind};
-use hz_word::{Count, Word};
+use hz_word::Word;
 use std::alloc::Global;
 use std::marker::Model;
 
@@ -177,7 +176,7 @@ fn write_words<S: StoredWord>(
     // A getter of the network says that its circuit is one.
     let _variables = net.len();
     clear(out);
-    let mut pins = [NO_WORD; MAX_PINS];
+    let mut pins = [NO_WORD; FEW_PINS];
     for var in order {
         if may_change(a, *var) {
             let word = word_of(net, start, input, cap, out, &mut pins, *var);
@@ -208,11 +207,8 @@ fn may_change(a: Option<&[Tri]>, var: u32) -> bool
     }
 }
 
-// Room for a word.
-const NO_WORD: Word = Word {
-    first: false,
-    changes: Count::Exact(0),
-};
+// Few gates have more pins.
+const FEW_PINS: usize = 16;
 
 // No variable has a word.
 fn clear<S: StoredWord>(out: &mut [S])
@@ -238,7 +234,6 @@ fn word_of<S: StoredWord>(
     requires input { IsInput net.now input.now }
     requires cap_low { 1 ≤ cap }
     requires cap_high { cap ≤ greatest_cap }
-    requires room { most_gate_pins ≤ length pins.old }
     requires ready { IsReady (network_of net.now) input.now start.now cap (map S.word_in out.now) var }
     ensures { IsNextWord (network_of net.now) input.now start.now cap (map S.word_in out.now) var result }
 {

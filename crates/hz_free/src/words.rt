@@ -1,13 +1,14 @@
 //! The words of the feedback-free variables, one after the other in their order.
 ghost use Rattle.std.specs.Prelude.{◌≡◌, ℕ, ◌<◌, ◌≤◌, Some, [], ◌∷◌, length, map, IsTrue, All};
 ghost use Rattle.hz_core.specs.Gate.{takes};
+ghost use Rattle.hz_core.specs.Limits.{most_gate_pins};
 ghost use Rattle.hz_word.specs.Capped.{capped_word};
 ghost use Rattle.hz_free.specs.VariableWords.{input_word};
 ghost use Rattle.hz_free.specs.CappedWords.{HasCountedWord, IsGateWord};
 ghost use Rattle.hz_word.specs.Capped.{greatest_cap};
 
 use crate::packed::StoredWord;
-use hz_core::Kind;
+use hz_core::{Kind, MAX_PINS};
 use hz_word::{Count, Word, fold};
 
 // The word of a variable that keeps its value.
@@ -30,8 +31,44 @@ pub(crate) fn input_word(old: bool, new: bool) -> Word
     }
 }
 
-// The word of a gate, given those of its wires. The pins are room for them.
+/// Room for a word.
+pub(crate) const NO_WORD: Word = Word {
+    first: false,
+    changes: Count::Exact(0),
+};
+
+// The word of a gate, given those of its wires. The pins are room for them; few gates have more.
+#[inline(always)]
 pub(crate) fn gate_word<S: StoredWord>(kind: Kind, wires: &[S], cap: u64, pins: &mut [Word]) -> Word
+    requires takes { IsTrue (takes kind (length wires.now)) }
+    requires counted { All (HasCountedWord cap) (map S.word_in wires.now) }
+    requires cap_low { 1 ≤ cap }
+    requires cap_high { cap ≤ greatest_cap }
+    requires few { length wires.now ≤ most_gate_pins }
+    ensures { IsGateWord kind (map S.word_in wires.now) cap result }
+{
+    if wires.len() > pins.len() {
+        return wide_gate_word(kind, wires, cap);
+    }
+    fold_wires(kind, wires, cap, pins)
+}
+
+// The same of a gate with more pins.
+#[cold]
+fn wide_gate_word<S: StoredWord>(kind: Kind, wires: &[S], cap: u64) -> Word
+    requires takes { IsTrue (takes kind (length wires.now)) }
+    requires counted { All (HasCountedWord cap) (map S.word_in wires.now) }
+    requires cap_low { 1 ≤ cap }
+    requires cap_high { cap ≤ greatest_cap }
+    requires few { length wires.now ≤ most_gate_pins }
+    ensures { IsGateWord kind (map S.word_in wires.now) cap result }
+{
+    fold_wires(kind, wires, cap, &mut [NO_WORD; MAX_PINS])
+}
+
+// The same, if there is room.
+#[inline(always)]
+fn fold_wires<S: StoredWord>(kind: Kind, wires: &[S], cap: u64, pins: &mut [Word]) -> Word
     requires takes { IsTrue (takes kind (length wires.now)) }
     requires counted { All (HasCountedWord cap) (map S.word_in wires.now) }
     requires cap_low { 1 ≤ cap }

@@ -1,7 +1,7 @@
 -- The fold over the gathered words.
 use Rattle.std.proofs.Common.{map}
 use Rattle.hz_free.proofs.GateWords.{counted-pins, IsGateWord-from_fold}
-use Rattle.hz_free.proofs.words.gate_word.Goals as goal
+use Rattle.hz_free.proofs.words.fold_wires.Goals as goal
 
 pub fold-requires-clause-counted : goal.fold-requires-clause-counted
 fold-requires-clause-counted g c =
