@@ -9,6 +9,7 @@ use crate::fours::{look_up_all, table_of};
 use hz_core::{Circuit, Memory, Tri};
 use hz_net::Net;
 use hz_plane::{LaneValues, Planes};
+use hz_report::Letter;
 use std::alloc::Global;
 
 /// The first and the second values of the outputs, in all lanes, and in the four lanes whose lines
@@ -17,9 +18,9 @@ use std::alloc::Global;
 pub(crate) struct Columns {
     pub(crate) firsts: Vec<LaneValues>,
     pub(crate) seconds: Vec<LaneValues>,
-    pub(crate) first_fours: Vec<[Tri; 4]>,
-    pub(crate) second_fours: Vec<[Tri; 4]>,
-    pub(crate) table: Vec<[Tri; 4]>,
+    pub(crate) first_fours: Vec<[Letter; 4]>,
+    pub(crate) second_fours: Vec<[Letter; 4]>,
+    pub(crate) table: Vec<[Letter; 4]>,
 }
 
 // Columns for the outputs of a circuit.
@@ -34,8 +35,8 @@ pub(crate) fn columns_for(alloc: Global, circuit: &Circuit) -> Result<Columns, M
     Ok(Columns {
         firsts: vec![in alloc; none; count]?,
         seconds: vec![in alloc; none; count]?,
-        first_fours: vec![in alloc; [Tri::Zero; 4]; count]?,
-        second_fours: vec![in alloc; [Tri::Zero; 4]; count]?,
+        first_fours: vec![in alloc; [Letter::of(Tri::Zero); 4]; count]?,
+        second_fours: vec![in alloc; [Letter::of(Tri::Zero); 4]; count]?,
         table: table_of(alloc)?,
     })
 }

@@ -1,6 +1,8 @@
 //! The line of a lane.
-ghost use Rattle.std.specs.Prelude.{◌≡◌, ◌<◌, ◌*◌, ◌/◌, List, length, slice_get, Some};
+ghost use Rattle.std.specs.Prelude.{◌≡◌, ◌<◌, ◌*◌, ◌/◌, List, [], length, slice_get, Some};
+ghost use Rattle.std.specs.List.{slice_index_or};
 ghost use Rattle.hz_core.specs.declared.tri.Tri.{Tri};
+ghost use Rattle.hz_core.specs.declared.tri.Tri.TheVariants.{Zero};
 ghost use Rattle.hz_net.specs.Network.{network_of};
 ghost use Rattle.hz_net.specs.TernaryStarts.{SettlesTo};
 ghost use Rattle.hz_plane.specs.declared.stage.Stage.TheVariants.{Completed, Spread, Settled};
@@ -32,7 +34,7 @@ use hz_core::Circuit;
 use hz_net::Net;
 use hz_outside::Sink;
 use hz_plane::{LaneFault, Planes};
-use hz_report::OutputLine;
+use hz_report::{Letter, OutputLine};
 use hz_write::Piece::{Number, Text};
 use hz_write::Writer;
 
@@ -191,8 +193,22 @@ fn set_line(net: &Net, columns: &Columns, lane: u32, line: &mut OutputLine<'_>)
     let seconds = columns.second_fours.as_slice();
     let nth = (lane % 4) as usize;
     for place in 0..net.circuit().outputs().len() {
-        line.set(place, firsts[place][nth], seconds[place][nth]);
+        line.set(
+            place,
+            letter_at(firsts, place, nth),
+            letter_at(seconds, place, nth),
+        );
     }
+}
+
+// The letter of a variable in one of four lanes.
+#[inline(always)]
+fn letter_at(fours: &[[Letter; 4]], place: usize, nth: usize) -> Letter
+    requires place { place < length fours.now }
+    requires nth { nth < 4 }
+    ensures { result ≡ slice_index_or (slice_index_or fours.now place []) nth Zero }
+{
+    fours[place][nth]
 }
 
 // What is counted of a pattern for which there are values.

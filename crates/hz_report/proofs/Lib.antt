@@ -6,6 +6,8 @@ pub mod RowLemmas
 pub mod CycleLemmas
 -- Counts of classes, row by row
 pub mod ClassLemmas
+-- Letters as bytes
+pub mod LetterLemmas
 -- The words of outputs, and where their letters stand
 pub mod OutputLemmas
 -- The digits of a number and of the next one

@@ -6,8 +6,8 @@ use Rattle.hz_core.specs.declared.tri.Tri.{Tri}
 use Rattle.hz_core.specs.declared.tri.Tri.TheVariants.{Zero, One, Unknown}
 use Rattle.hz_core.specs.Netlist.{Netlist, node_name}
 use Rattle.hz_report.specs.Outputs.{output_stem, output_word, output_words}
-use Rattle.hz_report.specs.LineInside.{letter_places, letter_value, values_at}
-use Rattle.hz_report.specs.Words.{tri_letter}
+use Rattle.hz_report.specs.LineInside.{letter_places, values_at}
+use Rattle.hz_report.specs.Words.{letter_value, tri_letter}
 
 -- a value has one letter
 one-letter : (value : Tri) → length (tri_letter value) ≡ 1

@@ -1,6 +1,6 @@
 -- Words, with their arguments, in the order in which one needs them.
 --
--- tri_letter value: 0, 1 or X
+-- tri_letter value: 0, 1 or X; letter_byte value: the same as a byte; letter_value byte: the value that it says
 -- netlist_line netlist, feedback_line netlist cycle, start_line netlist start: the lines of a head
 -- head_text netlist cycles start: what a report begins with
 -- change_line netlist number change, rounds_line finding: how the lines of a change begin

@@ -1,14 +1,10 @@
 -- What the fields of a line of outputs stand for.
-use Rattle.std.specs.Prelude.{◌≡◌, ℕ, ◌+◌, List, [], ◌∷◌, length, map, slice_index, nat_eq, if◌then◌else◌}
+use Rattle.std.specs.Prelude.{◌≡◌, ℕ, ◌+◌, List, [], ◌∷◌, length, map, slice_index}
 use Rattle.hz_core.specs.declared.tri.Tri.{Tri}
-use Rattle.hz_core.specs.declared.tri.Tri.TheVariants.{Zero, One, Unknown}
 use Rattle.hz_core.specs.Netlist.{Netlist, IsCircuit}
 use Rattle.hz_report.specs.declared.outputs.OutputLine.TheInside.{Inside}
 use Rattle.hz_report.specs.Outputs.{LineOf, output_stem, output_words}
-
--- the value that a letter says
-abbrev pub letter_value : ℕ → Tri
-letter_value letter = if nat_eq letter 48 then Zero else (if nat_eq letter 49 then One else Unknown)
+use Rattle.hz_report.specs.Words.{letter_value}
 
 -- the two values that the letters at each place say
 abbrev pub values_at : List ℕ → List ℕ → List (Tri × Tri)

@@ -1,5 +1,5 @@
 -- What lines are made of: letters of values.
-use Rattle.std.specs.Prelude.{ℕ, List, codes}
+use Rattle.std.specs.Prelude.{ℕ, List, codes, nat_eq, if◌then◌else◌}
 use Rattle.hz_core.specs.declared.tri.Tri.{Tri}
 use Rattle.hz_core.specs.declared.tri.Tri.TheVariants.{Zero, One, Unknown}
 
@@ -8,3 +8,13 @@ abbrev pub tri_letter : Tri → List ℕ
 tri_letter Zero = codes "0"
 tri_letter One = codes "1"
 tri_letter Unknown = codes "X"
+
+-- the same as a byte
+abbrev pub letter_byte : Tri → ℕ
+letter_byte Zero = 48
+letter_byte One = 49
+letter_byte Unknown = 88
+
+-- the value that a letter says
+abbrev pub letter_value : ℕ → Tri
+letter_value letter = if nat_eq letter 48 then Zero else (if nat_eq letter 49 then One else Unknown)

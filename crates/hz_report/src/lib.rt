@@ -11,6 +11,7 @@
 //! | `kept` | the lines and words of nodes that are kept, as bytes |
 //! | `rows` | the lines of variables: their values, their number of changes and their class |
 //! | `digits` | the digits of a number that is counted up |
+//! | `letter` | [`Letter`]: the letter of a value |
 //! | `outputs` | [`OutputLine`]: the line of a number, in which each output has two values |
 //! | `summary` | the summary of a change: how many variables have each class, and the size of its runs |
 #![tactic(auto, using(hz_write::proofs::Writers::writes_then, hz_write::proofs::Writers::writes_nothing))]
@@ -19,6 +20,7 @@ mod change;
 mod digits;
 mod head;
 mod kept;
+mod letter;
 mod outputs;
 mod plate;
 mod rows;
@@ -26,6 +28,7 @@ mod summary;
 
 pub use change::{write_change, write_stopped};
 pub use head::write_head;
+pub use letter::Letter;
 pub use outputs::OutputLine;
 pub use plate::Plate;
 pub use summary::write_summary;

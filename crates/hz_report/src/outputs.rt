@@ -3,10 +3,10 @@ ghost use Rattle.std.specs.Prelude.{◌≡◌, ◌<◌, ◌+◌, ◌++◌, [], �
 ghost use Rattle.hz_core.specs.declared.tri.Tri.TheVariants.{Unknown};
 ghost use Rattle.hz_write.specs.Writer.{Writes, NoneWaits};
 ghost use Rattle.hz_report.specs.Outputs.{outputs_line};
-ghost use Rattle.hz_report.specs.Words.{tri_letter};
 
 use crate::digits::Digits;
-use hz_core::{Circuit, Memory, Tri};
+use crate::letter::Letter;
+use hz_core::{Circuit, Memory};
 use hz_outside::Sink;
 use hz_write::Writer;
 use std::alloc::Global;
@@ -57,13 +57,13 @@ impl<'c> OutputLine<'c> {
 
     /// Gives an output its two values. Outputs are numbered from 0, in their order.
     #[inline(always)]
-    pub fn set(&mut self, output: usize, first: Tri, second: Tri)
+    pub fn set(&mut self, output: usize, first: Letter, second: Letter)
         requires { output < length self.old.values }
         ensures { self.new ≡ record self.old { values = slice_set self.old.values output (first, second) } }
     {
         let place = self.places[output];
-        self.text[place] = letter(first);
-        self.text[place + 1] = letter(second);
+        self.text[place] = first.byte();
+        self.text[place + 1] = second.byte();
     }
 
     /// Gives the line to a writer, with a number in front. The number after the one before takes least time.
@@ -101,16 +101,4 @@ fn add_word(name: &[u8], text: &mut Vec<u8>, places: &mut Vec<usize>) -> Result<
         return Err(Memory);
     };
     Ok(())
-}
-
-// The letter of a value.
-#[inline(always)]
-fn letter(value: Tri) -> u8
-    ensures { tri_letter value ≡ result ∷ [] }
-{
-    match value {
-        Tri::Zero => b'0',
-        Tri::One => b'1',
-        Tri::Unknown => b'X',
-    }
 }

@@ -21,9 +21,9 @@ loop-place-preserved c =
     let line = c.loop-place.line in
     let nth = c.args.lane % 4 in
     let value : List (List Tri) → Tri = λ fours. get_or (get_or fours place []) nth Zero in
-    let first : value c.as_slice-firsts.result.now ≡ in_lane firsts c.args.lane place = ap value c.as_slice-firsts.ensures.value ∙ in-four firsts c.args.columns.now.first_fours.items c.args.lane place c.requires.shown.firsts (omega (arith, inside, c.requires.columns.firsts)) in
-    let second : value c.as_slice-seconds.result.now ≡ in_lane seconds c.args.lane place = ap value c.as_slice-seconds.ensures.value ∙ in-four seconds c.args.columns.now.second_fours.items c.args.lane place c.requires.shown.seconds (omega (arith, inside, c.requires.columns.seconds)) in
-    let both : ◌≡◌ {A = Tri × Tri} (value c.as_slice-firsts.result.now, value c.as_slice-seconds.result.now) (in_lane firsts c.args.lane place, in_lane seconds c.args.lane place) = rw (first, second) refl in
+    let first : c.letter_at.result ≡ in_lane firsts c.args.lane place = c.letter_at.ensures ∙ ap value c.as_slice-firsts.ensures.value ∙ in-four firsts c.args.columns.now.first_fours.items c.args.lane place c.requires.shown.firsts (omega (arith, inside, c.requires.columns.firsts)) in
+    let second : c.letter_at-in-loop-place.result ≡ in_lane seconds c.args.lane place = c.letter_at-in-loop-place.ensures ∙ ap value c.as_slice-seconds.ensures.value ∙ in-four seconds c.args.columns.now.second_fours.items c.args.lane place c.requires.shown.seconds (omega (arith, inside, c.requires.columns.seconds)) in
+    let both : ◌≡◌ {A = Tri × Tri} (c.letter_at.result, c.letter_at-in-loop-place.result) (in_lane firsts c.args.lane place, in_lane seconds c.args.lane place) = rw (first, second) refl in
     let now : c.set.new.self ≡ record line { values = set line.values place (in_lane firsts c.args.lane place, in_lane seconds c.args.lane place) } =
     c.set.ensures ∙ ap (λ (pair : Tri × Tri). record line { values = set line.values place pair }) both in
     subst (λ (line : LineOf). IsSetTo c.args.net.now firsts seconds c.args.lane (place + 1) line) (sym now) (set-next c.args.net.now firsts seconds c.args.lane place line inside c.loop-place.invariant)

@@ -41,7 +41,7 @@ invariant_of-self c =
     let places = c.self.inside.places.items in
     let inside = rw (← c.self.view_is) at c.requires in
     let count = count-values netlist text places c.self.invariant.places in
-    let now = line-set netlist (values_at text places) text places c.args.output c.index-place.result.now _ (c.args.first, c.args.second) c.letter.result c.letter-2.result count inside c.self.invariant.text c.self.invariant.places c.index-place.ensures c.letter.ensures c.letter-2.ensures in
+    let now = line-set netlist (values_at text places) text places c.args.output c.index-place.result.now _ (c.args.first, c.args.second) c.byte.result c.byte-2.result count inside c.self.invariant.text c.self.invariant.places c.index-place.ensures c.byte.ensures c.byte-2.ensures in
     let values = set (values_at text places) c.args.output (c.args.first, c.args.second) in
     record {
       circuit = c.self.invariant.circuit;
@@ -56,7 +56,7 @@ returns c =
     let places = c.self.inside.places.items in
     let inside = rw (← c.self.view_is) at c.requires in
     let count = count-values netlist text places c.self.invariant.places in
-    let now = line-set netlist (values_at text places) text places c.args.output c.index-place.result.now _ (c.args.first, c.args.second) c.letter.result c.letter-2.result count inside c.self.invariant.text c.self.invariant.places c.index-place.ensures c.letter.ensures c.letter-2.ensures in
+    let now = line-set netlist (values_at text places) text places c.args.output c.index-place.result.now _ (c.args.first, c.args.second) c.byte.result c.byte-2.result count inside c.self.invariant.text c.self.invariant.places c.index-place.ensures c.byte.ensures c.byte-2.ensures in
     let pair : Tri × Tri = (c.args.first, c.args.second) in
     let values = set (values_at text places) c.args.output pair in
     ap (λ (list : List (Tri × Tri)). record { netlist = netlist; values = list }) (said-by-line netlist values _ places (length-set (values_at text places) c.args.output pair ∙ count) now c.self.invariant.places)
