@@ -46,12 +46,16 @@ pub mod PatternLines
 pub mod RunFaultLaws
 -- Runs that are built statement by statement, and the prefix of a run text in order
 pub mod RunBuildLaws
+-- Runs of which the last one goes on, and the places of their steps
+pub mod RunBuilderLaws
 -- The value of a text without a fault is a run text of the network
 pub mod RunUsableLaws
 -- The words of variables, by what a variable is
 pub mod VariableWords
 -- The steps of one run among those of all
 pub mod RunPrintLemmas
+-- The commonest line of a run text
+pub mod RunLines
 -- Decimal digits are read back
 pub mod DecimalLemmas
 -- The lines of a printed run text are read as its statements

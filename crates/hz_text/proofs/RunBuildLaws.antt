@@ -1,5 +1,5 @@
 -- Runs that are built statement by statement, and the prefix of a run text in order.
-use Rattle.std.proofs.Common.{◌≡◌, ◌∙◌, ℕ, ◌+◌, ◌<◌, ◌≤◌, Bool, true, false, cond, List, [], ◌∷◌, ◌++◌, Option, Some, None, zero, suc, length, get_or, set, drop, map, refl, ap, sym, subst, arith, append_assoc, zero-add}
+use Rattle.std.proofs.Common.{◌≡◌, ◌∙◌, ℕ, ◌+◌, ◌<◌, ◌≤◌, Bool, true, false, cond, List, [], ◌∷◌, ◌++◌, Option, Some, None, suc, length, get_or, drop, map, refl, ap, sym, subst, arith, append_assoc, zero-add}
 use Rattle.std.specs.List.{list_any, flat_map, range_with_len, All}
 use Rattle.std.specs.Option.{IsSome, IfSome, is_none, option_map_or}
 use Rattle.std.proofs.lemmas.Bool.Decides.{nat_tests}
@@ -48,43 +48,18 @@ begun old =
       place = ap Some (sym (last_place-push old run));
     }
 
--- the last of some runs is changed
-last_place-cons : (first : RunOf) (rest : List RunOf) → 0 < length rest → last_place (first ∷ rest) ≡ last_place rest
-last_place-cons first [] some = absurd (omega (arith, some))
-last_place-cons first (next ∷ later) some = refl
+-- the statements of the runs, where this one is the last
+flat-push : (over : List RunOf) (run : RunOf) → flat_map run_statements (over ++ run ∷ []) ≡ flat_map run_statements over ++ run_statements run
+flat-push over run = flat_map-append run_statements over (run ∷ []) ∙ ap (λ rest. flat_map run_statements over ++ rest) (append-nil (run_statements run))
 
-length-set : (runs : List RunOf) (n : ℕ) (run : RunOf) → length (set runs n run) ≡ length runs
-length-set [] n run = refl
-length-set (first ∷ later) zero run = refl
-length-set (first ∷ later) (suc n) run = ap suc (length-set later n run)
-
-last_place-set : (runs : List RunOf) (n : ℕ) (run : RunOf) → length runs ≡ suc n → last_place (set runs n run) ≡ place_in run.cycle
-last_place-set [] n run long = absurd (omega (arith, long))
-last_place-set (first ∷ []) zero run long = refl
-last_place-set (first ∷ []) (suc n) run long = absurd (omega (arith, long))
-last_place-set (first ∷ next ∷ later) zero run long = absurd (omega (arith, long))
-last_place-set (first ∷ next ∷ later) (suc n) run long =
-    last_place-cons first (set (next ∷ later) n run) (omega (arith, length-set (next ∷ later) n run)) ∙ last_place-set (next ∷ later) n run (omega (arith, long))
-
-last_place-at : (runs : List RunOf) (n : ℕ) (d : RunOf) → length runs ≡ suc n → last_place runs ≡ place_in (get_or runs n d).cycle
-last_place-at [] n d long = absurd (omega (arith, long))
-last_place-at (first ∷ []) zero d long = refl
-last_place-at (first ∷ []) (suc n) d long = absurd (omega (arith, long))
-last_place-at (first ∷ next ∷ later) zero d long = absurd (omega (arith, long))
-last_place-at (first ∷ next ∷ later) (suc n) d long = last_place-at (next ∷ later) n d (omega (arith, long))
-
+-- the last run goes on by a statement
 last-changed :
-    (runs : List RunOf) (n : ℕ) (d run : RunOf) (statement : ResolvedRunStatement) → length runs ≡ suc n →
-    run_statements run ≡ run_statements (get_or runs n d) ++ statement ∷ [] →
-    flat_map run_statements (set runs n run) ≡ flat_map run_statements runs ++ statement ∷ []
-last-changed [] n d run statement long e = absurd (omega (arith, long))
-last-changed (first ∷ []) zero d run statement long e =
-    append-nil (run_statements run) ∙ e ∙ ap (λ front. front ++ statement ∷ []) (sym (append-nil (run_statements first)))
-last-changed (first ∷ []) (suc n) d run statement long e = absurd (omega (arith, long))
-last-changed (first ∷ next ∷ later) zero d run statement long e = absurd (omega (arith, long))
-last-changed (first ∷ next ∷ later) (suc n) d run statement long e =
-    ap (λ rest. run_statements first ++ rest) (last-changed (next ∷ later) n d run statement (omega (arith, long)) e)
-    ∙ sym (append_assoc (run_statements first) (flat_map run_statements (next ∷ later)) (statement ∷ []))
+    (over : List RunOf) (old new : RunOf) (statement : ResolvedRunStatement) → run_statements new ≡ run_statements old ++ statement ∷ [] →
+    flat_map run_statements (over ++ new ∷ []) ≡ flat_map run_statements (over ++ old ∷ []) ++ statement ∷ []
+last-changed over old new statement e =
+    flat-push over new ∙ ap (λ rest. flat_map run_statements over ++ rest) e
+    ∙ sym (append_assoc (flat_map run_statements over) (run_statements old) (statement ∷ []))
+    ∙ ap (λ front. front ++ statement ∷ []) (sym (flat-push over old))
 
 -- one step more
 stepped : (lead : List (List ℕ)) (cycle : Option (List (List ℕ))) (flips : List ℕ) → run_statements (with_step_in lead cycle flips) ≡ run_statements (record { lead = lead; cycle = cycle }) ++ step_of flips ∷ []
@@ -99,17 +74,13 @@ stepped-place : (lead : List (List ℕ)) (cycle : Option (List (List ℕ))) (fli
 stepped-place lead None flips variables = refl
 stepped-place lead (Some cycle) flips variables = refl
 
-pub added_step :
-    (old : List RunOf) (n : ℕ) (d : RunOf) (flips : List ℕ) (variables : List (Option ℕ)) → length old ≡ suc n → map Some flips ≡ variables →
-    IsRunAdded old (Step variables) (set old n (with_step (get_or old n d) flips))
-added_step old n d flips variables long e =
-    let run = get_or old n d in
-    record {
-      statements = last-changed old n d (with_step run flips) (Step variables) long (stepped run.lead run.cycle flips ∙ ap (λ list. run_statements run ++ Step list ∷ []) e);
-      place =
-          ap (λ here. place_after here (Step variables)) (last_place-at old n d long) ∙ stepped-place run.lead run.cycle flips variables
-          ∙ ap Some (sym (last_place-set old n (with_step run flips) long));
-    }
+pub added_step : (over : List RunOf) (run : RunOf) (flips : List ℕ) → IsRunAdded (over ++ run ∷ []) (step_of flips) (over ++ with_step run flips ∷ [])
+added_step over run flips = record {
+  statements = last-changed over run (with_step run flips) (step_of flips) (stepped run.lead run.cycle flips);
+  place =
+      ap (λ here. place_after here (step_of flips)) (last_place-push over run) ∙ stepped-place run.lead run.cycle flips (map Some flips)
+      ∙ ap Some (sym (last_place-push over (with_step run flips)));
+}
 
 -- the cycle begins
 cycle_begun : (lead : List (List ℕ)) (cycle : Option (List (List ℕ))) → IsSome (place_after (place_in cycle) Cycle) → run_statements (record { lead = lead; cycle = Some [] }) ≡ run_statements (record { lead = lead; cycle = cycle }) ++ Cycle ∷ []
@@ -121,27 +92,17 @@ cycle_place None follows = refl
 cycle_place (Some cycle) follows = cc
 
 pub added_cycle :
-    (old : List RunOf) (n : ℕ) (d : RunOf) → length old ≡ suc n → IsSome (place_after (last_place old) Cycle) →
-    IsRunAdded old Cycle (set old n (record { lead = (get_or old n d).lead; cycle = Some [] }))
-added_cycle old n d long follows =
-    let run = get_or old n d in
+    (over : List RunOf) (run : RunOf) → IsSome (place_after (last_place (over ++ run ∷ [])) Cycle) →
+    IsRunAdded (over ++ run ∷ []) Cycle (over ++ record { lead = run.lead; cycle = Some [] } ∷ [])
+added_cycle over run follows =
     let P : Place → Type 0 = λ here. IsSome (place_after here Cycle) in
-    let here = subst P (last_place-at old n d long) follows in
+    let here = subst P (last_place-push over run) follows in
     record {
-      statements = last-changed old n d (record { lead = run.lead; cycle = Some [] }) Cycle long (cycle_begun run.lead run.cycle here);
+      statements = last-changed over run (record { lead = run.lead; cycle = Some [] }) Cycle (cycle_begun run.lead run.cycle here);
       place =
-          ap (λ here. place_after here Cycle) (last_place-at old n d long) ∙ cycle_place run.cycle here
-          ∙ ap Some (sym (last_place-set old n (record { lead = run.lead; cycle = Some [] }) long));
+          ap (λ here. place_after here Cycle) (last_place-push over run) ∙ cycle_place run.cycle here
+          ∙ ap Some (sym (last_place-push over (record { lead = run.lead; cycle = Some [] })));
     }
-
--- a step and a cycle stand in a run
-pub some_run : (old : List RunOf) (statement : ResolvedRunStatement) → place_after place.Between statement ≡ None → IsSome (place_after (last_place old) statement) → 0 < length old
-some_run [] statement none follows = absurd (no_place (place_after place.Between statement) none follows)
-  where
-    no_place : (next : Option Place) → next ≡ None → IsSome next → ⊥
-    no_place None e h = cc
-    no_place (Some next) e h = cc
-some_run (first ∷ later) statement none follows = omega arith
 
 -- what follows a statement in order
 pub record IsNextInOrder (here : Place) (statement : ResolvedRunStatement) (later : List (Numbered ResolvedRunStatement)) : Type 0 where

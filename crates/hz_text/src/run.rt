@@ -5,6 +5,7 @@
 //! | `read` | [`read_run`]: the order of work |
 //! | `statement` | the statements, looked up in a network |
 //! | `keyword` | the keywords with which they begin |
+//! | `short` | the commonest line, read without its tokens |
 //! | `variables` | the variables of a step |
 //! | `number` | decimal numbers |
 //! | `version` | the formats, 1 and 2 |
@@ -12,11 +13,14 @@
 //! | `order` | the order of the statements |
 //! | `rules` | the passes over the statements, one for each fault |
 //! | `build` | the run text of statements without a fault |
+//! | `builder` | the runs, built statement by statement |
+//! | `told` | the runs, each by the places of its steps |
 //! | `text` | [`RunText`]: a start, an input, and runs |
 //! | `print` | [`print_run`], and the functions that write its lines |
 //! | `laws` | the law that printed run texts are read as what was printed |
 
 mod build;
+mod builder;
 mod keyword;
 mod laws;
 mod number;
@@ -24,9 +28,11 @@ mod order;
 mod print;
 mod read;
 mod rules;
+mod short;
 mod size;
 mod statement;
 mod text;
+mod told;
 mod variables;
 mod version;
 

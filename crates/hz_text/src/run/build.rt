@@ -3,7 +3,7 @@
 ghost use Rattle.std.specs.Prelude.{◌≡◌, ◌≤◌, ◌++◌, ◌∷◌, [], length, map, drop, All, Some, None, IsSome, false, is_none, IfOk, OnOk};
 ghost use Rattle.std.specs.List.{flat_map, list_any, range_with_len};
 ghost use Rattle.hz_text.specs.declared.run.order.Place.TheVariants.{Between};
-ghost use Rattle.hz_text.specs.RunStatement.{Run, Step, Cycle, End};
+ghost use Rattle.hz_text.specs.RunStatement.{Step, Cycle, End};
 ghost use Rattle.hz_text.specs.RunResolution.{run_resolution_of, numbered_run_resolutions};
 ghost use Rattle.hz_text.specs.RunFault.{variables_in};
 ghost use Rattle.hz_text.specs.OrderPass.{place_after, runs_out_of_order};
@@ -16,10 +16,12 @@ ghost use Rattle.hz_text.specs.Bits.{IsWholeStart};
 
 use crate::assignments::Assigned;
 use crate::bits::bits_of;
+use crate::run::builder::RunBuilder;
 use crate::run::order::{is_end, version_in};
 use crate::run::rules::assignments_in;
 use crate::run::statement::{RunEntry, RunHeld};
-use crate::run::text::{RunText, ToldRun};
+use crate::run::text::RunText;
+use crate::run::told::ToldRuns;
 use crate::run::version::Version;
 use hz_core::{Circuit, Memory};
 use std::alloc::Global;
@@ -86,40 +88,40 @@ fn read_bits(alloc: Global, all: &[Assigned], nodes: u32) -> Result<Vec<bool>, M
 }
 
 // The runs that statements before the end are.
-fn read_runs(alloc: Global, entries: &[RunEntry]) -> Result<Vec<ToldRun>, Memory>
+fn read_runs(alloc: Global, entries: &[RunEntry]) -> Result<ToldRuns, Memory>
     requires ordered { runs_out_of_order Between (numbered_run_resolutions entries.now) ≡ None }
     requires known { All
         (λ entry. list_any is_none (variables_in (run_resolution_of entry.held))
         ≡ false) entries.now }
     ensures { IfOk result
         (λ runs. statements_without_lines (numbered_run_resolutions entries.now)
-        ≡ flat_map run_statements runs.items ++ End ∷ []) }
+        ≡ flat_map run_statements runs ++ End ∷ []) }
 {
-    let mut runs = Vec::new(alloc);
+    let mut runs = RunBuilder::new(alloc)?;
     let mut flips = Vec::new(alloc);
     for entry in entries {
         if is_end(&entry.held) {
-            return Ok(runs);
+            let told = runs.finish()?;
+            return Ok(told);
         }
         add_statement(alloc, &mut runs, &entry.held, &mut flips)?;
     }
-    Ok(runs)
+    runs.finish()
 }
 
 // Adds a statement to the runs before it.
 fn add_statement(
     alloc: Global,
-    runs: &mut Vec<ToldRun>,
+    runs: &mut RunBuilder,
     held: &RunHeld,
     flips: &mut Vec<u32>,
 ) -> Result<(), Memory>
-    requires follows { IsSome
-        (place_after (last_place runs.old.items) (run_resolution_of held.now)) }
+    requires follows { IsSome (place_after (last_place runs.old) (run_resolution_of held.now)) }
     requires known { list_any is_none (variables_in (run_resolution_of held.now)) ≡ false }
-    ensures { OnOk result (IsRunAdded runs.old.items (run_resolution_of held.now) runs.new.items) }
+    ensures { OnOk result (IsRunAdded runs.old (run_resolution_of held.now) runs.new) }
 {
     match held {
-        RunHeld::Run => begin_run(alloc, runs),
+        RunHeld::Run => runs.begin_run(alloc),
         RunHeld::Step(variables) => add_step(runs, variables, flips),
         RunHeld::StepOfOne(variable) => add_step(runs, slice::from_ref(variable), flips),
         RunHeld::Cycle => begin_cycle(alloc, runs),
@@ -127,38 +129,27 @@ fn add_statement(
     }
 }
 
-// Begins a run.
-fn begin_run(alloc: Global, runs: &mut Vec<ToldRun>) -> Result<(), Memory>
-    ensures { OnOk result (IsRunAdded runs.old.items Run runs.new.items) }
+// Begins the cycle of the last run.
+fn begin_cycle(alloc: Global, runs: &mut RunBuilder) -> Result<(), Memory>
+    requires follows { IsSome (place_after (last_place runs.old) Cycle) }
+    ensures { OnOk result (IsRunAdded runs.old Cycle runs.new) }
 {
-    runs.push(ToldRun::new(alloc))?;
+    runs.begin_cycle(alloc);
     Ok(())
 }
 
 // Adds a step to the last run.
 fn add_step(
-    runs: &mut Vec<ToldRun>,
+    runs: &mut RunBuilder,
     variables: &[Option<u32>],
     flips: &mut Vec<u32>,
 ) -> Result<(), Memory>
-    requires follows { IsSome (place_after (last_place runs.old.items) (Step variables.now)) }
+    requires follows { IsSome (place_after (last_place runs.old) (Step variables.now)) }
     requires known { list_any is_none variables.now ≡ false }
-    ensures { OnOk result (IsRunAdded runs.old.items (Step variables.now) runs.new.items) }
+    ensures { OnOk result (IsRunAdded runs.old (Step variables.now) runs.new) }
 {
     read_known(variables, flips)?;
-    let last = runs.len() - 1;
-    let run = &mut runs[last];
-    run.push_step(flips.as_slice())
-}
-
-// Begins the cycle of the last run.
-fn begin_cycle(alloc: Global, runs: &mut Vec<ToldRun>) -> Result<(), Memory>
-    requires follows { IsSome (place_after (last_place runs.old.items) Cycle) }
-    ensures { OnOk result (IsRunAdded runs.old.items Cycle runs.new.items) }
-{
-    let last = runs.len() - 1;
-    let run = &mut runs[last];
-    run.begin_cycle(alloc)
+    runs.push_step(flips.as_slice())
 }
 
 // Values that are all there, in place of those that the vector had.

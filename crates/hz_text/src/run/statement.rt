@@ -19,6 +19,7 @@ use crate::run::order::first_out_of_order;
 use crate::run::rules::{
     assignments_in, first_mismatch, least_missing_node, line_beyond, names_unknown,
 };
+use crate::run::short::step_of_one;
 use crate::run::size::{Size, read_size, size_of};
 use crate::run::variables::read_variables;
 use crate::run::version::{Version, read_version};
@@ -101,9 +102,9 @@ impl<'a, 'n, 't> Text<'t> for RunStatements<'a, 'n> {
         )
     }
 
-    // No line has a form of its own.
-    fn short(&self, _line: &'t [u8]) -> Option<RunHeld<'a>> {
-        None
+    fn short(&self, line: &'t [u8]) -> Option<RunHeld<'a>> {
+        let variable = step_of_one(self.net, line)?;
+        Some(RunHeld::StepOfOne(variable))
     }
 
     fn node_count(&self) -> u32 {

@@ -1,6 +1,6 @@
 // The variables of a step, looked up in a network.
 
-ghost use Rattle.std.specs.Prelude.{◌≡◌, ◌<◌, length, Some, IsTrue, IfSome, MatchResult};
+ghost use Rattle.std.specs.Prelude.{◌≡◌, ◌<◌, ◌∷◌, [], length, Some, IsTrue, IfSome, MatchResult};
 ghost use Rattle.std.specs.List.{list_all};
 ghost use Rattle.hz_line.specs.declared.bytes.Punctuation.TheVariants.{Open};
 ghost use Rattle.hz_line.specs.Token.{PunctuationOf, tokens_of, with_token};
@@ -54,6 +54,24 @@ fn first_variable<'a>(net: &Net, line: &'a [u8]) -> Option<(Option<u32>, &'a [u8
         PinAfter::Absent => Some((node, after)),
         PinAfter::Malformed => None,
         PinAfter::Pin(number, rest) => Some((wire_into(net, node, number), rest)),
+    }
+}
+
+// The variable that a line has alone, looked up. `None` says nothing of the line.
+pub(crate) fn only_variable(net: &Net, line: &[u8]) -> Option<Option<u32>>
+    ensures { IfSome result
+        (λ variable. by_tokens (variables_by net.now) (tokens_of line.now)
+        ≡ Some (variable ∷ [])) }
+{
+    let (name, after) = first_word(line)?;
+    match pin_after(after) {
+        PinAfter::Absent if is_blank_line(after) => Some(net.circuit().find(name)),
+        PinAfter::Absent => None,
+        PinAfter::Malformed => None,
+        PinAfter::Pin(number, rest) if is_blank_line(rest) => {
+            Some(wire_into(net, net.circuit().find(name), number))
+        }
+        PinAfter::Pin(_, _) => None,
     }
 }
 

@@ -6,6 +6,7 @@ use Rattle.std.proofs.lemmas.Option.{none-some}
 use Rattle.hz_line.specs.Statement.{Numbered}
 use Rattle.hz_text.specs.declared.run.order.Place.{Place}
 use Rattle.hz_text.specs.RunResolution.{RunEntry, ResolvedRunStatement, numbered_run_resolution, numbered_run_resolutions, run_resolution_of}
+use Rattle.hz_text.specs.RunStatement.{End}
 use Rattle.hz_text.specs.RunFault.{variables_in}
 use Rattle.hz_text.specs.OrderPass.{runs_out_of_order}
 use Rattle.hz_text.specs.RunText.{run_statements}
@@ -19,7 +20,7 @@ returns-then-is_end c =
     let entries = c.args.entries.now in
     let i = c.loop-entry.entry-index in
     let entry = c.entry-item.result in
-    let runs = c.loop-entry.runs.items in
+    let runs = c.loop-entry.runs in
     let rest = numbered_run_resolutions (drop (i + 1) entries) in
     let at = entries-at entries i entry c.loop-entry-test.true c.entry-item.is in
     let P : List (Numbered ResolvedRunStatement) → Type 0 = λ statements. runs_out_of_order (last_place runs) statements ≡ None in
@@ -27,13 +28,14 @@ returns-then-is_end c =
     ∙ ap (λ statements. flat_map run_statements runs ++ statements_without_lines statements) at
     ∙ ap (λ statements. flat_map run_statements runs ++ statements)
     (ended (last_place runs) (numbered_run_resolution entry) rest (sym c.is_end.ensures ∙ c.if-is_end.true) (subst P at c.loop-entry.invariant.ordered))
+    ∙ ap (λ those. flat_map run_statements those ++ End ∷ []) (sym c.in_ok-told.ensures)
 
 pub add_statement-requires-clause-follows : goal.add_statement-requires-clause-follows
 add_statement-requires-clause-follows c =
     let entries = c.args.entries.now in
     let i = c.loop-entry.entry-index in
     let entry = c.entry-item.result in
-    let runs = c.loop-entry.runs.items in
+    let runs = c.loop-entry.runs in
     let rest = numbered_run_resolutions (drop (i + 1) entries) in
     let at = entries-at entries i entry c.loop-entry-test.true c.entry-item.is in
     let P : List (Numbered ResolvedRunStatement) → Type 0 = λ statements. runs_out_of_order (last_place runs) statements ≡ None in
@@ -52,8 +54,8 @@ loop-entry-preserved c =
     let i = c.loop-entry.entry-index in
     let entry = c.entry-item.result in
     let statement = run_resolution_of entry.held in
-    let runs = c.loop-entry.runs.items in
-    let more = c.add_statement.new.runs.items in
+    let runs = c.loop-entry.runs in
+    let more = c.add_statement.new.runs in
     let rest = numbered_run_resolutions (drop (i + 1) entries) in
     let at = entries-at entries i entry c.loop-entry-test.true c.entry-item.is in
     let P : List (Numbered ResolvedRunStatement) → Type 0 = λ statements. runs_out_of_order (last_place runs) statements ≡ None in
@@ -75,6 +77,6 @@ pub returns : goal.returns
 returns c =
     let entries = c.args.entries.now in
     let none = drop_all c.loop-entry.entry-index entries c.loop-entry-test.false in
-    let P : List RunEntry → Type 0 = λ left. runs_out_of_order (last_place c.loop-entry.runs.items) (numbered_run_resolutions left) ≡ None in
+    let P : List RunEntry → Type 0 = λ left. runs_out_of_order (last_place c.loop-entry.runs) (numbered_run_resolutions left) ≡ None in
     let wrong : Some 0 ≡ None = subst P none c.loop-entry.invariant.ordered in
     absurd (none-some 0 (sym wrong))

@@ -9,6 +9,6 @@ use Rattle.hz_text.proofs.run.build.read_runs.Given as goal
 
 abbrev pub invariant-loop-entry : goal.invariant-loop-entry
 invariant-loop-entry l = record {
-  read : statements_without_lines (numbered_run_resolutions l.entries) ≡ flat_map run_statements l.runs.items ++ statements_without_lines (numbered_run_resolutions (drop l.entry-index l.entries));
-  ordered : runs_out_of_order (last_place l.runs.items) (numbered_run_resolutions (drop l.entry-index l.entries)) ≡ None;
+  read : statements_without_lines (numbered_run_resolutions l.entries) ≡ flat_map run_statements l.runs ++ statements_without_lines (numbered_run_resolutions (drop l.entry-index l.entries));
+  ordered : runs_out_of_order (last_place l.runs) (numbered_run_resolutions (drop l.entry-index l.entries)) ≡ None;
 }
