@@ -13,6 +13,8 @@ put_fault Sink = put.Failed
 put_fault Memory = put.Memory
 
 -- The text was written. Otherwise a prefix of it was: the sink failed, which its count shows, or memory ran out.
-abbrev pub WroteBatch : {S : Type 0} → (S → Output) → (S → ℕ) → List ℕ → S → S → Result (Unit {0}) BatchFault → Type 0
+abbrev pub WroteBatch : {S : Type 0} → (S → Output) → (S → ℕ) → List ℕ → S → S →
+    Result (Unit {0}) BatchFault → Type 0
 WroteBatch output faults text was now result =
-    MatchResult result (λ _. Puts output faults text was now) (λ fault. Stops output faults (put_fault fault) text was now)
+    MatchResult result (λ _. Puts output faults text was now)
+    (λ fault. Stops output faults (put_fault fault) text was now)

@@ -10,7 +10,8 @@ use Rattle.hz_batch.specs.Outcome.{Outcome, Open, Unstable, Settled, AreOutcomes
 
 -- the start of the pattern with a number is refused for a gate
 unfoldable pub refused_line : Netlist → ℕ → (word : List ℕ) → ℕ → List ℕ
-refused_line netlist number word gate = line_of (decimal number ∷ word ∷ node_name netlist.names gate ∷ [])
+refused_line netlist number word gate =
+    line_of (decimal number ∷ word ∷ node_name netlist.names gate ∷ [])
 
 -- the line of the pattern with a number: why its start is refused, or each output with its values in A and in B
 abbrev pub outcome_line : Netlist → ℕ → Outcome → List ℕ
@@ -21,7 +22,8 @@ outcome_line netlist number (Settled a b) = outputs_line netlist number (output_
 -- the lines of patterns, the first of which has a number
 abbrev pub outcome_lines : Netlist → ℕ → List Outcome → List ℕ
 outcome_lines netlist number [] = []
-outcome_lines netlist number (outcome ∷ outcomes) = outcome_line netlist number outcome ++ outcome_lines netlist (number + 1) outcomes
+outcome_lines netlist number (outcome ∷ outcomes) =
+    outcome_line netlist number outcome ++ outcome_lines netlist (number + 1) outcomes
 
 -- a gate is open at the start
 abbrev pub is_open : Outcome → Bool
@@ -44,13 +46,16 @@ is_unsettled (Settled a b) = list_any is_unknown b
 -- how many patterns there are, and how many of them have an open gate, an unstable one, and an X that stays
 unfoldable pub counts_line : ℕ → ℕ → ℕ → ℕ → List ℕ
 counts_line patterns open_ones unstable_ones unsettled_ones =
-    line_of (codes "patterns " ∷ decimal patterns ∷ codes " open " ∷ decimal open_ones ∷ codes " unstable " ∷ decimal unstable_ones
+    line_of
+    (codes "patterns " ∷ decimal patterns ∷ codes " open " ∷ decimal open_ones
+    ∷ codes " unstable " ∷ decimal unstable_ones
     ∷ codes " unsettled " ∷ decimal unsettled_ones ∷ [])
 
 -- the line of counts of outcomes
 abbrev pub counts_of : List Outcome → List ℕ
 counts_of outcomes =
-    counts_line (length outcomes) (count_by is_open outcomes) (count_by is_unstable outcomes) (count_by is_unsettled outcomes)
+    counts_line (length outcomes) (count_by is_open outcomes) (count_by is_unstable outcomes)
+    (count_by is_unsettled outcomes)
 
 -- The text of patterns: the line of each, counted from 1, and then the line of counts.
 pub record IsBatchText (netlist : Netlist) (patterns : PatternsOf) (text : List ℕ) : Type 0 where

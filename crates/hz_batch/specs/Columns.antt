@@ -11,7 +11,8 @@ use Rattle.hz_plane.specs.View.{IsLaneValue, IsFilledValue, value_in}
 
 -- what planes say of a value in a lane, at a stage
 abbrev pub IsTold : Stage → Netlist → Loaded → ℕ → Tri → Type 0
-IsTold stage netlist loaded var value = IsLaneValue stage netlist loaded var value × IsFilledValue stage netlist loaded var value
+IsTold stage netlist loaded var value =
+    IsLaneValue stage netlist loaded var value × IsFilledValue stage netlist loaded var value
 
 -- no values
 abbrev pub no_values : LaneValues
@@ -21,7 +22,8 @@ no_values = record { zero = []; one = [] }
 abbrev pub HasColumns : List ℕ → List LaneValues → ℕ → List Tri → Type 0
 HasColumns variables columns lane state =
     (place : ℕ) → place < length variables →
-    value_in (slice_index_or columns place no_values) lane ≡ value_at state (slice_index variables place)
+    value_in (slice_index_or columns place no_values) lane
+    ≡ value_at state (slice_index variables place)
 
 -- the values of a variable in the loaded lanes, at a stage
 abbrev pub IsColumn : Netlist → Stage → List (Option Loaded) → ℕ → LaneValues → Type 0
@@ -32,4 +34,6 @@ IsColumn netlist stage lanes var column =
 -- the values of variables, a column for each
 abbrev pub AreColumns : Netlist → Stage → List (Option Loaded) → List ℕ → List LaneValues → Type 0
 AreColumns netlist stage lanes variables columns =
-    (place : ℕ) → place < length variables → IsColumn netlist stage lanes (slice_index variables place) (slice_index_or columns place no_values)
+    (place : ℕ) → place < length variables →
+    IsColumn netlist stage lanes (slice_index variables place)
+    (slice_index_or columns place no_values)

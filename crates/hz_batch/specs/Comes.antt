@@ -13,10 +13,12 @@ use Rattle.hz_batch.specs.ResetText.{IsBroughtAbout, IsResetText, unknown_line}
 
 -- what a pattern comes to: by the start that it lists, or from the unknown start, where it always comes to values
 abbrev pub comes_to : Job → Netlist → List (Option Bool) → PatternOf → Outcome → Type 0
-comes_to Batch netlist held pattern outcome = IsOutcome netlist (listing_of held pattern) pattern.to outcome
+comes_to Batch netlist held pattern outcome =
+    IsOutcome netlist (listing_of held pattern) pattern.to outcome
 comes_to Reset netlist held pattern (Open gate) = ⊥
 comes_to Reset netlist held pattern (Unstable gate) = ⊥
-comes_to Reset netlist held pattern (Settled a b) = IsBroughtAbout netlist held pattern (record { first = a; second = b })
+comes_to Reset netlist held pattern (Settled a b) =
+    IsBroughtAbout netlist held pattern (record { first = a; second = b })
 
 -- the gates that are held where a lane is loaded
 abbrev pub held_by : Job → List (Option Bool) → List (Option Bool)
@@ -34,13 +36,16 @@ kept_at Reset = Completed
 
 -- the last line, by what was counted
 abbrev pub last_line : Job → (patterns open_ones unstable_ones unsettled_ones : ℕ) → List ℕ
-last_line Batch patterns open_ones unstable_ones unsettled_ones = counts_line patterns open_ones unstable_ones unsettled_ones
-last_line Reset patterns open_ones unstable_ones unsettled_ones = unknown_line patterns unsettled_ones
+last_line Batch patterns open_ones unstable_ones unsettled_ones =
+    counts_line patterns open_ones unstable_ones unsettled_ones
+last_line Reset patterns open_ones unstable_ones unsettled_ones =
+    unknown_line patterns unsettled_ones
 
 -- the last line of outcomes
 abbrev pub last_of : Job → List Outcome → List ℕ
 last_of job outcomes =
-    last_line job (length outcomes) (count_by is_open outcomes) (count_by is_unstable outcomes) (count_by is_unsettled outcomes)
+    last_line job (length outcomes) (count_by is_open outcomes) (count_by is_unstable outcomes)
+    (count_by is_unsettled outcomes)
 
 -- the text
 abbrev pub IsTextOf : Job → Netlist → PatternsOf → List ℕ → Type 0

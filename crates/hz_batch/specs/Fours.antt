@@ -11,21 +11,27 @@ use Rattle.hz_batch.specs.declared.columns.Columns.{Columns}
 
 -- the values of a variable in four lanes, from one on
 abbrev pub HasFour : LaneValues → ℕ → List Tri → Type 0
-HasFour column lane four = (nth : ℕ) → nth < 4 → slice_index_or four nth Zero ≡ value_in column (lane + nth)
+HasFour column lane four =
+    (nth : ℕ) → nth < 4 → slice_index_or four nth Zero ≡ value_in column (lane + nth)
 
 -- the values of variables in four lanes
 abbrev pub HaveFours : List LaneValues → ℕ → List (List Tri) → Type 0
 HaveFours columns lane fours =
-    (place : ℕ) → place < length columns → HasFour (slice_index_or columns place no_values) lane (slice_index_or fours place [])
+    (place : ℕ) → place < length columns →
+    HasFour (slice_index_or columns place no_values) lane (slice_index_or fours place [])
 
 -- the values that the first four bits of two words say
 abbrev pub IsRow : (zeros ones : ℕ) → List Tri → Type 0
-IsRow zeros ones row = (nth : ℕ) → nth < 4 → slice_index_or row nth Zero ≡ value_by (nat_eq (bit_at zeros nth) 1) (nat_eq (bit_at ones nth) 1)
+IsRow zeros ones row =
+    (nth : ℕ) → nth < 4 →
+    slice_index_or row nth Zero
+    ≡ value_by (nat_eq (bit_at zeros nth) 1) (nat_eq (bit_at ones nth) 1)
 
 -- a row for each four bits of either word
 pub record IsTable (table : List (List Tri)) : Type 0 where
   pub long : length table ≡ 256
-  pub rows : (zeros ones : ℕ) → zeros < 16 → ones < 16 → IsRow zeros ones (slice_index_or table (zeros * 16 + ones) [])
+  pub rows : (zeros ones : ℕ) → zeros < 16 → ones < 16 →
+      IsRow zeros ones (slice_index_or table (zeros * 16 + ones) [])
 
 -- both values of each output were looked up in four lanes
 pub record ShowFour (lane : ℕ) (columns : Columns) : Type 0 where

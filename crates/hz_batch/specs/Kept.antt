@@ -17,7 +17,8 @@ pub record AreColumnsFor (netlist : Netlist) (columns : Columns) : Type 0 where
   pub table : IsTable columns.table.items
 
 -- the values of the outputs at a stage, and once the planes are settled
-pub record HoldBoth (netlist : Netlist) (stage : Stage) (lanes : List (Option Loaded)) (columns : Columns) : Type 0 where
+pub record HoldBoth (netlist : Netlist) (stage : Stage) (lanes : List (Option Loaded))
+    (columns : Columns) : Type 0 where
   pub fit : AreColumnsFor netlist columns
   pub firsts : AreColumns netlist stage lanes netlist.outputs columns.firsts.items
   pub seconds : AreColumns netlist AllSettled lanes netlist.outputs columns.seconds.items

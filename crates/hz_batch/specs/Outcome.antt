@@ -20,7 +20,8 @@ abbrev pub listing_of : List (Option Bool) → PatternOf → List (Option Bool)
 listing_of held pattern = map Some pattern.from ++ drop (length pattern.from) held
 
 -- what a listed start comes to under a new input
-abbrev pub IsOutcome : Netlist → (listed : List (Option Bool)) → (input : List Bool) → Outcome → Type 0
+abbrev pub IsOutcome : Netlist → (listed : List (Option Bool)) → (input : List Bool) → Outcome →
+    Type 0
 IsOutcome netlist listed input (Open gate) = IsLeastOpen netlist listed gate
 IsOutcome netlist listed input (Unstable gate) = IsLeastUnstable netlist listed gate
 IsOutcome netlist listed input (Settled a b) =
@@ -29,5 +30,7 @@ IsOutcome netlist listed input (Settled a b) =
     × IsResult (algorithm_b (network_of netlist) input a) b
 
 -- what each pattern comes to, by the start that it lists and its second bits
-abbrev pub AreOutcomes : Netlist → (held : List (Option Bool)) → List PatternOf → List Outcome → Type 0
-AreOutcomes netlist held = AreEach (λ pattern. IsOutcome netlist (listing_of held pattern) pattern.to)
+abbrev pub AreOutcomes : Netlist → (held : List (Option Bool)) → List PatternOf → List Outcome →
+    Type 0
+AreOutcomes netlist held =
+    AreEach (λ pattern. IsOutcome netlist (listing_of held pattern) pattern.to)

@@ -12,7 +12,9 @@ use Rattle.hz_batch.specs.Each.{AreEach}
 use Rattle.hz_batch.specs.Outcome.{Outcome}
 
 -- the lines of patterns, the first of which has a number, were given to a writer, and were counted
-pub record AreWritten {S : Type 0} (output : S → Output) (faults : S → ℕ) (netlist : Netlist) (comes : PatternOf → Outcome → Type 0) (patterns : List PatternOf) (number : ℕ) (was now : Writer S) (counts counts' : Counts) : Type 0 where
+pub record AreWritten {S : Type 0} (output : S → Output) (faults : S → ℕ) (netlist : Netlist)
+    (comes : PatternOf → Outcome → Type 0) (patterns : List PatternOf) (number : ℕ)
+    (was now : Writer S) (counts counts' : Counts) : Type 0 where
   pub outcomes : List Outcome
   pub are_outcomes : AreEach comes patterns outcomes
   pub lines : Writes output faults (outcome_lines netlist number outcomes) was now

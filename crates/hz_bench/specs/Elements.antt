@@ -35,7 +35,8 @@ HaveRightPins statements = AllByRecursion (λ statement. has_wrong_pins statemen
 
 -- the cuts and gates of entries may be connected, one after the other
 abbrev pub MayConnect : Netlist → List Entry → Type 0
-MayConnect netlist entries = AreAdmissibleSteps MayAddPins with_pins_of (initial_builder netlist) (element_list entries)
+MayConnect netlist entries =
+    AreAdmissibleSteps MayAddPins with_pins_of (initial_builder netlist) (element_list entries)
 
 -- the circuit of nodes and of outputs with these names, built
 abbrev pub built_from : List Entry → List (List ℕ) → Netlist

@@ -13,15 +13,18 @@ States text line statement = bench_meaning_at text line ≡ Means statement
 
 -- the line has a statement that passes a test
 abbrev pub HasThat : (Statement → Bool) → List ℕ → ℕ → Type 0
-HasThat test text line = (statement : Statement) × States text line statement × (test statement ≡ true)
+HasThat test text line =
+    (statement : Statement) × States text line statement × (test statement ≡ true)
 
 -- the line defines the name
 abbrev pub Defines : List ℕ → ℕ → List ℕ → Type 0
-Defines text line name = (statement : Statement) × States text line statement × (defined_name statement ≡ Some name)
+Defines text line name =
+    (statement : Statement) × States text line statement × (defined_name statement ≡ Some name)
 
 -- the line uses the name
 abbrev pub Uses : List ℕ → ℕ → List ℕ → Type 0
-Uses text line name = (statement : Statement) × States text line statement × Contains (used_names statement) name
+Uses text line name =
+    (statement : Statement) × States text line statement × Contains (used_names statement) name
 
 -- the line defines a name that an earlier line defines, and the first such line is this one
 pub record IsSecond (text : List ℕ) (line first : ℕ) (name : List ℕ) : Type 0 where
@@ -36,9 +39,13 @@ HasFault text (Form line) = bench_meaning_at text line ≡ Malformed
 HasFault text (Name line) = HasThat has_long_name text line
 HasFault text (KindUnknown line) = HasThat has_unknown_kind text line
 HasFault text (Twice line first) = (name : List ℕ) × IsSecond text line first name
-HasFault text (Pins line count) = (statement : Statement) × States text line statement × (has_wrong_pins statement ≡ true) × (statement_pin_count statement ≡ count)
-HasFault text (Undefined line) = (name : List ℕ) × Uses text line name × ((other : ℕ) → ¬ Defines text other name)
-HasFault text (TooMany variables) = (most_variables < variables) × (variable_total (statements_of text) ≡ variables)
+HasFault text (Pins line count) =
+    (statement : Statement) × States text line statement × (has_wrong_pins statement ≡ true)
+    × (statement_pin_count statement ≡ count)
+HasFault text (Undefined line) =
+    (name : List ℕ) × Uses text line name × ((other : ℕ) → ¬ Defines text other name)
+HasFault text (TooMany variables) =
+    (most_variables < variables) × (variable_total (statements_of text) ≡ variables)
 HasFault text Memory = ⊥
 
 -- the number of a fault; 4 is not used
@@ -65,7 +72,10 @@ fault_line_number Memory = 0
 
 -- a fault comes before another: it has a lesser number, or the same number and no later line
 abbrev pub ComesFirst : BenchFault → BenchFault → Type 0
-ComesFirst fault other = (fault_number fault < fault_number other) ⊎ ((fault_number fault ≡ fault_number other) × (fault_line_number fault ≤ fault_line_number other))
+ComesFirst fault other =
+    (fault_number fault < fault_number other)
+    ⊎ ((fault_number fault ≡ fault_number other)
+    × (fault_line_number fault ≤ fault_line_number other))
 
 -- the answer among the faults of a text: the least number and, among those, the least line
 pub record IsLeastFault (text : List ℕ) (fault : BenchFault) : Type 0 where

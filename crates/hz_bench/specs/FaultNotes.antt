@@ -10,7 +10,8 @@ use Rattle.hz_bench.specs.Text.{variable_total_among}
 
 -- a flip-flop or a gate with wrong pins, as it is noted
 abbrev pub wrong_pins_of : Numbered Statement → WrongPins
-wrong_pins_of numbered = record { line = numbered.line; count = statement_pin_count numbered.statement }
+wrong_pins_of numbered =
+    record { line = numbered.line; count = statement_pin_count numbered.statement }
 
 -- how many inputs are among the statements
 abbrev pub inputs_among : List (Numbered Statement) → ℕ
@@ -34,7 +35,15 @@ notes_of statements = record {
 
 -- of no statement
 abbrev pub no_notes : Notes
-no_notes = record { long_name = None; unknown_kind = None; wrong_pins = None; inputs = 0; cuts = 0; variables = 0 }
+no_notes =
+    record {
+      long_name = None;
+      unknown_kind = None;
+      wrong_pins = None;
+      inputs = 0;
+      cuts = 0;
+      variables = 0;
+    }
 
 -- the line that was noted first, or this one where it is the first to be noted
 abbrev pub first_of : Option ℕ → Bool → ℕ → Option ℕ
@@ -44,7 +53,8 @@ first_of None here line = if here then Some line else None
 -- the wrong pins that were noted first, or this statement where it is the first
 abbrev pub wrong_or : Option WrongPins → Numbered Statement → Option WrongPins
 wrong_or (Some first) numbered = Some first
-wrong_or None numbered = if has_wrong_pins numbered.statement then Some (wrong_pins_of numbered) else None
+wrong_or None numbered =
+    if has_wrong_pins numbered.statement then Some (wrong_pins_of numbered) else None
 
 -- with one statement more
 abbrev pub notes_with : Notes → Numbered Statement → Notes

@@ -21,7 +21,11 @@ has_punctuated_first (Some (WordOf word ∷ tokens)) = has_punctuation_first (So
 -- a line begins with this word and this punctuation, before a shorter line; or with no word that has punctuation after it
 abbrev pub IsPunctuatedFirst : List ℕ → Option PunctuatedWord → Type 0
 IsPunctuatedFirst line None = has_punctuated_first (tokens_of line) ≡ false
-IsPunctuatedFirst line (Some marked) = (tokens_of line ≡ with_token (WordOf marked.word.now) (with_token (PunctuationOf marked.punctuation) (tokens_of marked.rest.now))) × (length marked.rest.now < length line)
+IsPunctuatedFirst line (Some marked) =
+    (tokens_of line
+    ≡ with_token (WordOf marked.word.now)
+    (with_token (PunctuationOf marked.punctuation) (tokens_of marked.rest.now)))
+    × (length marked.rest.now < length line)
 
 -- the statement of a line's tokens, if it has them and they are one
 abbrev pub statement_by : Option (List TokenOf) → Option Statement
@@ -31,16 +35,23 @@ statement_by (Some tokens) = statement_of tokens
 -- what is read of a line: its statement, or nothing where it has none
 abbrev pub IsStatementOfLine : ℕ → List ℕ → Option Line → Type 0
 IsStatementOfLine line text None = statement_by (tokens_of text) ≡ None
-IsStatementOfLine line text (Some found) = ((numbered_line found).line ≡ line) × (bench_meaning text ≡ Means (numbered_line found).statement)
+IsStatementOfLine line text (Some found) =
+    ((numbered_line found).line ≡ line)
+    × (bench_meaning text ≡ Means (numbered_line found).statement)
 
 -- the tokens of a head, and of the line after it
 abbrev pub head_tokens : Head → Option (List TokenOf)
-head_tokens head = with_token (WordOf head.first.now) (with_token (PunctuationOf head.punctuation) (with_token (WordOf head.second.now) (with_token (PunctuationOf head.next) (tokens_of head.rest.now))))
+head_tokens head =
+    with_token (WordOf head.first.now)
+    (with_token (PunctuationOf head.punctuation)
+    (with_token (WordOf head.second.now)
+    (with_token (PunctuationOf head.next) (tokens_of head.rest.now))))
 
 -- a line begins with this head; without one it has no statement
 abbrev pub IsHeadOf : List ℕ → Option Head → Type 0
 IsHeadOf line None = statement_by (tokens_of line) ≡ None
-IsHeadOf line (Some head) = (tokens_of line ≡ head_tokens head) × (length head.rest.now ≤ length line)
+IsHeadOf line (Some head) =
+    (tokens_of line ≡ head_tokens head) × (length head.rest.now ≤ length line)
 
 -- the names that a line's tokens list, if it has them and they are a list of names
 abbrev pub names_by : Option (List TokenOf) → Option (List (List ℕ))
@@ -49,7 +60,8 @@ names_by (Some tokens) = name_list_of tokens
 
 -- what is noted of names, after what was noted before them
 abbrev pub name_list_with : NameList → List (List ℕ) → NameList
-name_list_with noted names = record { count = noted.count + length names; long = noted.long || list_any is_long names }
+name_list_with noted names =
+    record { count = noted.count + length names; long = noted.long || list_any is_long names }
 
 -- nothing is noted yet
 abbrev pub no_name_list : NameList

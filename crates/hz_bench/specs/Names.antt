@@ -8,7 +8,8 @@ use Rattle.hz_bench.specs.Statement.{Statement, sources_of, used_names}
 -- the names that statements define, with their lines
 abbrev pub definitions_of : List (Numbered Statement) → List (Numbered (List ℕ))
 definitions_of [] = []
-definitions_of (first ∷ rest) = on_line first.line (defined_names (first.statement ∷ [])) ++ definitions_of rest
+definitions_of (first ∷ rest) =
+    on_line first.line (defined_names (first.statement ∷ [])) ++ definitions_of rest
 
 -- the names that statements use, with their lines
 abbrev pub uses_of : List (Numbered Statement) → List (Numbered (List ℕ))
@@ -23,7 +24,8 @@ read_names (first ∷ rest) = sources_of first ++ read_names rest
 -- names of which a line defines these
 abbrev pub with_definitions : Names → ℕ → List (List ℕ) → Names
 with_definitions names line [] = names
-with_definitions names line (name ∷ rest) = with_definitions (with_definition names name line) line rest
+with_definitions names line (name ∷ rest) =
+    with_definitions (with_definition names name line) line rest
 
 -- names of which a line uses these
 abbrev pub with_uses : Names → ℕ → List (List ℕ) → Names
@@ -33,7 +35,8 @@ with_uses names line (name ∷ rest) = with_uses (with_use names name line) line
 -- names with those of a statement
 abbrev pub with_statement : Names → Numbered Statement → Names
 with_statement names one =
-    with_uses (with_definitions names one.line (defined_names (one.statement ∷ []))) one.line (used_names one.statement)
+    with_uses (with_definitions names one.line (defined_names (one.statement ∷ []))) one.line
+    (used_names one.statement)
 
 -- the first line that defines the name, if one is defined
 abbrev pub definer_before : Names → Option (List ℕ) → Option ℕ

@@ -70,7 +70,8 @@ gates_of names [] = []
 gates_of names (Input name ∷ rest) = gates_of names rest
 gates_of names (Output name ∷ rest) = gates_of names rest
 gates_of names (FlipFlop name sources ∷ rest) = gates_of names rest
-gates_of names (Gate name kind sources ∷ rest) = record { kind = kind_of kind; sources = map (number_in names) sources } ∷ gates_of names rest
+gates_of names (Gate name kind sources ∷ rest) =
+    record { kind = kind_of kind; sources = map (number_in names) sources } ∷ gates_of names rest
 
 -- the data nodes of the flip-flops, in order
 abbrev pub data_nodes : List (List ℕ) → List Statement → List ℕ
@@ -86,5 +87,7 @@ circuit_of_statements statements =
       inputs = length (all_inputs statements);
       cuts = map Some (data_nodes names statements);
       gates = gates_of names statements;
-      outputs = each_once (map (number_in names) (output_names statements) ++ data_nodes names statements);
+      outputs =
+          each_once
+          (map (number_in names) (output_names statements) ++ data_nodes names statements);
     }

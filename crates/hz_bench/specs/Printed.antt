@@ -27,7 +27,8 @@ port_lines word (name ∷ rest) = port_line word name ++ port_lines word rest
 -- a comma and the name of each further source
 abbrev pub more_sources : List (List ℕ) → List ℕ → List ℕ
 more_sources names [] = []
-more_sources names (source ∷ rest) = (codes ", " ++ node_name names source) ++ more_sources names rest
+more_sources names (source ∷ rest) =
+    (codes ", " ++ node_name names source) ++ more_sources names rest
 
 -- the names of the sources, with a comma and a space between them
 abbrev pub source_list : List (List ℕ) → List ℕ → List ℕ
@@ -40,12 +41,14 @@ gate_head name kind = name ++ (codes " = " ++ (kind_name kind ++ codes "("))
 
 -- the line of a gate
 unfoldable pub gate_line : List (List ℕ) → List ℕ → Gate → List ℕ
-gate_line names name gate = gate_head name gate.kind ++ (source_list names gate.sources ++ (codes ")" ++ 10 ∷ []))
+gate_line names name gate =
+    gate_head name gate.kind ++ (source_list names gate.sources ++ (codes ")" ++ 10 ∷ []))
 
 -- the lines of gates, the first of which is this node
 abbrev pub gate_texts : List (List ℕ) → ℕ → List Gate → List ℕ
 gate_texts names node [] = []
-gate_texts names node (gate ∷ rest) = gate_line names (node_name names node) gate ++ gate_texts names (suc node) rest
+gate_texts names node (gate ∷ rest) =
+    gate_line names (node_name names node) gate ++ gate_texts names (suc node) rest
 
 -- the line of a flip-flop: its name and the name that it reads
 unfoldable pub cut_line : List ℕ → List ℕ → List ℕ
@@ -59,7 +62,8 @@ cut_text names name (Some node) = cut_line name (node_name names node)
 -- the lines of cuts, the first of which is this node
 abbrev pub cut_lines : List (List ℕ) → ℕ → List (Option ℕ) → List ℕ
 cut_lines names node [] = []
-cut_lines names node (cut ∷ rest) = cut_text names (node_name names node) cut ++ cut_lines names (suc node) rest
+cut_lines names node (cut ∷ rest) =
+    cut_text names (node_name names node) cut ++ cut_lines names (suc node) rest
 
 -- the text of a circuit: primary inputs, outputs, cuts and gates, a line each
 unfoldable pub netlist_text : Netlist → List ℕ

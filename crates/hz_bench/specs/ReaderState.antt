@@ -35,9 +35,11 @@ redefinition_with None line None = None
 redefinition_with None line (Some first) = Some (record { line = line; first = first })
 
 -- a node was kept, unless there are too many variables
-pub record KeepsNode (old : Statements) (entry : Entry) (number : ℕ) (new : Statements) : Type 0 where
+pub record KeepsNode (old : Statements) (entry : Entry) (number : ℕ)
+    (new : Statements) : Type 0 where
   pub nodes : new.notes.variables ≤ most_variables → new.nodes.items ≡ old.nodes.items ++ entry ∷ []
-  pub defined : new.notes.variables ≤ most_variables → new.defined.items ≡ old.defined.items ++ number ∷ []
+  pub defined : new.notes.variables ≤ most_variables →
+      new.defined.items ≡ old.defined.items ++ number ∷ []
   pub sources : new.notes.variables ≤ most_variables → new.sources.items ≡ old.sources.items
   pub names : new.names ≡ old.names
   pub outputs : new.outputs.items ≡ old.outputs.items
@@ -46,23 +48,35 @@ pub record KeepsNode (old : Statements) (entry : Entry) (number : ℕ) (new : St
 
 -- the next statement was added to those before it: its names; what it defines, reads or puts out, by the numbers of the names; and notes.
 -- Of nodes nothing is kept where there are too many variables
-pub record AddsStatement (old : Statements) (next : Numbered Statement) (new : Statements) : Type 0 where
+pub record AddsStatement (old : Statements) (next : Numbered Statement)
+    (new : Statements) : Type 0 where
   pub names : new.names ≡ with_statement old.names next
-  pub nodes : new.notes.variables ≤ most_variables → numbered_list new.nodes.items ≡ numbered_list old.nodes.items ++ nodes_among (next ∷ [])
-  pub defined : new.notes.variables ≤ most_variables → told new.defined.items ≡ told old.defined.items ++ places new.names (defined_names (next.statement ∷ []))
-  pub sources : new.notes.variables ≤ most_variables → told new.sources.items ≡ told old.sources.items ++ places new.names (sources_of next.statement)
-  pub outputs : told new.outputs.items ≡ told old.outputs.items ++ places new.names (output_names (next.statement ∷ []))
+  pub nodes : new.notes.variables ≤ most_variables →
+      numbered_list new.nodes.items ≡ numbered_list old.nodes.items ++ nodes_among (next ∷ [])
+  pub defined : new.notes.variables ≤ most_variables →
+      told new.defined.items
+      ≡ told old.defined.items ++ places new.names (defined_names (next.statement ∷ []))
+  pub sources : new.notes.variables ≤ most_variables →
+      told new.sources.items
+      ≡ told old.sources.items ++ places new.names (sources_of next.statement)
+  pub outputs : told new.outputs.items
+      ≡ told old.outputs.items ++ places new.names (output_names (next.statement ∷ []))
   pub notes : new.notes ≡ notes_with old.notes next
-  pub again : new.again ≡ redefinition_with old.again next.line (definer_before old.names (defined_name next.statement))
+  pub again : new.again
+      ≡ redefinition_with old.again next.line
+      (definer_before old.names (defined_name next.statement))
 
 -- this was gathered of statements: their names, outputs and notes, and the first name that is defined again; and all nodes, with the
 -- numbers of the names that they define and read, unless there are too many variables
 pub record AreGathered (done : List (Numbered Statement)) (statements : Statements) : Type 0 where
   pub names : AreNamesOf (definitions_of done) (uses_of done) statements.names
   pub distinct : IsDistinct bytes_eq (seen_names statements.names)
-  pub nodes : statements.notes.variables ≤ most_variables → numbered_list statements.nodes.items ≡ nodes_among done
-  pub defined : statements.notes.variables ≤ most_variables → told statements.defined.items ≡ places statements.names (defined_names (plain done))
-  pub sources : statements.notes.variables ≤ most_variables → told statements.sources.items ≡ places statements.names (read_names (plain done))
+  pub nodes : statements.notes.variables ≤ most_variables →
+      numbered_list statements.nodes.items ≡ nodes_among done
+  pub defined : statements.notes.variables ≤ most_variables →
+      told statements.defined.items ≡ places statements.names (defined_names (plain done))
+  pub sources : statements.notes.variables ≤ most_variables →
+      told statements.sources.items ≡ places statements.names (read_names (plain done))
   pub outputs : told statements.outputs.items ≡ places statements.names (output_names (plain done))
   pub notes : statements.notes ≡ notes_of done
   pub again : option_map redefinition_fault statements.again ≡ twice_fault done

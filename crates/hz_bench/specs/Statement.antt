@@ -42,7 +42,8 @@ is_flip_flop word = is_keyword word (codes "DFF")
 
 -- a flip-flop or a gate, by the word in the kind's place
 abbrev pub defined_by : List ℕ → List ℕ → List (List ℕ) → Statement
-defined_by name word sources = if is_flip_flop word then FlipFlop name sources else Gate name (kind_named word) sources
+defined_by name word sources =
+    if is_flip_flop word then FlipFlop name sources else Gate name (kind_named word) sources
 
 -- what a word before a name in parentheses makes of the name
 unfoldable pub port_word : List ℕ → Option Port
@@ -58,13 +59,16 @@ port_of name OutputPort = Output name
 -- one or more names separated by commas, and a closing parenthesis
 abbrev pub name_list_of : List TokenOf → Option (List (List ℕ))
 name_list_of (WordOf name ∷ PunctuationOf Close ∷ []) = Some (name ∷ [])
-name_list_of (WordOf name ∷ PunctuationOf Comma ∷ rest) = option_map (λ names. name ∷ names) (name_list_of rest)
+name_list_of (WordOf name ∷ PunctuationOf Comma ∷ rest) =
+    option_map (λ names. name ∷ names) (name_list_of rest)
 name_list_of _ = None
 
 -- the one statement of a token list, if it is one: WORD ( NAME ) or NAME = KIND ( NAME , .. NAME )
 abbrev pub statement_of : List TokenOf → Option Statement
-statement_of (WordOf word ∷ PunctuationOf Open ∷ WordOf name ∷ PunctuationOf Close ∷ []) = option_map (port_of name) (port_word word)
-statement_of (WordOf name ∷ PunctuationOf Equals ∷ WordOf kind ∷ PunctuationOf Open ∷ rest) = option_map (defined_by name kind) (name_list_of rest)
+statement_of (WordOf word ∷ PunctuationOf Open ∷ WordOf name ∷ PunctuationOf Close ∷ []) =
+    option_map (port_of name) (port_word word)
+statement_of (WordOf name ∷ PunctuationOf Equals ∷ WordOf kind ∷ PunctuationOf Open ∷ rest) =
+    option_map (defined_by name kind) (name_list_of rest)
 statement_of _ = None
 
 -- the name that a statement begins with: the one that it defines, or an output's
@@ -158,7 +162,8 @@ words_in part = words_by (tokens_of part)
 -- words, each with punctuation after it
 abbrev pub are_punctuated_words : List TokenOf → Bool
 are_punctuated_words [] = true
-are_punctuated_words (WordOf word ∷ PunctuationOf punctuation ∷ tokens) = are_punctuated_words tokens
+are_punctuated_words (WordOf word ∷ PunctuationOf punctuation ∷ tokens) =
+    are_punctuated_words tokens
 are_punctuated_words _ = false
 
 -- a part of a line has tokens, and they are words, each with punctuation after it

@@ -36,7 +36,8 @@ variable_total statements = sum_by statement_variable_count statements
 
 -- the variables of numbered statements
 abbrev pub variable_total_among : List (Numbered Statement) → ℕ
-variable_total_among statements = sum_by (λ numbered. statement_variable_count numbered.statement) statements
+variable_total_among statements =
+    sum_by (λ numbered. statement_variable_count numbered.statement) statements
 
 -- the inputs and gates among statements
 abbrev pub nodes_among : List (Numbered Statement) → List (Numbered Statement)

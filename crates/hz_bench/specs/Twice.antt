@@ -20,7 +20,8 @@ earlier_line seen (Some name) = definer seen name
 abbrev pub twice_after : List (Numbered Statement) → List (Numbered Statement) → Option BenchFault
 twice_after seen [] = None
 twice_after seen (first ∷ rest) =
-    twice_or first.line (earlier_line seen (defined_name first.statement)) (twice_after (seen ++ first ∷ []) rest)
+    twice_or first.line (earlier_line seen (defined_name first.statement))
+    (twice_after (seen ++ first ∷ []) rest)
 
 -- the first statement that defines a name which an earlier one defines
 abbrev pub twice_fault : List (Numbered Statement) → Option BenchFault

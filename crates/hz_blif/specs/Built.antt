@@ -19,7 +19,8 @@ use Rattle.hz_blif.specs.Entries.{AreNamed, HoldsGates, elements_by, gate_name}
 abbrev pub elements_of_draft : Draft → List Element
 elements_of_draft draft =
     map Input (names_at draft.names draft.inputs.items)
-    ++ (elements_by (name_at draft.names) draft.gates ++ map Output (names_at draft.names draft.outputs.items))
+    ++ (elements_by (name_at draft.names) draft.gates
+    ++ map Output (names_at draft.names draft.outputs.items))
 
 -- a draft whose elements make a circuit, and in which no name has two numbers
 pub record IsBuildable (draft : Draft) : Type 0 where
@@ -50,25 +51,30 @@ MayAddGateEntry name netlist gate = MayAddNode netlist (gate_name name gate)
 abbrev pub with_pins_by : Netlist → ℕ → List GateEntry → List ℕ → Netlist
 with_pins_by netlist number [] nodes = netlist
 with_pins_by netlist number (gate ∷ gates) nodes =
-    with_pins_by (fold (with_pin_from number) netlist (take gate.pins nodes)) (suc number) gates (drop gate.pins nodes)
+    with_pins_by (fold (with_pin_from number) netlist (take gate.pins nodes)) (suc number) gates
+    (drop gate.pins nodes)
 
 -- the next gate may have the pins that read the first of these nodes
-pub record MayAddPinsOf (netlist : Netlist) (number : ℕ) (gate : GateEntry) (nodes : List ℕ) : Type 0 where
+pub record MayAddPinsOf (netlist : Netlist) (number : ℕ) (gate : GateEntry)
+    (nodes : List ℕ) : Type 0 where
   pub enough : gate.pins ≤ length nodes
   pub room : number < most_variables
-  pub pins : AreAdmissibleSteps (MayAddPinFrom number) (with_pin_from number) netlist (take gate.pins nodes)
+  pub pins : AreAdmissibleSteps (MayAddPinFrom number) (with_pin_from number) netlist
+      (take gate.pins nodes)
 
 -- such pins may be added
 abbrev pub MayAddPinsBy : Netlist → ℕ → List GateEntry → List ℕ → Type 0
 MayAddPinsBy netlist number [] nodes = Unit {0}
 MayAddPinsBy netlist number (gate ∷ gates) nodes =
     MayAddPinsOf netlist number gate nodes
-    × MayAddPinsBy (fold (with_pin_from number) netlist (take gate.pins nodes)) (suc number) gates (drop gate.pins nodes)
+    × MayAddPinsBy (fold (with_pin_from number) netlist (take gate.pins nodes)) (suc number) gates
+    (drop gate.pins nodes)
 
 -- the nodes of names by their numbers, where these names are the nodes from this one on
 abbrev pub with_input_nodes : ℕ → List ℕ → List ℕ → List ℕ
 with_input_nodes node nodes [] = nodes
-with_input_nodes node nodes (number ∷ rest) = with_input_nodes (suc node) (slice_set nodes number node) rest
+with_input_nodes node nodes (number ∷ rest) =
+    with_input_nodes (suc node) (slice_set nodes number node) rest
 
 -- the node of a gate that has its cover's own name
 abbrev pub with_role_node : Role → ℕ → List ℕ → ℕ → List ℕ
@@ -79,7 +85,8 @@ with_role_node role.Output node nodes output = slice_set nodes output node
 -- the nodes of names, where these gates are the nodes from this one on
 abbrev pub with_gate_nodes : ℕ → List ℕ → List GateEntry → List ℕ
 with_gate_nodes node nodes [] = nodes
-with_gate_nodes node nodes (gate ∷ rest) = with_gate_nodes (suc node) (with_role_node gate.role node nodes gate.output) rest
+with_gate_nodes node nodes (gate ∷ rest) =
+    with_gate_nodes (suc node) (with_role_node gate.role node nodes gate.output) rest
 
 -- the node that a pin reads, where names have these nodes and so many inputs come before the gates
 abbrev pub source_node : List ℕ → ℕ → Source → ℕ
@@ -90,4 +97,6 @@ source_node nodes inputs (source.Gate gate) = inputs + gate
 abbrev pub AreNodesBy : Draft → List ℕ → Type 0
 AreNodesBy draft nodes =
     (start : List ℕ) × (length start ≡ length draft.names)
-    × (nodes ≡ with_gate_nodes (length draft.inputs.items) (with_input_nodes 0 start draft.inputs.items) draft.gates.gates.items)
+    × (nodes
+    ≡ with_gate_nodes (length draft.inputs.items) (with_input_nodes 0 start draft.inputs.items)
+    draft.gates.gates.items)

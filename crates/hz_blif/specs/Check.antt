@@ -21,7 +21,8 @@ use Rattle.hz_netlist.specs.Names.{is_among, names_of}
 abbrev pub wrong_form_after : List (Numbered Line) → List (Numbered Line) → Option ℕ
 wrong_form_after before [] = None
 wrong_form_after before (first ∷ rest) =
-    if has_wrong_form before first.statement then Some first.line else wrong_form_after (before ++ first ∷ []) rest
+    if has_wrong_form before first.statement then Some first.line
+    else wrong_form_after (before ++ first ∷ []) rest
 
 -- a second definition on a line, by the line of the first, before others
 abbrev pub twice_or : ℕ → Option ℕ → Option BlifFault → Option BlifFault
@@ -32,7 +33,8 @@ twice_or line (Some first) later = Some (fault.Twice line first)
 abbrev pub twice_after : List (Numbered (List ℕ)) → List (Numbered (List ℕ)) → Option BlifFault
 twice_after before [] = None
 twice_after before (next ∷ rest) =
-    twice_or next.line (first_passing_line (bytes_eq next.statement) before) (twice_after (before ++ next ∷ []) rest)
+    twice_or next.line (first_passing_line (bytes_eq next.statement) before)
+    (twice_after (before ++ next ∷ []) rest)
 
 -- the line of the first row that is no row of this cover
 abbrev pub wrong_row : Cover → Option ℕ
@@ -48,28 +50,36 @@ least_of numbers = fold option_min None numbers
 
 -- the count that a cover carries that is too large
 abbrev pub count_of : Cover → ℕ
-count_of cover = if nat_lt most_gate_pins (length cover.pins) then length cover.pins else length cover.rows
+count_of cover =
+    if nat_lt most_gate_pins (length cover.pins) then length cover.pins else length cover.rows
 
 -- the line of a use, if the name is defined nowhere
 abbrev pub undefined_use : List (List ℕ) → Numbered (List ℕ) → Option ℕ
-undefined_use defined use_here = if is_among defined use_here.statement then None else Some use_here.line
+undefined_use defined use_here =
+    if is_among defined use_here.statement then None else Some use_here.line
 
 -- too many variables
 abbrev pub too_many : ℕ → Option BlifFault
-too_many variables = if nat_lt most_variables variables then Some (fault.TooMany variables) else None
+too_many variables =
+    if nat_lt most_variables variables then Some (fault.TooMany variables) else None
 
 -- the least fault of each number, in the order of the numbers
 abbrev pub faults_in : List ℕ → List (Option BlifFault)
 faults_in text =
     let lines = lines_in text in
-    option_map fault.Form (option_min (first_passing_line (list_any is_forbidden) (joined_lines text)) (wrong_form_after [] lines))
+    option_map fault.Form
+    (option_min (first_passing_line (list_any is_forbidden) (joined_lines text))
+    (wrong_form_after [] lines))
     ∷ option_map fault.Name (first_passing_line has_long_name lines)
     ∷ option_map fault.Construct (first_passing_line is_construct lines)
     ∷ twice_after [] (definitions_of lines)
     ∷ option_map fault.Cover (first_of (map wrong_row (covers_of lines)))
-    ∷ option_map (λ cover. fault.Pins cover.line (count_of cover)) (find is_too_large (covers_of lines))
-    ∷ option_map (λ cover. fault.Constant cover.line) (find (λ cover. is_constant cover && not (is_skipped lines cover)) (covers_of lines))
-    ∷ option_map fault.Undefined (least_of (map (undefined_use (names_of (definitions_of lines))) (uses_of lines)))
+    ∷ option_map (λ cover. fault.Pins cover.line (count_of cover))
+    (find is_too_large (covers_of lines))
+    ∷ option_map (λ cover. fault.Constant cover.line)
+    (find (λ cover. is_constant cover && not (is_skipped lines cover)) (covers_of lines))
+    ∷ option_map fault.Undefined
+    (least_of (map (undefined_use (names_of (definitions_of lines))) (uses_of lines)))
     ∷ too_many (variable_total (elements_of lines))
     ∷ []
 

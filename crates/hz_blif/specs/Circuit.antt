@@ -13,7 +13,8 @@ use Rattle.hz_blif.specs.Gates.{cover_gates}
 abbrev pub elements_of : List (Numbered Line) → List Element
 elements_of lines =
     map Input (inputs_of lines)
-    ++ (flat_map cover_gates (kept_covers lines) ++ map (λ output. Output output.statement) (outputs_of lines))
+    ++ (flat_map cover_gates (kept_covers lines)
+    ++ map (λ output. Output output.statement) (outputs_of lines))
 
 -- the circuit of a text
 abbrev pub blif_circuit : List ℕ → Netlist

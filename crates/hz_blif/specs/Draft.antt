@@ -47,7 +47,8 @@ output_on cover = record { line = cover.line; statement = cover.output }
 
 -- a constant cover by its output's name
 abbrev pub constant_by : NamesOf → ConstantKept → Numbered (List ℕ)
-constant_by names constant = record { line = constant.line; statement = name_at names constant.output }
+constant_by names constant =
+    record { line = constant.line; statement = name_at names constant.output }
 
 -- what was noted, as faults
 abbrev pub twice_fault : Redefinition → BlifFault
@@ -58,17 +59,22 @@ pins_fault excess = fault.Pins excess.line excess.count
 
 -- nothing is noted
 abbrev pub no_notes : Notes
-no_notes = record { long_name = None; construct = None; again = None; wrong_row = None; excess = None }
+no_notes =
+    record { long_name = None; construct = None; again = None; wrong_row = None; excess = None }
 
 -- the gates of covers that are not constant, up to the most variables, and the constant covers with their pins
 pub record HoldsCovers (covers : List Cover) (draft : Draft) : Type 0 where
-  pub gates : draft.variables ≤ most_variables → elements_by (name_at draft.names) draft.gates ≡ flat_map cover_gates (varying covers)
+  pub gates : draft.variables ≤ most_variables →
+      elements_by (name_at draft.names) draft.gates ≡ flat_map cover_gates (varying covers)
   pub holds : HoldsGates draft.gates
   pub gate_numbers : AreNamed (length draft.names) draft.gates
   pub counted : draft.variables ≡ variable_total (flat_map cover_gates (varying covers))
-  pub constants : map (constant_by draft.names) draft.constants.items ≡ map output_on (filter is_constant covers)
-  pub constant_numbers : All (λ constant. constant.output < length draft.names) draft.constants.items
-  pub pins : names_at draft.names draft.constant_pins.items ≡ flat_map (λ cover. cover.pins) (filter is_constant covers)
+  pub constants : map (constant_by draft.names) draft.constants.items
+      ≡ map output_on (filter is_constant covers)
+  pub constant_numbers : All (λ constant. constant.output < length draft.names)
+      draft.constants.items
+  pub pins : names_at draft.names draft.constant_pins.items
+      ≡ flat_map (λ cover. cover.pins) (filter is_constant covers)
   pub pin_numbers : AreNumbers draft.names draft.constant_pins.items
 
 -- what lines are, as far as they were read: the first line with a long name and the first construct, the names that they define and use, and
@@ -85,7 +91,17 @@ pub record Read : Type 0 where
 
 -- of no lines
 abbrev pub nothing_read : Read
-nothing_read = record { long_name = None; construct = None; definitions = []; inputs = []; outputs = []; used = []; done = []; current = None }
+nothing_read =
+    record {
+      long_name = None;
+      construct = None;
+      definitions = [];
+      inputs = [];
+      outputs = [];
+      used = [];
+      done = [];
+      current = None;
+    }
 
 -- covers with the last one
 abbrev pub covers_with : List Cover → Option Cover → List Cover
@@ -99,30 +115,43 @@ uses_with used (Some cover) = used ++ cover_uses cover
 
 -- the last cover gets no more rows
 abbrev pub closed : Read → Read
-closed read = record read { done = covers_with read.done read.current; used = uses_with read.used read.current; current = None }
+closed read =
+    record read {
+      done = covers_with read.done read.current;
+      used = uses_with read.used read.current;
+      current = None;
+    }
 
 -- the last cover with a row more
 abbrev pub row_added : ℕ → List (List ℕ) → Option Cover → Option Cover
 row_added line tokens None = None
-row_added line tokens (Some cover) = Some (record cover { rows = cover.rows ++ record { line = line; statement = tokens } ∷ [] })
+row_added line tokens (Some cover) =
+    Some (record cover { rows = cover.rows ++ record { line = line; statement = tokens } ∷ [] })
 
 -- with a row, inputs or outputs more, or with a cover that begins
 abbrev pub with_row : ℕ → List (List ℕ) → Read → Read
 with_row line tokens read = record read { current = row_added line tokens read.current }
 
 abbrev pub with_inputs : ℕ → List (List ℕ) → Read → Read
-with_inputs line names read = record read { inputs = read.inputs ++ names; definitions = read.definitions ++ on_line line names }
+with_inputs line names read =
+    record read
+    { inputs = read.inputs ++ names; definitions = read.definitions ++ on_line line names }
 
 abbrev pub with_outputs : ℕ → List (List ℕ) → Read → Read
-with_outputs line names read = record read { outputs = read.outputs ++ names; used = read.used ++ on_line line names }
+with_outputs line names read =
+    record read { outputs = read.outputs ++ names; used = read.used ++ on_line line names }
 
 abbrev pub with_begun : ℕ → List (List ℕ) → List ℕ → Read → Read
 with_begun line pins output read =
-    record read { current = Some (record { line = line; pins = pins; output = output; rows = [] }); definitions = read.definitions ++ record { line = line; statement = output } ∷ [] }
+    record read {
+      current = Some (record { line = line; pins = pins; output = output; rows = [] });
+      definitions = read.definitions ++ record { line = line; statement = output } ∷ [];
+    }
 
 abbrev pub with_cover : ℕ → List (List ℕ) → Read → Read
 with_cover line [] read = read
-with_cover line (name ∷ names) read = with_begun line (all_but_last (name ∷ names)) (last_token (name ∷ names)) read
+with_cover line (name ∷ names) read =
+    with_begun line (all_but_last (name ∷ names)) (last_token (name ∷ names)) read
 
 -- the first line stays, and else this one counts if it passes
 abbrev pub note_if : Option ℕ → Bool → ℕ → Option ℕ
@@ -130,7 +159,11 @@ note_if known here line = option_or known (if here then Some line else None)
 
 -- a line more, for what is noted of lines, and for the rest
 abbrev pub noting : ℕ → Line → Read → Read
-noting line it read = record read { long_name = note_if read.long_name (has_long_name it) line; construct = note_if read.construct (is_construct it) line }
+noting line it read =
+    record read {
+      long_name = note_if read.long_name (has_long_name it) line;
+      construct = note_if read.construct (is_construct it) line;
+    }
 
 abbrev pub taking : ℕ → Line → Read → Read
 taking line Blank read = read
@@ -174,14 +207,18 @@ pub record Holds (read : Read) (draft : Draft) : Type 0 where
   pub input_numbers : AreNumbers draft.names draft.inputs.items
   pub outputs : names_at draft.names draft.outputs.items ≡ read.outputs
   pub output_numbers : AreNumbers draft.names draft.outputs.items
-  pub wrong_row_is : draft.notes.wrong_row ≡ first_of (map wrong_row (covers_with read.done read.current))
+  pub wrong_row_is : draft.notes.wrong_row
+      ≡ first_of (map wrong_row (covers_with read.done read.current))
   pub is_open : draft.is_open ≡ is_some read.current
   pub current : draft.notes.wrong_row ≡ None → HoldsCurrent draft.names read.current draft.cover
   pub excess_is : draft.notes.wrong_row ≡ None
-      → option_map pins_fault draft.notes.excess ≡ option_map (λ cover. fault.Pins cover.line (count_of cover)) (find is_too_large read.done)
+      → option_map pins_fault draft.notes.excess
+      ≡ option_map (λ cover. fault.Pins cover.line (count_of cover))
+      (find is_too_large read.done)
   pub few : draft.variables ≤ variable_total (flat_map cover_gates (varying read.done))
   pub uses : draft.notes.wrong_row ≡ None → draft.notes.excess ≡ None → used ≡ read.used
-  pub covers : draft.notes.wrong_row ≡ None → draft.notes.excess ≡ None → HoldsCovers read.done draft
+  pub covers : draft.notes.wrong_row ≡ None → draft.notes.excess ≡ None →
+      HoldsCovers read.done draft
 
 -- what is kept once the cover that is being read is closed
 abbrev pub HoldsClosed : Read → Draft → Type 0
@@ -189,7 +226,8 @@ HoldsClosed read draft = Holds (closed read) (record draft { is_open = false })
 
 -- how many bytes a cover takes at least: two variables or more for each
 abbrev pub cover_room : Cover → ℕ
-cover_room cover = 2 * suc (length cover.pins) + sum_by (λ row. 2 + length (plane_of row.statement)) cover.rows
+cover_room cover =
+    2 * suc (length cover.pins) + sum_by (λ row. 2 + length (plane_of row.statement)) cover.rows
 
 -- what is kept, and its counts fit
 pub record MayGoOn (draft : Draft) : Type 0 where
@@ -199,7 +237,9 @@ pub record MayGoOn (draft : Draft) : Type 0 where
 
 -- what a draft holds of a text: no line has a wrong form, and all lines were read
 pub record IsDraftOf (text : List ℕ) (draft : Draft) : Type 0 where
-  pub formed : option_min (first_passing_line (list_any is_forbidden) (joined_lines text)) (wrong_form_after [] (lines_in text)) ≡ None
+  pub formed : option_min (first_passing_line (list_any is_forbidden) (joined_lines text))
+      (wrong_form_after [] (lines_in text))
+      ≡ None
   pub holds : Holds (closed (read_of (lines_in text))) draft
 
 -- nothing is noted of lines and covers
@@ -212,12 +252,14 @@ pub record IsClean (draft : Draft) : Type 0 where
 
 -- a pin of a constant cover or a use that was noted names it
 abbrev pub is_used_number : Draft → ℕ → Bool
-is_used_number draft number = list_any (nat_eq number) draft.constant_pins.items || is_some (seen_at draft.names number).user
+is_used_number draft number =
+    list_any (nat_eq number) draft.constant_pins.items || is_some (seen_at draft.names number).user
 
 -- the line of the first of these constant covers whose output is used
 abbrev pub first_used : Draft → List ConstantKept → Option ℕ
 first_used draft [] = None
-first_used draft (constant ∷ rest) = if is_used_number draft constant.output then Some constant.line else first_used draft rest
+first_used draft (constant ∷ rest) =
+    if is_used_number draft constant.output then Some constant.line else first_used draft rest
 
 -- a draft of a text that may be read
 pub record IsDraftOfSome (draft : Draft) : Type 0 where
@@ -230,7 +272,8 @@ pub record HoldsElements (text : List ℕ) (draft : Draft) : Type 0 where
   pub distinct : IsDistinct bytes_eq (seen_names draft.names)
   pub inputs : names_at draft.names draft.inputs.items ≡ inputs_of (lines_in text)
   pub input_numbers : AreNumbers draft.names draft.inputs.items
-  pub gates : elements_by (name_at draft.names) draft.gates ≡ flat_map cover_gates (kept_covers (lines_in text))
+  pub gates : elements_by (name_at draft.names) draft.gates
+      ≡ flat_map cover_gates (kept_covers (lines_in text))
   pub holds : HoldsGates draft.gates
   pub gate_numbers : AreNamed (length draft.names) draft.gates
   pub outputs : names_at draft.names draft.outputs.items ≡ names_of (outputs_of (lines_in text))

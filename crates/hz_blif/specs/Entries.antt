@@ -32,7 +32,8 @@ source_name name made (source.Name number) = name number
 source_name name made (source.Gate number) = slice_index_or made number []
 
 -- the elements of gates that read these sources, gate after gate, where all gates have these names
-abbrev pub elements_from : (ℕ → List ℕ) → List (List ℕ) → List GateEntry → List Source → List Element
+abbrev pub elements_from : (ℕ → List ℕ) → List (List ℕ) → List GateEntry → List Source →
+    List Element
 elements_from name made [] sources = []
 elements_from name made (gate ∷ gates) sources =
     Gate (gate_name name gate) gate.kind (map (source_name name made) (take gate.pins sources))
@@ -41,7 +42,8 @@ elements_from name made (gate ∷ gates) sources =
 -- the elements for which gates stand, where the names of the text are these by their numbers
 abbrev pub elements_by : (ℕ → List ℕ) → Gates → List Element
 elements_by name gates =
-    elements_from name (map (gate_name name) gates.gates.items) gates.gates.items gates.sources.items
+    elements_from name (map (gate_name name) gates.gates.items) gates.gates.items
+    gates.sources.items
 
 -- how many gates and pins there are
 abbrev pub variables_of : Gates → ℕ
@@ -76,7 +78,8 @@ pub record HasNamesBelow (names : ℕ) (cover : Cover) : Type 0 where
 -- many pins
 pub record IsWholeCover (cover : Cover) : Type 0 where
   pub some : 0 < length cover.rows.planes.items
-  pub planes : All (λ plane. length plane ≡ length cover.pins.items) (bytes_of cover.rows.planes.items)
+  pub planes : All (λ plane. length plane ≡ length cover.pins.items)
+      (bytes_of cover.rows.planes.items)
   pub literals : list_all has_literal (bytes_of cover.rows.planes.items) ≡ true
   pub few_pins : length cover.pins.items ≤ most_gate_pins
   pub few_rows : length cover.rows.planes.items ≤ most_gate_pins
@@ -96,12 +99,14 @@ literals_by name cover plane = literals_of (map name cover.pins.items) plane
 -- the gates of a cover
 abbrev pub cover_by : (ℕ → List ℕ) → Cover → List Element
 cover_by name cover =
-    gates_of_rows (name cover.output) (map name cover.pins.items) (column_by cover) (planes_by cover)
+    gates_of_rows (name cover.output) (map name cover.pins.items) (column_by cover)
+    (planes_by cover)
     (map (literals_by name cover) (planes_by cover))
 
 -- the inverters of a cover
 abbrev pub inverters_by : (ℕ → List ℕ) → Cover → List Element
-inverters_by name cover = inverters_from (name cover.output) (planes_by cover) 0 (map name cover.pins.items)
+inverters_by name cover =
+    inverters_from (name cover.output) (planes_by cover) 0 (map name cover.pins.items)
 
 -- the node that stands for the 0 of each pin: its inverter; the pin itself where no plane has a 0
 abbrev pub inverted_from : List ℕ → List (List ℕ) → ℕ → List (List ℕ) → List (List ℕ)
@@ -111,18 +116,21 @@ inverted_from output planes before (pin ∷ pins) =
     ∷ inverted_from output planes (suc before) pins
 
 abbrev pub inverted_by : (ℕ → List ℕ) → Cover → List (List ℕ)
-inverted_by name cover = inverted_from (name cover.output) (planes_by cover) 0 (map name cover.pins.items)
+inverted_by name cover =
+    inverted_from (name cover.output) (planes_by cover) 0 (map name cover.pins.items)
 
 -- the gate of a row of a cover, which has this number, and its term
 abbrev pub row_gate_by : (ℕ → List ℕ) → Cover → ℕ → List ℕ → List Element
-row_gate_by name cover row plane = row_gate_with (name cover.output) row (literals_by name cover plane) []
+row_gate_by name cover row plane =
+    row_gate_with (name cover.output) row (literals_by name cover plane) []
 
 abbrev pub term_by : (ℕ → List ℕ) → Cover → ℕ → List ℕ → List ℕ
 term_by name cover row plane = term (name cover.output) row (literals_by name cover plane)
 
 -- the gates of rows with these planes, and their terms
 abbrev pub row_gates_by : (ℕ → List ℕ) → Cover → List (List ℕ) → List Element
-row_gates_by name cover planes = row_gates_from (name cover.output) 1 (map (literals_by name cover) planes)
+row_gates_by name cover planes =
+    row_gates_from (name cover.output) 1 (map (literals_by name cover) planes)
 
 abbrev pub terms_by : (ℕ → List ℕ) → Cover → List (List ℕ) → List (List ℕ)
 terms_by name cover planes = terms_from (name cover.output) 1 (map (literals_by name cover) planes)
@@ -138,13 +146,16 @@ abbrev pub IsPrefix : {A : Type 0} → List A → List A → Type 0
 IsPrefix {A} front items = (rest : List A) × (items ≡ front ++ rest)
 
 -- sources of a cover's gates read the nodes with these names, where the gates so far are these
-pub record ReadAs (cover : Cover) (gates : List GateEntry) (sources : List Source) (names : (ℕ → List ℕ) → List (List ℕ)) : Type 0 where
+pub record ReadAs (cover : Cover) (gates : List GateEntry) (sources : List Source)
+    (names : (ℕ → List ℕ) → List (List ℕ)) : Type 0 where
   pub below : All (ReadsGateBelow (length gates)) sources
   pub named : (count : ℕ) → HasNamesBelow count cover → All (ReadsNameBelow count) sources
-  pub reads : (name : ℕ → List ℕ) → map (source_name name (map (gate_name name) gates)) sources ≡ names name
+  pub reads : (name : ℕ → List ℕ) →
+      map (source_name name (map (gate_name name) gates)) sources ≡ names name
 
 -- gates grow by these elements of a cover
-pub record GrowBy (cover : Cover) (more : (ℕ → List ℕ) → List Element) (old new : Gates) : Type 0 where
+pub record GrowBy (cover : Cover) (more : (ℕ → List ℕ) → List Element)
+    (old new : Gates) : Type 0 where
   pub holds : HoldsGates new
   pub named : (count : ℕ) → AreNamed count old → HasNamesBelow count cover → AreNamed count new
   pub elements : (name : ℕ → List ℕ) → elements_by name new ≡ elements_by name old ++ more name
@@ -152,7 +163,11 @@ pub record GrowBy (cover : Cover) (more : (ℕ → List ℕ) → List Element) (
 -- a literal of a plane, whose pins these are
 abbrev pub literal_at : List (List ℕ) → LiteralRead → Literal
 literal_at pins literal =
-    record { place = suc literal.pin; pin = slice_index_or pins literal.pin []; plain = literal.is_plain }
+    record {
+      place = suc literal.pin;
+      pin = slice_index_or pins literal.pin [];
+      plain = literal.is_plain;
+    }
 
 -- the one literal of a plane; none if it has no literal or several
 abbrev pub IsOnlyLiteral : List (List ℕ) → List ℕ → Option LiteralRead → Type 0

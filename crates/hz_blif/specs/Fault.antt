@@ -27,7 +27,8 @@ abbrev pub is_sign : ℕ → Bool
 is_sign byte = byte == 40 || byte == 41 || byte == 44 || byte == 61 || byte == 92
 
 -- a line has one of these items somewhere, after those before it
-pub record Stands {A : Type 0} (items : List (Numbered A)) (before : List (Numbered A)) (line : ℕ) (item : A) : Type 0 where
+pub record Stands {A : Type 0} (items : List (Numbered A)) (before : List (Numbered A)) (line : ℕ)
+    (item : A) : Type 0 where
   pub after : List (Numbered A)
   pub split : items ≡ before ++ record { line = line; statement = item } ∷ after
 
@@ -58,7 +59,8 @@ is_ill_formed before ConstructLine = false
 -- a line has the fault of its form: by itself and its place, by a sign in one of its names, or as a statement after `.end`
 abbrev pub has_wrong_form : List (Numbered Line) → Line → Bool
 has_wrong_form before line =
-    is_ill_formed before line || list_any (list_any is_sign) (names_in line) || (is_statement line && has_end before)
+    is_ill_formed before line || list_any (list_any is_sign) (names_in line)
+    || (is_statement line && has_end before)
 
 -- a name is too long
 abbrev pub is_long : List ℕ → Bool
@@ -72,19 +74,26 @@ has_long_name line = list_any is_long (names_in line)
 abbrev pub IsTooLarge : CoverOf → ℕ → Type 0
 IsTooLarge cover count =
     ((most_gate_pins < length cover.pins) × (count ≡ length cover.pins))
-    ⊎ ((length cover.pins ≤ most_gate_pins) × (most_gate_pins < length cover.rows) × (count ≡ length cover.rows))
+    ⊎ ((length cover.pins ≤ most_gate_pins) × (most_gate_pins < length cover.rows)
+    × (count ≡ length cover.rows))
 
 -- a byte that may not stand there is on the line
 abbrev pub HasForbidden : List ℕ → ℕ → Type 0
-HasForbidden text line = (bytes : List ℕ) × Contains (joined_lines text) (record { line = line; statement = bytes }) × (list_any is_forbidden bytes ≡ true)
+HasForbidden text line =
+    (bytes : List ℕ) × Contains (joined_lines text) (record { line = line; statement = bytes })
+    × (list_any is_forbidden bytes ≡ true)
 
 -- the line's form is wrong
 abbrev pub HasWrongForm : List ℕ → ℕ → Type 0
-HasWrongForm text line = (before : List (Numbered Line)) × (here : Line) × Stands (lines_in text) before line here × (has_wrong_form before here ≡ true)
+HasWrongForm text line =
+    (before : List (Numbered Line)) × (here : Line) × Stands (lines_in text) before line here
+    × (has_wrong_form before here ≡ true)
 
 -- the line passes a test
 abbrev pub HasThat : (Line → Bool) → List ℕ → ℕ → Type 0
-HasThat test text line = (here : Line) × Contains (lines_in text) (record { line = line; statement = here }) × (test here ≡ true)
+HasThat test text line =
+    (here : Line) × Contains (lines_in text) (record { line = line; statement = here })
+    × (test here ≡ true)
 
 -- a cover of the text
 abbrev pub HasCover : List ℕ → CoverOf → Type 0
@@ -96,12 +105,14 @@ pub record IsSecond (definitions : List (Numbered (List ℕ))) (line first : ℕ
   pub name : List ℕ
   pub stands : Stands definitions before line name
   pub first_is : first_passing_line (bytes_eq name) before ≡ Some first
-  pub earliest : (earlier : List (Numbered (List ℕ))) (other : List ℕ) → Stands before earlier line other → first_passing_line (bytes_eq other) earlier ≡ None
+  pub earliest : (earlier : List (Numbered (List ℕ))) (other : List ℕ) →
+      Stands before earlier line other → first_passing_line (bytes_eq other) earlier ≡ None
 
 -- the line uses a name that no line defines
 abbrev pub UsesUndefined : List (Numbered (List ℕ)) → List (Numbered (List ℕ)) → ℕ → Type 0
 UsesUndefined definitions uses line =
-    (name : List ℕ) × Contains uses (record { line = line; statement = name }) × (is_among (names_of definitions) name ≡ false)
+    (name : List ℕ) × Contains uses (record { line = line; statement = name })
+    × (is_among (names_of definitions) name ≡ false)
 
 -- the fault stands in the text
 abbrev pub HasFault : List ℕ → BlifFault → Type 0
@@ -109,11 +120,19 @@ HasFault text (Form line) = HasForbidden text line ⊎ HasWrongForm text line
 HasFault text (Name line) = HasThat has_long_name text line
 HasFault text (Construct line) = HasThat is_construct text line
 HasFault text (Twice line first) = IsSecond (definitions_of (lines_in text)) line first
-HasFault text (Cover line) = (cover : CoverOf) × HasCover text cover × ((row : List (List ℕ)) × Contains cover.rows (record { line = line; statement = row }) × (is_wrong_row cover row ≡ true))
-HasFault text (Pins line count) = (cover : CoverOf) × HasCover text cover × (cover.line ≡ line) × IsTooLarge cover count
-HasFault text (Constant line) = (cover : CoverOf) × HasCover text cover × (cover.line ≡ line) × (is_constant cover ≡ true) × (is_skipped (lines_in text) cover ≡ false)
-HasFault text (Undefined line) = UsesUndefined (definitions_of (lines_in text)) (uses_of (lines_in text)) line
-HasFault text (TooMany variables) = (most_variables < variables) × (variable_total (elements_of (lines_in text)) ≡ variables)
+HasFault text (Cover line) =
+    (cover : CoverOf) × HasCover text cover
+    × ((row : List (List ℕ)) × Contains cover.rows (record { line = line; statement = row })
+    × (is_wrong_row cover row ≡ true))
+HasFault text (Pins line count) =
+    (cover : CoverOf) × HasCover text cover × (cover.line ≡ line) × IsTooLarge cover count
+HasFault text (Constant line) =
+    (cover : CoverOf) × HasCover text cover × (cover.line ≡ line) × (is_constant cover ≡ true)
+    × (is_skipped (lines_in text) cover ≡ false)
+HasFault text (Undefined line) =
+    UsesUndefined (definitions_of (lines_in text)) (uses_of (lines_in text)) line
+HasFault text (TooMany variables) =
+    (most_variables < variables) × (variable_total (elements_of (lines_in text)) ≡ variables)
 HasFault text Memory = ⊥
 
 -- the number of a fault

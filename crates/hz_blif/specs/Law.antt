@@ -15,10 +15,13 @@ node_value netlist state name = bit_at state (number_in netlist.names name)
 -- a cover has the cover function of its pins at its output
 abbrev pub HasCoverValue : Netlist → List Bool → Cover → Type 0
 HasCoverValue netlist state cover =
-    node_value netlist state cover.output ≡ cover_value cover (map (node_value netlist state) cover.pins)
+    node_value netlist state cover.output
+    ≡ cover_value cover (map (node_value netlist state) cover.pins)
 
 -- in every stable state of the circuit's network, under every input, each cover that is not skipped has its cover function at its output
 abbrev pub KeepsCovers : List ℕ → Type 0
 KeepsCovers text =
-    (input state : List Bool) → IsState (blif_circuit text) state → IsStable (network_of (blif_circuit text)) input state
-    → (cover : Cover) → Contains (kept_covers (lines_in text)) cover → HasCoverValue (blif_circuit text) state cover
+    (input state : List Bool) → IsState (blif_circuit text) state →
+    IsStable (network_of (blif_circuit text)) input state
+    → (cover : Cover) → Contains (kept_covers (lines_in text)) cover →
+    HasCoverValue (blif_circuit text) state cover

@@ -24,7 +24,8 @@ begins_blank (byte ∷ rest) = is_blank byte
 -- the first word of a line, with the line after it; none where the line has no token
 abbrev pub IsFirstWord : List ℕ → Option (Bor (List ℕ) × Bor (List ℕ)) → Type 0
 IsFirstWord line None = tokens_of line ≡ []
-IsFirstWord line (Some found) = (tokens_of line ≡ found.0.now ∷ tokens_of found.1.now) × (length found.1.now < length line)
+IsFirstWord line (Some found) =
+    (tokens_of line ≡ found.0.now ∷ tokens_of found.1.now) × (length found.1.now < length line)
 
 -- words as they are seen: the bytes of each
 abbrev pub bytes_of : List (Bor (List ℕ)) → List (List ℕ)
@@ -33,7 +34,9 @@ bytes_of words = map (λ word. word.now) words
 -- a line without its comment, and without the '\' by which it goes on
 pub record IsPieceOf (line : List ℕ) (piece : Piece) : Type 0 where
   pub joins : piece.goes_on ≡ goes_on (without_comment line)
-  pub front : piece.bytes.now ≡ (if goes_on (without_comment line) then all_but_last (without_comment line) else without_comment line)
+  pub front : piece.bytes.now
+      ≡ (if goes_on (without_comment line) then all_but_last (without_comment line)
+      else without_comment line)
 
 -- a line of the reader as a line
 abbrev pub line_by : LineRead → Line
@@ -47,15 +50,24 @@ line_by (read.End rest) = End (bytes_of rest.now)
 line_by read.Construct = Construct
 
 -- what was read of a joined line: its tokens, whether a byte may not stand in it, and what comes after it
-pub record IsJoinedLine (text : List ℕ) (tokens : List (Bor (List ℕ))) (joined : JoinedLine) : Type 0 where
+pub record IsJoinedLine (text : List ℕ) (tokens : List (Bor (List ℕ)))
+    (joined : JoinedLine) : Type 0 where
   pub bytes : List ℕ
-  pub first : (line : ℕ) → joined_from line (lines_of text) ≡ record { line = line; statement = bytes } ∷ joined_from (line + joined.lines) (lines_of_rest joined.rest)
+  pub first : (line : ℕ) →
+      joined_from line (lines_of text)
+      ≡ record { line = line; statement = bytes }
+      ∷ joined_from (line + joined.lines) (lines_of_rest joined.rest)
   pub tokens_are : tokens_of bytes ≡ bytes_of tokens
   pub forbidden : joined.is_forbidden ≡ list_any is_forbidden bytes
 
 -- what is known of lines that came before another
 abbrev pub course_of : List (Numbered Line) → Course
-course_of lines = record { has_statement = has_statement lines; has_end = has_end lines; takes_rows = takes_rows lines }
+course_of lines =
+    record {
+      has_statement = has_statement lines;
+      has_end = has_end lines;
+      takes_rows = takes_rows lines;
+    }
 
 -- the planes of rows
 abbrev pub planes_in : List (Numbered (List (List ℕ))) → List (List ℕ)
@@ -74,4 +86,6 @@ pub record KeepsRows (rows : List (Numbered (List (List ℕ)))) (kept : Rows) : 
 
 -- the count of pins, or else of rows, if it is more than a gate takes
 abbrev pub excess_of : ℕ → ℕ → Option ℕ
-excess_of pins rows = if nat_lt most_gate_pins pins then Some pins else (if nat_lt most_gate_pins rows then Some rows else None)
+excess_of pins rows =
+    if nat_lt most_gate_pins pins then Some pins
+    else (if nat_lt most_gate_pins rows then Some rows else None)

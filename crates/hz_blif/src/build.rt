@@ -41,7 +41,8 @@ pub(crate) fn build(alloc: Global, draft: &Draft) -> Result<Circuit, Memory>
 // none, and 0 stands in.
 fn number_nodes(alloc: Global, draft: &Draft) -> Result<Vec<u32>, Memory>
     requires inputs { AreNumbers draft.now.names draft.now.inputs.items }
-    requires gates { All (λ gate. gate.output < length draft.now.names) draft.now.gates.gates.items }
+    requires gates { All (λ gate. gate.output < length draft.now.names)
+        draft.now.gates.gates.items }
     requires few { length draft.now.inputs.items + length draft.now.gates.gates.items ≤
         most_variables }
     ensures nodes { IfOk result (λ nodes. AreNodesBy draft.now nodes.items) }

@@ -69,7 +69,8 @@ impl<'t> Cover<'t> {
             → KeepsRows rows self.old.rows → length names ≡ length self.old.pins.items
             → right ≡ (is_row names (bytes_of tokens.now) && bytes_eq (last_token
             (bytes_of tokens.now))
-            (first_column (rows ++ record { line = line; statement = bytes_of tokens.now } ∷ [])))) }
+            (first_column
+            (rows ++ record { line = line; statement = bytes_of tokens.now } ∷ [])))) }
         ensures kept { IfOk result (λ right. right ≡ true
             → (rows : List (Numbered (List (List ℕ)))) (line : ℕ)
             → KeepsRows rows self.old.rows
@@ -152,7 +153,8 @@ impl<'t> Rows<'t> {
             → KeepsRows rows self.old → length names ≡ pins
             → right ≡ (is_row names (bytes_of tokens.now) && bytes_eq (last_token
             (bytes_of tokens.now))
-            (first_column (rows ++ record { line = line; statement = bytes_of tokens.now } ∷ [])))) }
+            (first_column
+            (rows ++ record { line = line; statement = bytes_of tokens.now } ∷ [])))) }
         ensures kept { IfOk result (λ right. right ≡ true
             → (rows : List (Numbered (List (List ℕ)))) (line : ℕ)
             → KeepsRows rows self.old

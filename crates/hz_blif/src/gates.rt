@@ -194,7 +194,8 @@ impl Gates {
         requires inverted { ReadAs cover.now self.old.gates.items self.old.inverted.items
             (λ name. inverted_by name cover.now) }
         ensures grown { OnOk result
-            (GrowBy cover.now (λ name. row_gates_by name cover.now (bytes_of planes.now)) self.old self.new) }
+            (GrowBy cover.now (λ name. row_gates_by name cover.now (bytes_of planes.now)) self.old
+            self.new) }
         ensures terms { OnOk result (ReadAs cover.now self.new.gates.items self.new.terms.items
             (λ name. terms_by name cover.now (bytes_of planes.now))) }
     {
@@ -217,13 +218,15 @@ impl Gates {
         requires inverted { ReadAs cover.now self.old.gates.items self.old.inverted.items
             (λ name. inverted_by name cover.now) }
         ensures grown { OnOk result
-            (GrowBy cover.now (λ name. row_gate_by name cover.now row plane.now) self.old self.new) }
+            (GrowBy cover.now (λ name. row_gate_by name cover.now row plane.now) self.old
+            self.new) }
         ensures terms { OnOk result ((names : (ℕ → List ℕ) → List (List ℕ))
             → ReadAs cover.now self.old.gates.items self.old.terms.items names
             → ReadAs cover.now self.new.gates.items self.new.terms.items
             (λ name. names name ++ term_by name cover.now row plane.now ∷ [])) }
         ensures inverted { OnOk result
-            (ReadAs cover.now self.new.gates.items self.new.inverted.items (λ name. inverted_by name cover.now)) }
+            (ReadAs cover.now self.new.gates.items self.new.inverted.items
+            (λ name. inverted_by name cover.now)) }
     {
         let term = self.add_row(cover, row, plane)?;
         push(&mut self.terms, term)
@@ -236,9 +239,11 @@ impl Gates {
         requires inverted { ReadAs cover.now self.old.gates.items self.old.inverted.items
             (λ name. inverted_by name cover.now) }
         ensures grown { OnOk result
-            (GrowBy cover.now (λ name. row_gate_by name cover.now row plane.now) self.old self.new) }
+            (GrowBy cover.now (λ name. row_gate_by name cover.now row plane.now) self.old
+            self.new) }
         ensures term { IfOk result (λ source.
-            ReadAs cover.now self.new.gates.items (source ∷ []) (λ name. term_by name cover.now row plane.now ∷ [])) }
+            ReadAs cover.now self.new.gates.items (source ∷ [])
+            (λ name. term_by name cover.now row plane.now ∷ [])) }
         ensures gates { OnOk result (IsPrefix self.old.gates.items self.new.gates.items) }
         ensures inverted { self.new.inverted ≡ self.old.inverted }
         ensures terms { self.new.terms ≡ self.old.terms }
@@ -262,7 +267,8 @@ impl Gates {
         ensures grown { OnOk result (GrowBy cover.now
             (λ name. inverters_by name cover.now) self.old self.new) }
         ensures inverted { OnOk result
-            (ReadAs cover.now self.new.gates.items self.new.inverted.items (λ name. inverted_by name cover.now)) }
+            (ReadAs cover.now self.new.gates.items self.new.inverted.items
+            (λ name. inverted_by name cover.now)) }
     {
         self.inverted.clear();
         for (pin, name) in cover.pins.iter().enumerate() {
@@ -285,7 +291,8 @@ impl Gates {
         ensures inverted { OnOk result ((before : (ℕ → List ℕ) → List (List ℕ))
             → ReadAs cover.now self.old.gates.items self.old.inverted.items before
             → ReadAs cover.now self.new.gates.items self.new.inverted.items (λ names. before names
-            ++ inverted_from (names cover.now.output) (planes_by cover.now) pin (names name ∷ []))) }
+            ++ inverted_from (names cover.now.output) (planes_by cover.now) pin
+            (names name ∷ []))) }
     {
         let source = self.add_inverter(cover, pin, name)?;
         push(&mut self.inverted, source)
@@ -320,9 +327,11 @@ impl Gates {
         requires plane { length plane.now ≡ length cover.now.pins.items }
         requires inverted { length self.old.inverted.items ≡ length cover.now.pins.items }
         ensures sources { OnOk result (self.new.sources.items
-            ≡ self.old.sources.items ++ literal_sources cover.now.pins.items self.old.inverted.items plane.now) }
+            ≡ self.old.sources.items
+            ++ literal_sources cover.now.pins.items self.old.inverted.items plane.now) }
         ensures count { IfOk result (λ count.
-            count ≡ length (literal_sources cover.now.pins.items self.old.inverted.items plane.now)) }
+            count
+            ≡ length (literal_sources cover.now.pins.items self.old.inverted.items plane.now)) }
         ensures gates { self.new.gates ≡ self.old.gates }
         ensures inverted { self.new.inverted ≡ self.old.inverted }
         ensures terms { self.new.terms ≡ self.old.terms }

@@ -12,11 +12,14 @@ use Rattle.hz_report.specs.Report.{summary_text}
 -- the text is the summary of the one change of a script from a start
 abbrev pub Summarises : Netlist → ℕ → List Bool → List (List (ℕ × Bool)) → List ℕ → Type 0
 Summarises netlist cap start changes text =
-    (finding : FindingOf) × AreAnalyses netlist cap start changes (Found finding ∷ []) × (text ≡ summary_text netlist finding)
+    (finding : FindingOf) × AreAnalyses netlist cap start changes (Found finding ∷ [])
+    × (text ≡ summary_text netlist finding)
 
 -- the job is done with this summary
-abbrev pub IsSummaryOutcome : Netlist → ℕ → List Bool → List (List (ℕ × Bool)) → Status → List ℕ → Type 0
-IsSummaryOutcome netlist cap start changes own text = (own ≡ status.Done) × Summarises netlist cap start changes text
+abbrev pub IsSummaryOutcome : Netlist → ℕ → List Bool → List (List (ℕ × Bool)) → Status → List ℕ →
+    Type 0
+IsSummaryOutcome netlist cap start changes own text =
+    (own ≡ status.Done) × Summarises netlist cap start changes text
 
 -- what the circuit and the script of a number come to
 abbrev pub IsDemoOutcome : ℕ → ℕ → Status → List ℕ → Type 0

@@ -31,7 +31,8 @@ outcome_word Critical = codes "critical"
 
 -- the number of a change, and what the search comes to
 unfoldable pub change_line : ℕ → Outcome → List ℕ
-change_line number outcome = line_of (codes "split change " ∷ decimal number ∷ codes " " ∷ outcome_word outcome ∷ [])
+change_line number outcome =
+    line_of (codes "split change " ∷ decimal number ∷ codes " " ∷ outcome_word outcome ∷ [])
 
 -- a run that ends in a stable state, with this state alone as its cycle
 abbrev pub closed : List (List ℕ) → RunOf
@@ -49,11 +50,13 @@ runs_of_split netlist finding found =
 -- the text of a change that leaves a variable unsettled
 unfoldable pub split_text : Netlist → ℕ → FindingOf → List (List (List ℕ)) → List ℕ
 split_text netlist number finding found =
-    change_line number (outcome_of found) ++ run_text_printed netlist (runs_of_split netlist finding found)
+    change_line number (outcome_of found)
+    ++ run_text_printed netlist (runs_of_split netlist finding found)
 
 -- the runs that are found in a change from its start
 abbrev pub found_in : Netlist → FindingOf → List (List (List ℕ))
-found_in netlist finding = runs_found (network_of netlist) (map (λ row. row.start) finding.rows) finding
+found_in netlist finding =
+    runs_found (network_of netlist) (map (λ row. row.start) finding.rows) finding
 
 -- the text of changes, the first of which has a number: that of the first one which leaves a variable unsettled
 abbrev pub changes_text : Netlist → ℕ → List Analysis → List ℕ
@@ -66,26 +69,34 @@ changes_text netlist number (Found finding ∷ analyses) =
 -- The runs that are found of a change are runs from its start to stable outcome states, which differ. Printed, they replay, if they are
 -- not too long for a run text.
 pub record IsSplitOf (netlist : Netlist) (finding : FindingOf) : Type 0 where
-  pub runs : AreSettledRuns (network_of netlist) finding.input (map (λ row. row.start) finding.rows) (found_in netlist finding)
+  pub runs : AreSettledRuns (network_of netlist) finding.input (map (λ row. row.start) finding.rows)
+      (found_in netlist finding)
   pub replay :
-      length (all_steps (map closed (found_in netlist finding))) ≤ most_steps → flip_count (all_steps (map closed (found_in netlist finding))) ≤ most_steps →
-      ReplaysAs netlist (run_text_printed netlist (runs_of_split netlist finding (found_in netlist finding))) (map closed (found_in netlist finding))
+      length (all_steps (map closed (found_in netlist finding))) ≤ most_steps →
+      flip_count (all_steps (map closed (found_in netlist finding))) ≤ most_steps →
+      ReplaysAs netlist
+      (run_text_printed netlist (runs_of_split netlist finding (found_in netlist finding)))
+      (map closed (found_in netlist finding))
 
 -- so it is of the first change that leaves a variable unsettled
 abbrev pub AreSplits : Netlist → List Analysis → Type 0
 AreSplits netlist [] = Unit {0}
 AreSplits netlist (Stopped var ∷ analyses) = Unit {0}
 AreSplits netlist (Found finding ∷ analyses) =
-    ((is_unsettled finding ≡ true) × IsSplitOf netlist finding) ⊎ ((is_unsettled finding ≡ false) × AreSplits netlist analyses)
+    ((is_unsettled finding ≡ true) × IsSplitOf netlist finding)
+    ⊎ ((is_unsettled finding ≡ false) × AreSplits netlist analyses)
 
 -- The job is done with this text, by the analyses of the changes from a start.
-abbrev pub SplitsChanges : ℕ → Netlist → List Bool → List (List (ℕ × Bool)) → Status → List ℕ → Type 0
+abbrev pub SplitsChanges : ℕ → Netlist → List Bool → List (List (ℕ × Bool)) → Status → List ℕ →
+    Type 0
 SplitsChanges cap netlist start changes own text =
     (own ≡ status.Done)
-    × ((analyses : List Analysis) × AreAnalyses netlist cap start changes analyses × AreSplits netlist analyses
+    × ((analyses : List Analysis) × AreAnalyses netlist cap start changes analyses
+    × AreSplits netlist analyses
     × (text ≡ changes_text netlist 1 analyses))
 
 -- one change that leaves a variable unsettled
 abbrev pub SplitsChange : Netlist → ℕ → FindingOf → Status → List ℕ → Type 0
 SplitsChange netlist number finding own text =
-    (own ≡ status.Done) × IsSplitOf netlist finding × (text ≡ split_text netlist number finding (found_in netlist finding))
+    (own ≡ status.Done) × IsSplitOf netlist finding
+    × (text ≡ split_text netlist number finding (found_in netlist finding))

@@ -59,7 +59,8 @@ fn summarise<K: Sink>(
     requires one { length script.now.changes ≡ 1 }
     requires start { IsStableStart net.now start.now }
     requires cap { IsCap cap }
-    ensures { Ends K.output K.faults (IsSummaryOutcome net.now cap start.now script.now.changes) out.old out.new result }
+    ensures { Ends K.output K.faults (IsSummaryOutcome net.now cap start.now script.now.changes)
+        out.old out.new result }
 {
     let Ok(desk) = Desk::new(alloc, net) else {
         return Status::Memory;
@@ -76,7 +77,8 @@ fn summarise<K: Sink>(
 
 // Writes the summary of a change.
 fn put_summary<K: Sink>(out: &mut K, net: &Net, finding: &Finding) -> Result<(), PutFault>
-    ensures { Wrote K.output K.faults (summary_text net.now (finding_of finding.now)) out.old out.new result }
+    ensures { Wrote K.output K.faults (summary_text net.now (finding_of finding.now)) out.old
+        out.new result }
 {
     let mut writer = Writer::new(out);
     write_summary(&mut writer, net, finding);

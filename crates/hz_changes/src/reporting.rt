@@ -36,7 +36,8 @@ pub(crate) fn report<K: Sink>(
     requires script { IsScriptFor net.now script.now }
     requires start { IsStableStart net.now start.now }
     requires cap { IsCap options.cap }
-    ensures { Ends K.output K.faults (Reports options net.now start.now script.now.changes) out.old out.new result }
+    ensures { Ends K.output K.faults (Reports options net.now start.now script.now.changes) out.old
+        out.new result }
 {
     let Ok(desk) = Desk::new(alloc, net) else {
         return Status::Memory;
@@ -94,9 +95,11 @@ fn write_changes<K: Sink>(
     requires net { sequence.old.desk.netlist ≡ plate.old.netlist }
     requires start { IsStableStart plate.old.netlist sequence.old.start }
     requires goes { sequence.old.stopped ≡ None }
-    ensures gave { (analyses : List Analysis) × AreAnalyses plate.old.netlist cap sequence.old.start script.now.changes analyses
+    ensures gave { (analyses : List Analysis)
+        × AreAnalyses plate.old.netlist cap sequence.old.start script.now.changes analyses
         × Writes K.output K.faults
-        (analyses_text plate.old.netlist plate.old.show 1 script.now.changes analyses) writer.old writer.new }
+        (analyses_text plate.old.netlist plate.old.show 1 script.now.changes analyses) writer.old
+        writer.new }
     ensures none_waits { NoneWaits writer.old → NoneWaits writer.new }
 {
     // A getter of the network says that its circuit is whole, and the law, that the changes which are left out have findings.
@@ -130,11 +133,13 @@ fn write_next<K: Sink>(
     requires change { All (λ pair. pair.0 < plate.old.netlist.inputs) change.now }
     requires cap { IsCap cap }
     requires net { sequence.old.desk.netlist ≡ plate.old.netlist }
-    requires stable { sequence.old.stopped ≡ None → IsStableStart plate.old.netlist sequence.old.start }
+    requires stable { sequence.old.stopped ≡ None →
+        IsStableStart plate.old.netlist sequence.old.start }
     requires inside { IfSome sequence.old.stopped (IsVariable plate.old.netlist) }
     ensures gave { (analysis : Analysis) × GoesOn cap change.now analysis sequence.old sequence.new
         × Writes K.output K.faults
-        (analysis_text plate.old.netlist plate.old.show number change.now analysis) writer.old writer.new }
+        (analysis_text plate.old.netlist plate.old.show number change.now analysis) writer.old
+        writer.new }
     ensures none_waits { NoneWaits writer.new }
     ensures plate { plate.new ≡ plate.old }
 {

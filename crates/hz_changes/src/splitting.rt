@@ -69,7 +69,8 @@ fn split<K: Sink>(
     requires script { IsScriptFor net.now script.now }
     requires start { IsStableStart net.now start.now }
     requires cap { IsCap cap }
-    ensures { Ends K.output K.faults (SplitsChanges cap net.now start.now script.now.changes) out.old out.new result }
+    ensures { Ends K.output K.faults (SplitsChanges cap net.now start.now script.now.changes)
+        out.old out.new result }
 {
     let Ok(desk) = Desk::new(alloc, net) else {
         return Status::Memory;
@@ -95,7 +96,9 @@ fn split_changes<K: Sink>(
     requires net { sequence.old.desk.netlist ≡ net.now }
     requires start { IsStableStart net.now sequence.old.start }
     requires goes { sequence.old.stopped ≡ None }
-    ensures { Ends K.output K.faults (SplitsChanges cap net.now sequence.old.start script.now.changes) out.old out.new result }
+    ensures { Ends K.output K.faults
+        (SplitsChanges cap net.now sequence.old.start script.now.changes) out.old out.new
+        result }
 {
     for number in 0..script.changes() {
         match sequence.next(script.change(number), cap) {
@@ -133,9 +136,12 @@ fn split_change<K: Sink>(
     requires circuit { IsCircuit net.now }
     requires start { IsStableStart net.now (map (λ row. row.start) finding.now.rows) }
     requires input { IsInput net.now finding.now.input }
-    requires right { (cap : ℕ) × IsRightFinding (network_of net.now) finding.now.input (map (λ row. row.start) finding.now.rows) cap (finding_of finding.now) }
+    requires right { (cap : ℕ)
+        × IsRightFinding (network_of net.now) finding.now.input
+        (map (λ row. row.start) finding.now.rows) cap (finding_of finding.now) }
     requires unsettled { is_unsettled (finding_of finding.now) ≡ true }
-    ensures { Ends K.output K.faults (SplitsChange net.now number (finding_of finding.now)) out.old out.new result }
+    ensures { Ends K.output K.faults (SplitsChange net.now number (finding_of finding.now)) out.old
+        out.new result }
 {
     // The law says that what is printed is read as these runs.
     printed_runs_are_read();
@@ -164,7 +170,9 @@ fn write_split<K: Sink>(
     requires outcome { outcome ≡ outcome_of split.now.found }
     requires found { All (All (All (IsVariable net.now))) split.now.found }
     requires no_step { no_step.now.steps ≡ [] }
-    ensures { Wrote K.output K.faults (split_text net.now number (finding_of finding.now) split.now.found) out.old out.new result }
+    ensures { Wrote K.output K.faults
+        (split_text net.now number (finding_of finding.now) split.now.found) out.old
+        out.new result }
 {
     let mut writer = Writer::new(out);
     let nodes = net.circuit().nodes() as usize;
@@ -209,7 +217,9 @@ fn write_found<K: Sink>(writer: &mut Writer<'_, K>, net: &Net, split: &Split<'_>
     requires found { All (All (All (IsVariable net.now))) split.now.found }
     requires no_step { no_step.now.steps ≡ [] }
     requires none_waits { NoneWaits writer.old }
-    ensures gave { Writes K.output K.faults (flat_map (run_text net.now) (map closed split.now.found)) writer.old writer.new }
+    ensures gave { Writes K.output K.faults
+        (flat_map (run_text net.now) (map closed split.now.found)) writer.old
+        writer.new }
     ensures none_waits { NoneWaits writer.new }
 {
     for number in 0..split.found() {

@@ -6,13 +6,15 @@ use Rattle.hz_core.specs.Gate.{takes, gate_value}
 
 -- every list on which the gate has this value has the bit at each pin
 abbrev pub HasOneBit : Kind → Bool → Bool → Type 0
-HasOneBit kind value bit = (list : List Bool) → gate_value kind list ≡ value → list ≡ replicate (length list) bit
+HasOneBit kind value bit =
+    (list : List Bool) → gate_value kind list ≡ value → list ≡ replicate (length list) bit
 
 -- where the gate has the other value, each pin alone gives it this one
 abbrev pub IsSwitchedByAnyPin : Kind → Bool → Type 0
 IsSwitchedByAnyPin kind value =
     (list : List Bool) → IsTrue (takes kind (length list)) → gate_value kind list ≡ not value →
-    (pin : ℕ) → pin < length list → gate_value kind (slice_set list pin (not (slice_index_or list pin false))) ≡ value
+    (pin : ℕ) → pin < length list →
+    gate_value kind (slice_set list pin (not (slice_index_or list pin false))) ≡ value
 
 -- one of the two, as the answer says
 abbrev pub HasBitOrSwitch : Kind → Bool → Option Bool → Type 0

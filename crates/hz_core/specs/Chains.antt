@@ -28,7 +28,9 @@ is_in_bucket count hashes chain place = bucket count (slice_index_or hashes plac
 -- each of the first so many entries is linked to the one before it in its bucket
 abbrev pub AreLinkedTo : ℕ → List Link → ℕ → Type 0
 AreLinkedTo count links done =
-    (place : ℕ) (link : Link) → place < done → link ≡ slice_index_or links place link → link.before ≡ previous_passing (is_in_bucket count (hashes_of links) (bucket count link.hash)) place
+    (place : ℕ) (link : Link) → place < done → link ≡ slice_index_or links place link →
+    link.before
+    ≡ previous_passing (is_in_bucket count (hashes_of links) (bucket count link.hash)) place
 
 -- each entry is
 abbrev pub AreLinked : ℕ → List Link → Type 0
@@ -37,11 +39,14 @@ AreLinked count links = AreLinkedTo count links (length links)
 -- the number is 0, or that of an entry which shares the bucket of the hash
 pub record IsOnChain (count : ℕ) (links : List Link) (hash number : ℕ) : Type 0 where
   pub inside : number ≤ length links
-  pub shares : (place : ℕ) → number ≡ suc place → is_in_bucket count (hashes_of links) (bucket count hash) place ≡ true
+  pub shares : (place : ℕ) → number ≡ suc place →
+      is_in_bucket count (hashes_of links) (bucket count hash) place ≡ true
 
 -- the first so many entries are linked, and each bucket has the last of them
 pub record IsChainedTo (heads : List ℕ) (links : List Link) (done : ℕ) : Type 0 where
-  pub ends : (chain : ℕ) → chain < length heads → slice_index_or heads chain 0 ≡ previous_passing (is_in_bucket (length heads) (hashes_of links) chain) done
+  pub ends : (chain : ℕ) → chain < length heads →
+      slice_index_or heads chain 0
+      ≡ previous_passing (is_in_bucket (length heads) (hashes_of links) chain) done
   pub linked : AreLinkedTo (length heads) links done
   pub some : 0 < length links → 0 < length heads
 

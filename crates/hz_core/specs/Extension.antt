@@ -8,7 +8,8 @@ use Rattle.hz_core.specs.Gate.{gate_value}
 
 -- the set of the values that the gate takes on the lists of bits that refine the ternary list
 abbrev pub IsValueOver : Kind → List Tri → Bool → Type 0
-IsValueOver kind pins value = (bits : List Bool) × Refines bits pins × (gate_value kind bits ≡ value)
+IsValueOver kind pins value =
+    (bits : List Bool) × Refines bits pins × (gate_value kind bits ≡ value)
 
 -- the value of the extension is the join of that set
 abbrev pub IsExtension : Kind → List Tri → Tri → Type 0
@@ -20,7 +21,8 @@ join_over f [] = tri_of (f [])
 join_over f (Zero ∷ values) = join_over (λ bits. f (false ∷ bits)) values
 join_over f (One ∷ values) = join_over (λ bits. f (true ∷ bits)) values
 join_over f (Unknown ∷ values) =
-    join_of (join_over (λ bits. f (false ∷ bits)) values) (join_over (λ bits. f (true ∷ bits)) values)
+    join_of (join_over (λ bits. f (false ∷ bits)) values)
+    (join_over (λ bits. f (true ∷ bits)) values)
 
 -- the ternary extension, as a function
 abbrev pub extension : Kind → List Tri → Tri

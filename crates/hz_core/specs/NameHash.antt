@@ -21,7 +21,9 @@ mixed_hash front last = bit_and (bit_xor (bit_xor front (front / 2 ^ 32)) last) 
 -- the plain hash of a name
 unfoldable pub plain_hash : List ℕ → ℕ
 plain_hash [] = 0
-plain_hash (byte ∷ rest) = mixed_hash (folding.finish (folding.write folding.initial (prefix_of (byte ∷ rest)))) (last_byte_of (byte ∷ rest))
+plain_hash (byte ∷ rest) =
+    mixed_hash (folding.finish (folding.write folding.initial (prefix_of (byte ∷ rest))))
+    (last_byte_of (byte ∷ rest))
 
 -- the hash of a name by a hasher that has its key
 unfoldable pub keyed_hash : DefaultHasher → List ℕ → ℕ

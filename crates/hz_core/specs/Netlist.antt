@@ -24,7 +24,8 @@ pub record Netlist : Type 0 where
 -- a byte that may stand in a name: 0x21 to 0x7E, and none of the signs ( ) , = #
 abbrev pub is_name_byte : ℕ → Bool
 is_name_byte byte =
-    nat_le 33 byte && nat_le byte 126 && not (byte == 40 || byte == 41 || byte == 44 || byte == 61 || byte == 35)
+    nat_le 33 byte && nat_le byte 126
+    && not (byte == 40 || byte == 41 || byte == 44 || byte == 61 || byte == 35)
 
 -- a name is one such byte or more, and no longer than a name may be
 pub record IsName (name : List ℕ) : Type 0 where
@@ -55,7 +56,8 @@ IsCutNumber netlist node = (primary_inputs netlist ≤ node) × (node < netlist.
 -- the data node of a cut, if it is set; an input that is no cut has none
 abbrev pub data_of : Netlist → ℕ → Option ℕ
 data_of netlist input =
-    if nat_le (primary_inputs netlist) input then slice_index_or netlist.cuts (input - primary_inputs netlist) None else None
+    if nat_le (primary_inputs netlist) input
+    then slice_index_or netlist.cuts (input - primary_inputs netlist) None else None
 
 -- the node is a gate: gates are numbered after the inputs
 abbrev pub IsGateNumber : Netlist → ℕ → Type 0
@@ -63,7 +65,8 @@ IsGateNumber netlist node = (netlist.inputs ≤ node) × (node < length netlist.
 
 -- the gate with this node number
 abbrev pub gate_at : Netlist → ℕ → Gate
-gate_at netlist node = slice_index_or netlist.gates (node - netlist.inputs) (record { kind = And; sources = [] })
+gate_at netlist node =
+    slice_index_or netlist.gates (node - netlist.inputs) (record { kind = And; sources = [] })
 
 -- the name of a node, by the list of names
 abbrev pub node_name : List (List ℕ) → ℕ → List ℕ
@@ -79,16 +82,22 @@ empty_netlist = record { names = []; inputs = 0; cuts = []; gates = []; outputs 
 
 -- the circuit with one input more, after its last node
 abbrev pub with_input : Netlist → List ℕ → Netlist
-with_input netlist name = record netlist { names = netlist.names ++ name ∷ []; inputs = netlist.inputs + 1 }
+with_input netlist name =
+    record netlist { names = netlist.names ++ name ∷ []; inputs = netlist.inputs + 1 }
 
 -- the circuit with one cut more, which has no data node yet, after its last node
 abbrev pub with_cut : Netlist → List ℕ → Netlist
 with_cut netlist name =
-    record netlist { names = netlist.names ++ name ∷ []; inputs = netlist.inputs + 1; cuts = netlist.cuts ++ None ∷ [] }
+    record netlist {
+      names = netlist.names ++ name ∷ [];
+      inputs = netlist.inputs + 1;
+      cuts = netlist.cuts ++ None ∷ [];
+    }
 
 -- the circuit with this data node for a cut
 abbrev pub with_data : Netlist → ℕ → ℕ → Netlist
-with_data netlist cut node = record netlist { cuts = slice_set netlist.cuts (cut - primary_inputs netlist) (Some node) }
+with_data netlist cut node =
+    record netlist { cuts = slice_set netlist.cuts (cut - primary_inputs netlist) (Some node) }
 
 -- the circuit with one gate more, which has no pin yet, after its last node
 abbrev pub with_gate : Netlist → List ℕ → Kind → Netlist
@@ -106,14 +115,18 @@ with_source gate source = record gate { sources = gate.sources ++ source ∷ [] 
 abbrev pub with_pin : Netlist → ℕ → ℕ → Netlist
 with_pin netlist node source =
     record netlist {
-      gates = slice_set netlist.gates (node - netlist.inputs) (with_source (gate_at netlist node) source);
+      gates =
+          slice_set netlist.gates (node - netlist.inputs)
+          (with_source (gate_at netlist node) source);
     }
 
 -- the circuit with the node among its outputs: it stays where it is, or comes last
 abbrev pub with_output : Netlist → ℕ → Netlist
 with_output netlist node =
     record netlist {
-      outputs = if list_any (nat_eq node) netlist.outputs then netlist.outputs else netlist.outputs ++ node ∷ [];
+      outputs =
+          if list_any (nat_eq node) netlist.outputs then netlist.outputs
+          else netlist.outputs ++ node ∷ [];
     }
 
 -- a gate of a circuit that has so many nodes: no more pins than its kind takes, each of which reads a node

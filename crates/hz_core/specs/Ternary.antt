@@ -62,7 +62,8 @@ abbrev pub AllBelow : List Tri → List Tri → Type 0
 AllBelow [] [] = Unit {0}
 AllBelow [] (large ∷ larger) = ⊥
 AllBelow (small ∷ smaller) [] = ⊥
-AllBelow (small ∷ smaller) (large ∷ larger) = IsTrue (is_below small large) × AllBelow smaller larger
+AllBelow (small ∷ smaller) (large ∷ larger) =
+    IsTrue (is_below small large) × AllBelow smaller larger
 
 -- a list of bits refines a list of values where each bit refines the value at its place
 abbrev pub Refines : List Bool → List Tri → Type 0

@@ -132,7 +132,8 @@ impl Chains {
     /// The number of the last entry before this one that has the same hash, counted from 1; 0 if there is none.
     pub fn earlier(&self, entry: usize) -> u32
         requires { entry < length self.now }
-        ensures { result ≡ previous_passing (has_hash self.now (slice_index_or self.now entry 0)) entry }
+        ensures { result
+            ≡ previous_passing (has_hash self.now (slice_index_or self.now entry 0)) entry }
     {
         let link = self.links[entry];
         seek(

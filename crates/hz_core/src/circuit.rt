@@ -89,7 +89,9 @@ impl Circuit {
         requires no_cut { self.old.cuts ≡ [] }
         requires no_gate { self.old.gates ≡ [] }
         requires room { variable_count self.old < most_variables }
-        ensures ok { IfOk result (λ number. (number ≡ length self.old.names) × (self.new ≡ with_input self.old name.now)) }
+        ensures ok { IfOk result
+            (λ number. (number ≡ length self.old.names)
+            × (self.new ≡ with_input self.old name.now)) }
         ensures err { OnErr result (self.new ≡ self.old) }
     {
         let number = self.names.len() as u32;
@@ -104,7 +106,8 @@ impl Circuit {
         requires fresh { node_named self.old name.now ≡ None }
         requires no_gate { self.old.gates ≡ [] }
         requires room { variable_count self.old < most_variables }
-        ensures ok { IfOk result (λ number. (number ≡ length self.old.names) × (self.new ≡ with_cut self.old name.now)) }
+        ensures ok { IfOk result
+            (λ number. (number ≡ length self.old.names) × (self.new ≡ with_cut self.old name.now)) }
         ensures err { OnErr result (self.new ≡ self.old) }
     {
         let number = self.names.len() as u32;
@@ -133,7 +136,9 @@ impl Circuit {
         requires name { IsName name.now }
         requires fresh { node_named self.old name.now ≡ None }
         requires room { variable_count self.old < most_variables }
-        ensures ok { IfOk result (λ number. (number ≡ length self.old.names) × (self.new ≡ with_gate self.old name.now kind)) }
+        ensures ok { IfOk result
+            (λ number. (number ≡ length self.old.names)
+            × (self.new ≡ with_gate self.old name.now kind)) }
         ensures err { OnErr result (self.new ≡ self.old) }
     {
         let number = self.names.len() as u32;
@@ -151,7 +156,8 @@ impl Circuit {
     pub fn connect(&mut self, gate: u32, source: u32) -> Result<(), Memory>
         requires gate { IsGateNumber self.old gate }
         requires source { source < length self.old.names }
-        requires pins { length (gate_at self.old gate).sources < most_pins (gate_at self.old gate).kind }
+        requires pins { length (gate_at self.old gate).sources
+            < most_pins (gate_at self.old gate).kind }
         requires room { variable_count self.old < most_variables }
         ensures ok { OnOk result (self.new ≡ with_pin self.old gate source) }
         ensures err { OnErr result (self.new ≡ self.old) }

@@ -32,7 +32,8 @@ pub fn find_name<N: Named>(
     name: &[u8],
 ) -> Option<usize>
     requires { chains.now ≡ map (hash_of hashing.now) (map N.name_of items.now) }
-    ensures { IsDistinct bytes_eq (map N.name_of items.now) → result ≡ position (bytes_eq name.now) (map N.name_of items.now) }
+    ensures { IsDistinct bytes_eq (map N.name_of items.now) →
+        result ≡ position (bytes_eq name.now) (map N.name_of items.now) }
 {
     let mut number = chains.last(hashing.hash(name));
     while number > 0 {

@@ -14,13 +14,16 @@ use Rattle.hz_cycle.specs.Cycles.{IsSettleRun, IsCycleOf}
 -- the result is X, one of them has 0 there and another has 1.
 abbrev pub RunsShowB : Type 0
 RunsShowB =
-    (net : List Driver) (input start : List Bool) (a b : List Tri) (settle cycle : List (List ℕ)) (i : ℕ) →
-    length start ≡ length net → IsResult (algorithm_a net input start) a → IsResult (algorithm_b net input a) b →
+    (net : List Driver) (input start : List Bool) (a b : List Tri) (settle cycle : List (List ℕ))
+    (i : ℕ) →
+    length start ≡ length net → IsResult (algorithm_a net input start) a →
+    IsResult (algorithm_b net input a) b →
     IsSettleRun net input start a b settle → IsCycleOf net input b (end_of start settle) cycle →
     JoinsTo (IsOutcome net input start) i (value_at b i)
 
 -- A settle run of a change, and a cycle that begins at its end.
-pub record HasSettleRunAndCycle (net : List Driver) (input start : List Bool) (a b : List Tri) : Type 0 where
+pub record HasSettleRunAndCycle (net : List Driver) (input start : List Bool)
+    (a b : List Tri) : Type 0 where
   pub settle : List (List ℕ)
   pub cycle : List (List ℕ)
   pub is_settle : IsSettleRun net input start a b settle
@@ -31,7 +34,8 @@ abbrev pub SettleRunsExist : Type 0
 SettleRunsExist =
     (netlist : Netlist) (input start : List Bool) (a b : List Tri) → IsCircuit netlist →
     IsStableStart netlist start → IsResult (algorithm_a (network_of netlist) input start) a →
-    IsResult (algorithm_b (network_of netlist) input a) b → HasSettleRunAndCycle (network_of netlist) input start a b
+    IsResult (algorithm_b (network_of netlist) input a) b →
+    HasSettleRunAndCycle (network_of netlist) input start a b
 
 -- Algorithm B is exact: for every circuit, stable start and input the value of its result at a variable is the join of the
 -- values that the variable has in the outcome states.
@@ -39,10 +43,12 @@ abbrev pub BIsExact : Type 0
 BIsExact =
     (netlist : Netlist) (input start : List Bool) (a b : List Tri) (i : ℕ) → IsCircuit netlist →
     IsStableStart netlist start → IsResult (algorithm_a (network_of netlist) input start) a →
-    IsResult (algorithm_b (network_of netlist) input a) b → JoinsTo (IsOutcome (network_of netlist) input start) i (value_at b i)
+    IsResult (algorithm_b (network_of netlist) input a) b →
+    JoinsTo (IsOutcome (network_of netlist) input start) i (value_at b i)
 
 -- and there is an outcome state
 abbrev pub OutcomesExist : Type 0
 OutcomesExist =
-    (netlist : Netlist) (input start : List Bool) → IsCircuit netlist → IsStableStart netlist start →
+    (netlist : Netlist) (input start : List Bool) → IsCircuit netlist →
+    IsStableStart netlist start →
     (state : List Bool) × IsOutcome (network_of netlist) input start state

@@ -22,12 +22,15 @@ abbrev pub IsClass : Bool → Tri → Tri → Option Count → Class → Type 0
 IsClass start a b changes Steady = IsKnown a × (b ≡ a)
 IsClass start a b changes Unsettled = IsUnknown a × IsUnknown b
 IsClass start a b changes Static = IsUnknown a × (b ≡ tri_of start)
-IsClass start a b changes Single = IsUnknown a × (b ≡ tri_of (not start)) × (changes ≡ Some (Exact 1))
-IsClass start a b changes MaybeDynamic = IsUnknown a × (b ≡ tri_of (not start)) × ChangesAgain changes
+IsClass start a b changes Single =
+    IsUnknown a × (b ≡ tri_of (not start)) × (changes ≡ Some (Exact 1))
+IsClass start a b changes MaybeDynamic =
+    IsUnknown a × (b ≡ tri_of (not start)) × ChangesAgain changes
 IsClass start a b changes Change = IsUnknown a × (b ≡ tri_of (not start)) × (changes ≡ None)
 
 -- no two classes are those of the same variable
 abbrev pub OneClass : Type 0
 OneClass =
-    (start : Bool) (a b : Tri) (changes : Option Count) (one other : Class) → IsClass start a b changes one →
+    (start : Bool) (a b : Tri) (changes : Option Count) (one other : Class) →
+    IsClass start a b changes one →
     IsClass start a b changes other → one ≡ other

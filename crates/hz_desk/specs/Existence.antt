@@ -9,5 +9,6 @@ use Rattle.hz_desk.specs.RightFinding.{IsRightFinding}
 -- Every circuit has a right finding from every stable start, under every new input and every cap.
 abbrev pub FindingsExist : Type 0
 FindingsExist =
-    (netlist : Netlist) (input start : List Bool) (cap : ℕ) → IsCircuit netlist → IsWhole netlist → IsStableStart netlist start →
+    (netlist : Netlist) (input start : List Bool) (cap : ℕ) → IsCircuit netlist → IsWhole netlist →
+    IsStableStart netlist start →
     (finding : FindingOf) × IsRightFinding (network_of netlist) input start cap finding

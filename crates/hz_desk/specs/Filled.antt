@@ -21,13 +21,15 @@ use Rattle.hz_desk.specs.Rows.{AreRowsOf}
 use Rattle.hz_desk.specs.RightFinding.{IsRightFinding}
 
 -- the rows are those of a change: their words are the words of the variables
-pub record AreRowsOfChange (net : List Driver) (input start : List Bool) (cap : ℕ) (rows : List Row) : Type 0 where
+pub record AreRowsOfChange (net : List Driver) (input start : List Bool) (cap : ℕ)
+    (rows : List Row) : Type 0 where
   pub words : List (Option Word)
   pub are_words : AreCappedWords net input start cap words
   pub are_rows : AreRowsOf start (values_a rows) (values_b rows) words rows
 
 -- The three runs of a change, for the results of Algorithms A and B. Their steps can be counted.
-pub record AreRuns (net : List Driver) (input start : List Bool) (a b : List Tri) (spread settle cycle : List (List ℕ)) : Type 0 where
+pub record AreRuns (net : List Driver) (input start : List Bool) (a b : List Tri)
+    (spread settle cycle : List (List ℕ)) : Type 0 where
   pub is_spread : IsSpreadRun net input start a spread
   pub spread_flips : flip_count spread ≡ unknown_count a
   pub is_settle : IsSettleRun net input start a b settle
@@ -37,13 +39,15 @@ pub record AreRuns (net : List Driver) (input start : List Bool) (a b : List Tri
   pub short_cycle : IsShortRun net input (end_of start settle) cycle
 
 -- the race states of the three runs are counted
-pub record AreRacesOf (net : List Driver) (input start : List Bool) (spread settle cycle : List (List ℕ)) (spread_races settle_races cycle_races : ℕ) : Type 0 where
+pub record AreRacesOf (net : List Driver) (input start : List Bool)
+    (spread settle cycle : List (List ℕ)) (spread_races settle_races cycle_races : ℕ) : Type 0 where
   pub of_spread : spread_races ≡ race_count net input (states_of start spread)
   pub of_settle : settle_races ≡ race_count net input (states_of start settle)
   pub of_cycle : cycle_races ≡ race_count net input (cycle_states (end_of start settle) cycle)
 
 -- all parts are those of one change
-pub record IsFilled (netlist : Netlist) (input start : List Bool) (cap : ℕ) (finding : FindingOf) : Type 0 where
+pub record IsFilled (netlist : Netlist) (input start : List Bool) (cap : ℕ)
+    (finding : FindingOf) : Type 0 where
   pub circuit : IsCircuit netlist
   pub whole : IsWhole netlist
   pub begins : IsStableStart netlist start
@@ -54,14 +58,17 @@ pub record IsFilled (netlist : Netlist) (input start : List Bool) (cap : ℕ) (f
   pub b : List Tri
   pub when : List ℕ
   pub passed : ArePassResults netlist input start a ranks b when finding.rounds_a finding.rounds_b
-  pub runs : AreRuns (network_of netlist) input start a b finding.spread finding.settle finding.cycle
+  pub runs : AreRuns (network_of netlist) input start a b finding.spread finding.settle
+      finding.cycle
   pub words : List (Option Word)
   pub are_words : AreCappedWords (network_of netlist) input start cap words
   pub rows : AreRowsOf start a b words finding.rows
-  pub races : AreRacesOf (network_of netlist) input start finding.spread finding.settle finding.cycle finding.spread_races finding.settle_races finding.cycle_races
+  pub races : AreRacesOf (network_of netlist) input start finding.spread finding.settle
+      finding.cycle finding.spread_races finding.settle_races finding.cycle_races
 
 -- a finding that is filled is right
 abbrev pub FilledIsRight : Type 0
 FilledIsRight =
-    (netlist : Netlist) (input start : List Bool) (cap : ℕ) (finding : FindingOf) → IsFilled netlist input start cap finding →
+    (netlist : Netlist) (input start : List Bool) (cap : ℕ) (finding : FindingOf) →
+    IsFilled netlist input start cap finding →
     IsRightFinding (network_of netlist) input start cap finding

@@ -14,7 +14,8 @@ pub record HavePassRoom (netlist : Netlist) (passes : Passes) : Type 0 where
   pub front : passes.front ≡ length (network_of netlist)
 
 -- The results of Algorithms A and B from a start, with their rounds, the ranks and the settling rounds.
-pub record ArePassResults (netlist : Netlist) (input start : List Bool) (a : List Tri) (ranks : List ℕ) (b : List Tri) (when : List ℕ) (rounds_a rounds_b : ℕ) : Type 0 where
+pub record ArePassResults (netlist : Netlist) (input start : List Bool) (a : List Tri)
+    (ranks : List ℕ) (b : List Tri) (when : List ℕ) (rounds_a rounds_b : ℕ) : Type 0 where
   pub a_rounds : AreRounds (algorithm_a (network_of netlist) input start) rounds_a
   pub a_result : a ≡ algorithm_a (network_of netlist) input start rounds_a
   pub a_bound : rounds_a ≤ length (network_of netlist) + 1
@@ -27,4 +28,6 @@ pub record ArePassResults (netlist : Netlist) (input start : List Bool) (a : Lis
 -- these are the results of both passes, and a room for passes holds the rest
 abbrev pub HasPassResults : Netlist → List Bool → List Bool → List Tri → List Tri → Passes → Type 0
 HasPassResults netlist input start a b passes =
-    (rounds_a rounds_b : ℕ) × ArePassResults netlist input start a passes.ranks.items b passes.when.items rounds_a rounds_b
+    (rounds_a rounds_b : ℕ)
+    × ArePassResults netlist input start a passes.ranks.items b passes.when.items rounds_a
+    rounds_b

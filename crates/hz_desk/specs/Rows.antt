@@ -23,15 +23,18 @@ abbrev pub changes_of : Option Word → Option Count
 changes_of word = option_map (λ word. word.changes) word
 
 -- for each of so many variables
-pub record MayBeRows (variables : ℕ) (start : List Bool) (a b : List Tri) (words : List (Option Word)) : Type 0 where
+pub record MayBeRows (variables : ℕ) (start : List Bool) (a b : List Tri)
+    (words : List (Option Word)) : Type 0 where
   pub start_long : length start ≡ variables
   pub a_long : length a ≡ variables
   pub b_long : length b ≡ variables
   pub words_long : length words ≡ variables
-  pub each : (i : ℕ) → i < variables → MayBeRow (value_at a i) (value_at b i) (changes_of (slice_index_or words i None))
+  pub each : (i : ℕ) → i < variables →
+      MayBeRow (value_at a i) (value_at b i) (changes_of (slice_index_or words i None))
 
 -- the rows of all variables
-pub record AreRowsOf (start : List Bool) (a b : List Tri) (words : List (Option Word)) (rows : List Row) : Type 0 where
+pub record AreRowsOf (start : List Bool) (a b : List Tri) (words : List (Option Word))
+    (rows : List Row) : Type 0 where
   pub starts : map (λ row. row.start) rows ≡ start
   pub in_a : values_a rows ≡ a
   pub in_b : values_b rows ≡ b

@@ -10,16 +10,19 @@ abbrev pub most_short_steps : ℕ
 most_short_steps = 1000000
 
 -- a short run
-pub record IsShortRun (net : List Driver) (input start : List Bool) (steps : List (List ℕ)) : Type 0 where
+pub record IsShortRun (net : List Driver) (input start : List Bool)
+    (steps : List (List ℕ)) : Type 0 where
   pub run : IsRun net input start steps
   pub short : length steps ≤ most_short_steps
 
 -- After some steps of a run the follower is in a state from which the rest goes on, and has counted so many race states
 -- before it.
-pub record IsAlong (net : List Driver) (input start : List Bool) (steps rest : List (List ℕ)) (races : ℕ) (state : List Bool) : Type 0 where
+pub record IsAlong (net : List Driver) (input start : List Bool) (steps rest : List (List ℕ))
+    (races : ℕ) (state : List Bool) : Type 0 where
   pub run : IsRun net input state rest
   pub ends : end_of state rest ≡ end_of start steps
-  pub counted : races + race_count net input (states_before state rest) ≡ race_count net input (states_before start steps)
+  pub counted : races + race_count net input (states_before state rest)
+      ≡ race_count net input (states_before start steps)
   pub few : races + length rest ≤ most_short_steps
 
 -- Two runs begin with the same steps, so many of them, and the first run has at most one step more.

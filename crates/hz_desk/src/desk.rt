@@ -31,7 +31,10 @@ impl<'n> Model for Desk<'n> {
 
     ghost use Rattle.hz_desk.specs.RoomFor.{IsRoomFor};
 
-    ghost view = { λ fields. record { netlist = fields.net.now; finding = finding_of fields.room.finding } };
+    ghost view = { λ fields. record {
+      netlist = fields.net.now;
+      finding = finding_of fields.room.finding;
+    } };
 
     ghost invariant = { λ fields. IsRoomFor fields.net.now fields.room };
 }
@@ -69,7 +72,8 @@ impl<'n> Desk<'n> {
         requires input { IsInput self.old.netlist input.now }
         requires cap_low { 1 ≤ cap }
         requires cap_high { cap ≤ greatest_cap }
-        ensures right { IsRightFinding (network_of self.old.netlist) input.now start.now cap (finding_of result.now) }
+        ensures right { IsRightFinding (network_of self.old.netlist) input.now start.now cap
+            (finding_of result.now) }
         ensures* after { sem 𝓛 (LeavesDesk self.entry
             (λ last. (last.netlist ≡ self.old.netlist) × (last.finding ≡ finding_of result.now))) }
     {

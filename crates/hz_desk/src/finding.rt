@@ -48,9 +48,11 @@ impl Model for Rows {
 
     ghost use Rattle.hz_desk.specs.RowsOf.{rows_of, AreEquallyLong};
 
-    ghost view = { λ fields. rows_of fields.start.items fields.a.items fields.b.items fields.words.items };
+    ghost view = { λ fields. rows_of fields.start.items fields.a.items fields.b.items
+        fields.words.items };
 
-    ghost invariant = { λ fields. AreEquallyLong fields.start.items fields.a.items fields.b.items fields.words.items };
+    ghost invariant = { λ fields. AreEquallyLong fields.start.items fields.a.items fields.b.items
+        fields.words.items };
 }
 
 impl Rows {

@@ -57,7 +57,8 @@ impl Passes {
         requires room { HavePassRoom net.now self.old }
         requires a { IsState net.now a.old }
         requires b { IsState net.now b.old }
-        ensures passed { ArePassResults net.now input.now start.now a.new self.new.ranks.items b.new self.new.when.items result.a result.b }
+        ensures passed { ArePassResults net.now input.now start.now a.new self.new.ranks.items b.new
+            self.new.when.items result.a result.b }
         ensures room { HavePassRoom net.now self.new }
     {
         make_both::<Brand>(
@@ -99,7 +100,8 @@ fn make_both<L: Ledger>(
     requires name { ledger.name ≡ L.name }
     requires parts { ledger.parts ≡ L.parts }
     requires some { 0 < ledger.parts }
-    ensures passed { ArePassResults net.now input.now start.now a.new ranks.new b.new when.new result.a result.b }
+    ensures passed { ArePassResults net.now input.now start.now a.new ranks.new b.new when.new
+        result.a result.b }
     ensures front { front.new ≡ front.old }
 {
     let (book, share) = ledger.open::<L>();

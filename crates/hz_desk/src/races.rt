@@ -31,11 +31,16 @@ pub(crate) fn count_races(
 ) -> Races
     requires input { IsInput follower.old.circuit input.now }
     requires start { IsState follower.old.circuit start.now }
-    requires spread { IsShortRun (network_of follower.old.circuit) input.now start.now spread.now.steps }
-    requires settle { IsShortRun (network_of follower.old.circuit) input.now start.now settle.now.steps }
-    requires cycle { IsShortRun (network_of follower.old.circuit) input.now (end_of start.now settle.now.steps) cycle.now.steps }
+    requires spread { IsShortRun (network_of follower.old.circuit) input.now start.now
+        spread.now.steps }
+    requires settle { IsShortRun (network_of follower.old.circuit) input.now start.now
+        settle.now.steps }
+    requires cycle { IsShortRun (network_of follower.old.circuit) input.now
+        (end_of start.now settle.now.steps) cycle.now.steps }
     requires common { BeginAlike spread.now.steps settle.now.steps common }
-    ensures races { AreRacesOf (network_of follower.old.circuit) input.now start.now spread.now.steps settle.now.steps cycle.now.steps result.spread result.settle result.cycle }
+    ensures races { AreRacesOf (network_of follower.old.circuit) input.now start.now
+        spread.now.steps settle.now.steps cycle.now.steps result.spread
+        result.settle result.cycle }
     ensures circuit { follower.new.circuit ≡ follower.old.circuit }
 {
     follower.begin(input, start);
@@ -54,8 +59,11 @@ pub(crate) fn count_races(
 // goes along it.
 fn run_races(follower: &mut Follower, run: &Run, from: usize) -> u32
     requires from { from ≤ length run.now.steps }
-    requires run { IsShortRun (network_of follower.old.circuit) follower.old.input follower.old.state (drop from run.now.steps) }
-    ensures races { result ≡ race_count (network_of follower.old.circuit) follower.old.input (states_of follower.old.state (drop from run.now.steps)) }
+    requires run { IsShortRun (network_of follower.old.circuit) follower.old.input
+        follower.old.state (drop from run.now.steps) }
+    ensures races { result
+        ≡ race_count (network_of follower.old.circuit) follower.old.input
+        (states_of follower.old.state (drop from run.now.steps)) }
     ensures few { result ≤ most_short_steps + 1 }
     ensures circuit { follower.new.circuit ≡ follower.old.circuit }
     ensures input { follower.new.input ≡ follower.old.input }
@@ -69,8 +77,11 @@ fn run_races(follower: &mut Follower, run: &Run, from: usize) -> u32
 // back.
 fn last_races(follower: &mut Follower, run: &Run, from: usize) -> u32
     requires few { length run.now.steps ≤ from + 1 }
-    requires run { IsRun (network_of follower.old.circuit) follower.old.input follower.old.state (drop from run.now.steps) }
-    ensures races { result ≡ race_count (network_of follower.old.circuit) follower.old.input (states_of follower.old.state (drop from run.now.steps)) }
+    requires run { IsRun (network_of follower.old.circuit) follower.old.input follower.old.state
+        (drop from run.now.steps) }
+    ensures races { result
+        ≡ race_count (network_of follower.old.circuit) follower.old.input
+        (states_of follower.old.state (drop from run.now.steps)) }
     ensures few { result ≤ 2 }
     ensures back { follower.new ≡ follower.old }
 {
@@ -88,8 +99,11 @@ fn last_races(follower: &mut Follower, run: &Run, from: usize) -> u32
 
 // Counts the race states of a cycle from the current state, without its last one, which is the first again.
 fn cycle_races(follower: &mut Follower, cycle: &Run) -> u32
-    requires { IsShortRun (network_of follower.old.circuit) follower.old.input follower.old.state cycle.now.steps }
-    ensures races { result ≡ race_count (network_of follower.old.circuit) follower.old.input (cycle_states follower.old.state cycle.now.steps) }
+    requires { IsShortRun (network_of follower.old.circuit) follower.old.input follower.old.state
+        cycle.now.steps }
+    ensures races { result
+        ≡ race_count (network_of follower.old.circuit) follower.old.input
+        (cycle_states follower.old.state cycle.now.steps) }
     ensures circuit { follower.new.circuit ≡ follower.old.circuit }
 {
     if cycle.steps() == 0 {
@@ -102,12 +116,16 @@ fn cycle_races(follower: &mut Follower, cycle: &Run) -> u32
 fn races_before(follower: &mut Follower, run: &Run, from: usize, to: usize) -> u32
     requires from { from ≤ to }
     requires to { to ≤ length run.now.steps }
-    requires run { IsShortRun (network_of follower.old.circuit) follower.old.input follower.old.state (slice_range run.now.steps from to) }
-    ensures races { result ≡ race_count (network_of follower.old.circuit) follower.old.input (states_before follower.old.state (slice_range run.now.steps from to)) }
+    requires run { IsShortRun (network_of follower.old.circuit) follower.old.input
+        follower.old.state (slice_range run.now.steps from to) }
+    ensures races { result
+        ≡ race_count (network_of follower.old.circuit) follower.old.input
+        (states_before follower.old.state (slice_range run.now.steps from to)) }
     ensures few { result ≤ most_short_steps }
     ensures circuit { follower.new.circuit ≡ follower.old.circuit }
     ensures input { follower.new.input ≡ follower.old.input }
-    ensures ends { follower.new.state ≡ end_of follower.old.state (slice_range run.now.steps from to) }
+    ensures ends { follower.new.state
+        ≡ end_of follower.old.state (slice_range run.now.steps from to) }
 {
     let mut races = 0;
     for number in from..to {
@@ -119,7 +137,9 @@ fn races_before(follower: &mut Follower, run: &Run, from: usize, to: usize) -> u
 
 // 1 if the current state is a race state, else 0.
 fn race_here(follower: &Follower) -> u32
-    ensures { result ≡ (if is_race (network_of follower.now.circuit) follower.now.input follower.now.state then 1 else 0) }
+    ensures { result
+        ≡ (if is_race (network_of follower.now.circuit) follower.now.input follower.now.state then 1
+        else 0) }
 {
     if follower.unstable_count() >= 2 { 1 } else { 0 }
 }

@@ -58,7 +58,8 @@ impl<'n> Room<'n> {
         requires input { IsInput net.now input.now }
         requires cap_low { 1 ≤ cap }
         requires cap_high { cap ≤ greatest_cap }
-        ensures right { IsRightFinding (network_of net.now) input.now start.now cap (finding_of self.new.finding) }
+        ensures right { IsRightFinding (network_of net.now) input.now start.now cap
+            (finding_of self.new.finding) }
         ensures room { IsRoomFor net.now self.new }
     {
         // A getter of the network says that its circuit is one.
@@ -119,7 +120,9 @@ fn fill_rows(
     requires cap_high { cap ≤ greatest_cap }
     requires passes { HavePassRoom net.now passes.old }
     requires rows { AreByVariable net.now rows.old }
-    ensures passed { ArePassResults net.now input.now start.now (values_a rows.new) passes.new.ranks.items (values_b rows.new) passes.new.when.items result.a result.b }
+    ensures passed { ArePassResults net.now input.now start.now (values_a rows.new)
+        passes.new.ranks.items (values_b rows.new) passes.new.when.items result.a
+        result.b }
     ensures passes { HavePassRoom net.now passes.new }
     ensures rows { AreRowsOfChange (network_of net.now) input.now start.now cap rows.new }
 {

@@ -35,12 +35,14 @@ pub(crate) fn make_runs(
 ) -> usize
     requires start { IsStableStart net.now start.now }
     requires input { IsInput net.now input.now }
-    requires passed { HasPassResults net.now input.now start.now (values_a rows.now) (values_b rows.now) passes.now }
+    requires passed { HasPassResults net.now input.now start.now (values_a rows.now)
+        (values_b rows.now) passes.now }
     requires scratch { IsScratchFor net.now scratch.old }
     requires spread { HasRunRoom (length (network_of net.now)) spread.old }
     requires settle { HasRunRoom (2 * length (network_of net.now)) settle.old }
     requires cycle { HasRunRoom (4 * length (network_of net.now)) cycle.old }
-    ensures runs { AreRuns (network_of net.now) input.now start.now (values_a rows.now) (values_b rows.now) spread.new.steps settle.new.steps cycle.new.steps }
+    ensures runs { AreRuns (network_of net.now) input.now start.now (values_a rows.now)
+        (values_b rows.now) spread.new.steps settle.new.steps cycle.new.steps }
     ensures common { BeginAlike spread.new.steps settle.new.steps result }
     ensures scratch { IsScratchFor net.now scratch.new }
     ensures spread_room { HasRunRoom (length (network_of net.now)) spread.new }
@@ -82,7 +84,8 @@ fn make_spread(
     requires spread_room { HasRunRoom (length (network_of net.now)) spread.old }
     requires settle_room { HasRunRoom (2 * length (network_of net.now)) settle.old }
     ensures spread { IsSpreadRun (network_of net.now) input.now start.now a.now spread.new.steps }
-    ensures begun { IsSparingRun (network_of net.now) input.now start.now a.now ranks.now settle.new.steps }
+    ensures begun { IsSparingRun (network_of net.now) input.now start.now a.now ranks.now
+        settle.new.steps }
     ensures beginning { BeginAlike spread.new.steps settle.new.steps (length settle.new.steps) }
     ensures state { scratch.new.state ≡ end_of start.now settle.new.steps }
     ensures marked { scratch.new.marked ≡ [] }

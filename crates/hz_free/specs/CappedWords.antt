@@ -17,36 +17,45 @@ use Rattle.hz_free.specs.VariableWords.{IsDrivenWord}
 
 -- how a variable is driven, by what it is
 abbrev pub IsDrivenAs : Netlist → ℕ → VarKind → Type 0
-IsDrivenAs netlist var (Input number) = (driver_at (network_of netlist) var ≡ External number) × (number < netlist.inputs)
+IsDrivenAs netlist var (Input number) =
+    (driver_at (network_of netlist) var ≡ External number) × (number < netlist.inputs)
 IsDrivenAs netlist var (GateVariable kind) =
     IsGateNumber netlist var
-    × (driver_at (network_of netlist) var ≡ Function kind (first_wire netlist var) (length (gate_at netlist var).sources))
+    × (driver_at (network_of netlist) var
+    ≡ Function kind (first_wire netlist var) (length (gate_at netlist var).sources))
     × (first_wire netlist var + length (gate_at netlist var).sources ≤ length (network_of netlist))
     × IsTrue (takes kind (length (gate_at netlist var).sources))
 IsDrivenAs netlist var (WireVariable gate pin source) =
     (driver_at (network_of netlist) var ≡ Source source) × (IsVariable netlist source)
 
 -- Each placed variable has a word, made of those that it reads, and its capped form is told; the others are told nothing.
-pub record AreWordsSoFar (net : List Driver) (input start : List Bool) (cap : ℕ) (placed : List ℕ) (told : List (Option Word)) (words : List (List Bool)) : Type 0 where
+pub record AreWordsSoFar (net : List Driver) (input start : List Bool) (cap : ℕ) (placed : List ℕ)
+    (told : List (Option Word)) (words : List (List Bool)) : Type 0 where
   pub long : length words ≡ length net
   pub told_long : length told ≡ length net
   pub is_word : (i : ℕ) → IsTrue (is_listed placed i) → IsWord (slice_index_or words i [])
-  pub driven : (i : ℕ) → IsTrue (is_listed placed i) → IsDrivenWord input start words i (driver_at net i) (slice_index_or words i [])
-  pub tells : (i : ℕ) → IsTrue (is_listed placed i) → slice_index_or told i None ≡ Some (capped_word cap (slice_index_or words i []))
+  pub driven : (i : ℕ) → IsTrue (is_listed placed i) →
+      IsDrivenWord input start words i (driver_at net i) (slice_index_or words i [])
+  pub tells : (i : ℕ) → IsTrue (is_listed placed i) →
+      slice_index_or told i None ≡ Some (capped_word cap (slice_index_or words i []))
   pub others : (i : ℕ) → is_listed placed i ≡ false → slice_index_or told i None ≡ None
 
 -- all variables that a variable reads are placed, and the placed variables have their words
-pub record IsReady (net : List Driver) (input start : List Bool) (cap : ℕ) (told : List (Option Word)) (var : ℕ) : Type 0 where
+pub record IsReady (net : List Driver) (input start : List Bool) (cap : ℕ)
+    (told : List (Option Word)) (var : ℕ) : Type 0 where
   pub placed : List ℕ
   pub words : List (List Bool)
   pub are_told : AreWordsSoFar net input start cap placed told words
   pub reads : (j : ℕ) → Reads (driver_at net var) j → IsTrue (is_listed placed j)
 
 -- for all words that the placed variables have, among which are those that a variable reads, it has this word
-abbrev pub IsNextWord : List Driver → List Bool → List Bool → ℕ → List (Option Word) → ℕ → Word → Type 0
+abbrev pub IsNextWord : List Driver → List Bool → List Bool → ℕ → List (Option Word) → ℕ → Word →
+    Type 0
 IsNextWord net input start cap told var outcome =
     (ready : IsReady net input start cap told var) →
-    (word : List Bool) × IsWord word × IsDrivenWord input start ready.words var (driver_at net var) word × (capped_word cap word ≡ outcome)
+    (word : List Bool) × IsWord word
+    × IsDrivenWord input start ready.words var (driver_at net var) word
+    × (capped_word cap word ≡ outcome)
 
 -- a wire has a word, and its number is counted
 abbrev pub HasCountedWord : ℕ → Option Word → Type 0
@@ -56,5 +65,6 @@ HasCountedWord cap (Some word) = IsWithinCap cap word.changes
 -- for the words of the wires, the gate has this word
 abbrev pub IsGateWord : Kind → List (Option Word) → ℕ → Word → Type 0
 IsGateWord kind wires cap outcome =
-    (words : List (List Bool)) → AreWords words → map (λ word. Some (capped_word cap word)) words ≡ wires →
+    (words : List (List Bool)) → AreWords words →
+    map (λ word. Some (capped_word cap word)) words ≡ wires →
     (word : List Bool) × IsWordOf kind words word × (capped_word cap word ≡ outcome)

@@ -11,7 +11,8 @@ use Rattle.hz_free.specs.Chains.{IsFeedbackFree}
 pub record IsChoice (net : List Driver) (i choice : ℕ) : Type 0 where
   pub reads : Reads (driver_at net i) choice
   pub feeds : IsFeedbackFree net choice → ⊥
-  pub first : (other : ℕ) → other < choice → Reads (driver_at net i) other → IsFeedbackFree net other
+  pub first : (other : ℕ) → other < choice → Reads (driver_at net i) other →
+      IsFeedbackFree net other
 
 -- each variable behind one chose the one before it, and the first one chose the last
 abbrev pub ComesAround : List Driver → ℕ → ℕ → List ℕ → Type 0
@@ -22,13 +23,16 @@ ComesAround net first last (next ∷ rest) = IsChoice net next last × ComesArou
 abbrev pub IsFeedbackCycle : List Driver → List ℕ → Type 0
 IsFeedbackCycle net [] = ⊥
 IsFeedbackCycle net (first ∷ rest) =
-    ComesAround net first first rest × IsRepeatFree (first ∷ rest) × All (λ later. first < later) rest
+    ComesAround net first first rest × IsRepeatFree (first ∷ rest)
+    × All (λ later. first < later) rest
 
 -- all feedback cycles, in the order of their least variables
 pub record AreFeedbackCycles (net : List Driver) (cycles : List (List ℕ)) : Type 0 where
   pub each : All (IsFeedbackCycle net) cycles
   pub every : (cycle : List ℕ) → IsFeedbackCycle net cycle → Contains cycles cycle
-  pub ordered : (number : ℕ) → suc number < length cycles → slice_index (slice_index_or cycles number []) 0 < slice_index (slice_index_or cycles (suc number) []) 0
+  pub ordered : (number : ℕ) → suc number < length cycles →
+      slice_index (slice_index_or cycles number []) 0
+      < slice_index (slice_index_or cycles (suc number) []) 0
 
 -- going back from a variable from choice to choice
 abbrev pub IsWayBack : List Driver → ℕ → List ℕ → ℕ → Type 0

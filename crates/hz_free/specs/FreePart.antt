@@ -23,12 +23,15 @@ pub record AreMarks (net : List Driver) (free : List Bool) : Type 0 where
 -- a number is that of a variable's core among the cycles
 abbrev pub IsCoreNumber : List Driver → List (List ℕ) → ℕ → Option ℕ → Type 0
 IsCoreNumber net cycles i None = ⊥
-IsCoreNumber net cycles i (Some number) = (number < length cycles) × IsCore net i (slice_index_or cycles number [])
+IsCoreNumber net cycles i (Some number) =
+    (number < length cycles) × IsCore net i (slice_index_or cycles number [])
 
 -- the feedback cycles of a network, and the number of the core of each variable that is not feedback-free
-pub record AreFeedback (net : List Driver) (cycles : List (List ℕ)) (cores : List (Option ℕ)) : Type 0 where
+pub record AreFeedback (net : List Driver) (cycles : List (List ℕ))
+    (cores : List (Option ℕ)) : Type 0 where
   pub are_cycles : AreFeedbackCycles net cycles
-  pub are_cores : (i : ℕ) → i < length net → (IsFeedbackFree net i → ⊥) → IsCoreNumber net cycles i (slice_index_or cores i None)
+  pub are_cores : (i : ℕ) → i < length net → (IsFeedbackFree net i → ⊥) →
+      IsCoreNumber net cycles i (slice_index_or cores i None)
 
 -- a number of a cycle
 abbrev pub IsCycleNumber : List (List ℕ) → Option ℕ → Type 0
@@ -37,7 +40,9 @@ IsCycleNumber cycles (Some number) = number < length cycles
 
 -- each variable without a mark has a core
 abbrev pub HaveCores : List Bool → List (List ℕ) → List (Option ℕ) → Type 0
-HaveCores free cycles cores = (i : ℕ) → i < length free → bit_at free i ≡ false → IsCycleNumber cycles (slice_index_or cores i None)
+HaveCores free cycles cores =
+    (i : ℕ) → i < length free → bit_at free i ≡ false →
+    IsCycleNumber cycles (slice_index_or cores i None)
 
 -- It is that of a network: the marks are exact, and the order has the variables that are marked, each behind the variables
 -- that it reads; the cycles and the cores are those of the network.
@@ -46,9 +51,13 @@ pub record IsFreePart (netlist : Netlist) (part : FreePart) : Type 0 where
   pub listed : (i : ℕ) → IsVariable netlist i → is_listed part.order i ≡ bit_at part.free i
   pub once : IsRepeatFree part.order
   pub inside : (i : ℕ) → IsTrue (is_listed part.order i) → IsVariable netlist i
-  pub after : (at j : ℕ) → at < length part.order → Reads (driver_at (network_of netlist) (slice_index part.order at)) j → IsTrue (is_listed (take at part.order) j)
+  pub after : (at j : ℕ) → at < length part.order →
+      Reads (driver_at (network_of netlist) (slice_index part.order at)) j →
+      IsTrue (is_listed (take at part.order) j)
   pub feedback : AreFeedback (network_of netlist) part.cycles part.cores
 
 -- every circuit's network has such marks: it is decided which variables are feedback-free
 abbrev pub MarksExist : Type 0
-MarksExist = (netlist : Netlist) → IsCircuit netlist → (free : List Bool) × AreMarks (network_of netlist) free
+MarksExist =
+    (netlist : Netlist) → IsCircuit netlist →
+    (free : List Bool) × AreMarks (network_of netlist) free

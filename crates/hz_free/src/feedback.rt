@@ -24,7 +24,8 @@ pub(crate) struct Feedback {
 // The feedback cycles of a network, given which of its variables are feedback-free. Without feedback nothing is searched.
 pub(crate) fn find_feedback(alloc: Global, net: &Net, free: &[bool]) -> Result<Feedback, Memory>
     requires { AreMarks (network_of net.now) free.now }
-    ensures { IfOk result (λ feedback. AreFeedback (network_of net.now) feedback.cycles feedback.cores.items) }
+    ensures { IfOk result
+        (λ feedback. AreFeedback (network_of net.now) feedback.cycles feedback.cores.items) }
 {
     let _variables = net.len();
     if are_all_free(free) {
@@ -75,7 +76,9 @@ fn find_cycles(
     requires choosers { HasNoLinks (length choices.now) choosers.old }
     requires roots { HasNoLinks (length choices.now) roots.old }
     requires numbers { HasNoLinks (length choices.now) numbers.old }
-    ensures { IfOk result (λ feedback. (net : List Driver) → IsWired net → AreChoices net choices.now → AreFeedback net feedback.cycles feedback.cores.items) }
+    ensures { IfOk result
+        (λ feedback. (net : List Driver) → IsWired net → AreChoices net choices.now →
+        AreFeedback net feedback.cycles feedback.cores.items) }
 {
     find_roots(alloc, choices, choosers, roots)?;
     let cycles = list_cycles(alloc, choosers, numbers)?;
@@ -103,7 +106,8 @@ fn choose_all(alloc: Global, net: &Net, free: &[bool]) -> Result<Vec<Option<u32>
 fn choose(net: &Net, free: &[bool], var: u32) -> Option<u32>
     requires var { IsVariable net.now var }
     requires marks { AreMarks (network_of net.now) free.now }
-    ensures { MatchOption result (IsFeedbackFree (network_of net.now) var) (IsChoice (network_of net.now) var) }
+    ensures { MatchOption result (IsFeedbackFree (network_of net.now) var)
+        (IsChoice (network_of net.now) var) }
 {
     let _variables = net.len();
     match net.kind_of(var) {
@@ -119,7 +123,8 @@ fn choose(net: &Net, free: &[bool], var: u32) -> Option<u32>
 // The first variable of a range that is not feedback-free.
 fn first_feeding(free: &[bool], first: u32, end: u32) -> Option<u32>
     requires { end ≤ length free.now }
-    ensures { MatchOption result ((i : ℕ) → first ≤ i → i < end → bit_at free.now i ≡ true) (IsFeeding free.now first end) }
+    ensures { MatchOption result ((i : ℕ) → first ≤ i → i < end → bit_at free.now i ≡ true)
+        (IsFeeding free.now first end) }
 {
     for var in first..end {
         if !free[var as usize] {
@@ -157,7 +162,9 @@ fn follow(
     requires links { AreLinks links.now }
     requires start { IsLink links.now start }
     requires long { length marks.old ≡ length links.now }
-    ensures { IfOk result (λ path. IsPathToMark links.now start mark path.variables.items path.end marks.old marks.new) }
+    ensures { IfOk result
+        (λ path. IsPathToMark links.now start mark path.variables.items path.end marks.old
+        marks.new) }
 {
     let mut variables = Vec::new(alloc);
     let mut var = start;
@@ -284,7 +291,9 @@ fn list_cycles(
     requires room { length choosers.now < 2 ^ 32 }
     requires links { AreLinks choosers.now }
     requires numbers { HasNoLinks (length choosers.now) numbers.old }
-    ensures { IfOk result (λ cycles. (net : List Driver) → AreChoosers net choosers.now → AreNumbered net choosers.now numbers.new (length choosers.now) cycles) }
+    ensures { IfOk result
+        (λ cycles. (net : List Driver) → AreChoosers net choosers.now →
+        AreNumbered net choosers.now numbers.new (length choosers.now) cycles) }
 {
     let mut cycles = Cycles::new(alloc);
     for var in 0..choosers.len() {
@@ -310,7 +319,8 @@ fn list_cycle(
     requires first { IsLink choosers.now first }
     requires long { length numbers.old ≡ length choosers.now }
     requires room { length cycles.old < 2 ^ 32 }
-    ensures { OnOk result (AddsCycle choosers.now first numbers.old cycles.old numbers.new cycles.new) }
+    ensures { OnOk result
+        (AddsCycle choosers.now first numbers.old cycles.old numbers.new cycles.new) }
 {
     let path = follow(alloc, choosers, first, cycles.len() as u32, numbers)?;
     cycles.push(path.variables.as_slice())

@@ -39,11 +39,17 @@ impl Model for Free {
 
     ghost Value = { FreePart };
 
-    ghost view = { λ fields. record { free = fields.free.items; order = fields.order.items; cycles = fields.feedback.cycles; cores = fields.feedback.cores.items } };
+    ghost view = { λ fields. record {
+      free = fields.free.items;
+      order = fields.order.items;
+      cycles = fields.feedback.cycles;
+      cores = fields.feedback.cores.items;
+    } };
 
     ghost use Rattle.hz_free.specs.FreePart.{HaveCores};
 
-    ghost invariant = { λ fields. HaveCores fields.free.items fields.feedback.cycles fields.feedback.cores.items };
+    ghost invariant = { λ fields. HaveCores fields.free.items fields.feedback.cycles
+        fields.feedback.cores.items };
 }
 
 impl Free {
@@ -57,7 +63,8 @@ impl Free {
 
     // The same, given for each variable how many variables it reads.
     fn from_reads(alloc: Global, net: &Net, unread: &mut [u32]) -> Result<Free, Memory>
-        requires { AreReads (readers_of net.now) (length (network_of net.now)) (length (network_of net.now)) [] unread.old }
+        requires { AreReads (readers_of net.now) (length (network_of net.now))
+            (length (network_of net.now)) [] unread.old }
         ensures { IfOk result (λ free. IsFreePart net.now free) }
     {
         let _variables = net.len();
@@ -75,7 +82,8 @@ impl Free {
     pub fn is_free(&self, var: u32) -> bool
         requires { var < length self.now.free }
         ensures value { result ≡ bit_at self.now.free var }
-        ensures exact { (netlist : Netlist) → IsFreePart netlist self.now → IsTrue result ↔ IsFeedbackFree (network_of netlist) var }
+        ensures exact { (netlist : Netlist) → IsFreePart netlist self.now →
+            IsTrue result ↔ IsFeedbackFree (network_of netlist) var }
     {
         self.free[var as usize]
     }
@@ -92,7 +100,8 @@ impl Free {
     pub fn cycle(&self, number: usize) -> &[u32]
         requires { number < length self.now.cycles }
         ensures value { result.now ≡ slice_index_or self.now.cycles number [] }
-        ensures is_cycle { (netlist : Netlist) → IsFreePart netlist self.now → IsFeedbackCycle (network_of netlist) result.now }
+        ensures is_cycle { (netlist : Netlist) → IsFreePart netlist self.now →
+            IsFeedbackCycle (network_of netlist) result.now }
     {
         self.feedback.cycles.cycle(number)
     }
@@ -103,7 +112,8 @@ impl Free {
         requires var { var < length self.now.free }
         requires not_free { bit_at self.now.free var ≡ false }
         ensures listed { Contains self.now.cycles result.now }
-        ensures core { (netlist : Netlist) → IsFreePart netlist self.now → IsCore (network_of netlist) var result.now }
+        ensures core { (netlist : Netlist) → IsFreePart netlist self.now →
+            IsCore (network_of netlist) var result.now }
     {
         let number = self.feedback.cores[var as usize].unwrap();
         self.feedback.cycles.cycle(number as usize)
@@ -164,12 +174,15 @@ fn write_words<S: StoredWord>(
     a: Option<&[Tri]>,
     out: &mut [S],
 )
-    requires part { (free : List Bool) × (cycles : List (List ℕ)) × (cores : List (Option ℕ)) × IsFreePart net.now (record { free = free; order = order.now; cycles = cycles; cores = cores }) }
+    requires part { (free : List Bool) × (cycles : List (List ℕ)) × (cores : List (Option ℕ))
+        × IsFreePart net.now
+        (record { free = free; order = order.now; cycles = cycles; cores = cores }) }
     requires start { IsStableStart net.now start.now }
     requires input { IsInput net.now input.now }
     requires cap_low { 1 ≤ cap }
     requires cap_high { cap ≤ greatest_cap }
-    requires a { IfSome a (λ a. IsResult (algorithm_a (network_of net.now) input.now start.now) a.now) }
+    requires a { IfSome a
+        (λ a. IsResult (algorithm_a (network_of net.now) input.now start.now) a.now) }
     requires out { AreByVariable net.now out.old }
     ensures { AreCappedWords (network_of net.now) input.now start.now cap (map S.word_in out.new) }
 {
@@ -234,8 +247,10 @@ fn word_of<S: StoredWord>(
     requires input { IsInput net.now input.now }
     requires cap_low { 1 ≤ cap }
     requires cap_high { cap ≤ greatest_cap }
-    requires ready { IsReady (network_of net.now) input.now start.now cap (map S.word_in out.now) var }
-    ensures { IsNextWord (network_of net.now) input.now start.now cap (map S.word_in out.now) var result }
+    requires ready { IsReady (network_of net.now) input.now start.now cap (map S.word_in out.now)
+        var }
+    ensures { IsNextWord (network_of net.now) input.now start.now cap (map S.word_in out.now) var
+        result }
 {
     let _variables = net.len();
     match net.kind_of(var) {

@@ -39,33 +39,55 @@ pub use packed::PackedWord;
 
 /// Along every run from a stable start under the new input, the word of a feedback-free variable covers its history.
 pub fn words_cover()
-    ensures { (netlist : Netlist) (input start : List Bool) (words : List (List Bool)) (cap i : ℕ) (steps : List (List ℕ)) → IsCircuit netlist → IsWhole netlist → IsStableStart netlist start → AreVariableWords (network_of netlist) input start words → IsVariable netlist i → IsFeedbackFree (network_of netlist) i → IsRun (network_of netlist) input start steps → Covers (capped_word cap (slice_index_or words i [])) (variable_history start steps i) }
+    ensures { (netlist : Netlist) (input start : List Bool) (words : List (List Bool)) (cap i : ℕ)
+        (steps : List (List ℕ)) → IsCircuit netlist → IsWhole netlist →
+        IsStableStart netlist start → AreVariableWords (network_of netlist) input start words →
+        IsVariable netlist i → IsFeedbackFree (network_of netlist) i →
+        IsRun (network_of netlist) input start steps →
+        Covers (capped_word cap (slice_index_or words i [])) (variable_history start steps i) }
 {}
 
 /// The word of a feedback-free variable begins with its value at the start.
 pub fn words_begin()
-    ensures { (netlist : Netlist) (input start : List Bool) (words : List (List Bool)) (i : ℕ) → IsCircuit netlist → IsWhole netlist → IsStableStart netlist start → AreVariableWords (network_of netlist) input start words → IsVariable netlist i → IsFeedbackFree (network_of netlist) i → first_letter (slice_index_or words i []) ≡ bit_at start i }
+    ensures { (netlist : Netlist) (input start : List Bool) (words : List (List Bool)) (i : ℕ) →
+        IsCircuit netlist → IsWhole netlist → IsStableStart netlist start →
+        AreVariableWords (network_of netlist) input start words → IsVariable netlist i →
+        IsFeedbackFree (network_of netlist) i →
+        first_letter (slice_index_or words i []) ≡ bit_at start i }
 {}
 
 /// The word of a feedback-free variable has a change exactly if Algorithm A makes the variable X.
 pub fn words_change()
-    ensures { (netlist : Netlist) (input start : List Bool) (words : List (List Bool)) (result : List Tri) (i : ℕ) → IsCircuit netlist → IsWhole netlist → IsStableStart netlist start → AreVariableWords (network_of netlist) input start words → IsResult (algorithm_a (network_of netlist) input start) result → IsVariable netlist i → IsFeedbackFree (network_of netlist) i → (1 ≤ change_count (slice_index_or words i [])) ↔ (value_at result i ≡ Unknown) }
+    ensures { (netlist : Netlist) (input start : List Bool) (words : List (List Bool))
+        (result : List Tri) (i : ℕ) → IsCircuit netlist → IsWhole netlist →
+        IsStableStart netlist start → AreVariableWords (network_of netlist) input start words →
+        IsResult (algorithm_a (network_of netlist) input start) result → IsVariable netlist i →
+        IsFeedbackFree (network_of netlist) i →
+        (1 ≤ change_count (slice_index_or words i [])) ↔ (value_at result i ≡ Unknown) }
 {}
 
 /// The word of a feedback-free variable ends with the value that Algorithm B gives it, which is never X.
 pub fn words_end()
-    ensures { (netlist : Netlist) (input start : List Bool) (words : List (List Bool)) (first result : List Tri) (i : ℕ) → IsCircuit netlist → AreVariableWords (network_of netlist) input start words → IsState netlist first → IsResult (algorithm_b (network_of netlist) input first) result → IsVariable netlist i → IsFeedbackFree (network_of netlist) i → value_at result i ≡ tri_of (last_letter (slice_index_or words i [])) }
+    ensures { (netlist : Netlist) (input start : List Bool) (words : List (List Bool))
+        (first result : List Tri) (i : ℕ) → IsCircuit netlist →
+        AreVariableWords (network_of netlist) input start words → IsState netlist first →
+        IsResult (algorithm_b (network_of netlist) input first) result → IsVariable netlist i →
+        IsFeedbackFree (network_of netlist) i →
+        value_at result i ≡ tri_of (last_letter (slice_index_or words i [])) }
 {}
 
 /// A network has a list of feedback cycles.
 pub fn feedback_exists()
-    ensures { (netlist : Netlist) → IsCircuit netlist → (cycles : List (List ℕ)) × AreFeedbackCycles (network_of netlist) cycles }
+    ensures { (netlist : Netlist) → IsCircuit netlist →
+        (cycles : List (List ℕ)) × AreFeedbackCycles (network_of netlist) cycles }
 {}
 
 /// A network has one list of feedback cycles at most, and a variable one core at most.
 pub fn feedback_is_one()
-    ensures cycles { (net : List Driver) (left right : List (List ℕ)) → AreFeedbackCycles net left → AreFeedbackCycles net right → left ≡ right }
-    ensures core { (net : List Driver) (i : ℕ) (left right : List ℕ) → IsCore net i left → IsCore net i right → left ≡ right }
+    ensures cycles { (net : List Driver) (left right : List (List ℕ)) → AreFeedbackCycles net left →
+        AreFeedbackCycles net right → left ≡ right }
+    ensures core { (net : List Driver) (i : ℕ) (left right : List ℕ) → IsCore net i left →
+        IsCore net i right → left ≡ right }
 {}
 
 /// It is decided which variables of a circuit's network are feedback-free.

@@ -10,7 +10,9 @@ use std::alloc::Global;
 
 // For each variable how many variables it reads.
 pub(crate) fn count_reads(alloc: Global, net: &Net) -> Result<Vec<u32>, Memory>
-    ensures { IfOk result (λ unread. AreReads (readers_of net.now) (length (network_of net.now)) (length (network_of net.now)) [] unread.items) }
+    ensures { IfOk result
+        (λ unread. AreReads (readers_of net.now) (length (network_of net.now))
+        (length (network_of net.now)) [] unread.items) }
 {
     let variables = net.len();
     let Ok(mut unread) = vec![in alloc; 0; variables as usize] else {
@@ -37,8 +39,11 @@ fn count_readers(net: &Net, var: u32, unread: &mut [u32])
 // The order, given for each variable how many variables it reads. In the end each variable counts those that it reads and that
 // are not in the order.
 pub(crate) fn place_all(alloc: Global, net: &Net, unread: &mut [u32]) -> Result<Vec<u32>, Memory>
-    requires { AreReads (readers_of net.now) (length (network_of net.now)) (length (network_of net.now)) [] unread.old }
-    ensures { IfOk result (λ order. IsOrdering (readers_of net.now) (length (network_of net.now)) (length order.items) [] unread.new order.items) }
+    requires { AreReads (readers_of net.now) (length (network_of net.now))
+        (length (network_of net.now)) [] unread.old }
+    ensures { IfOk result
+        (λ order. IsOrdering (readers_of net.now) (length (network_of net.now)) (length order.items)
+        [] unread.new order.items) }
 {
     let mut order = place_first(alloc, net, unread)?;
     let mut place = 0;
@@ -51,8 +56,11 @@ pub(crate) fn place_all(alloc: Global, net: &Net, unread: &mut [u32]) -> Result<
 
 // The variables that read nothing.
 fn place_first(alloc: Global, net: &Net, unread: &[u32]) -> Result<Vec<u32>, Memory>
-    requires { AreReads (readers_of net.now) (length (network_of net.now)) (length (network_of net.now)) [] unread.now }
-    ensures { IfOk result (λ order. IsOrdering (readers_of net.now) (length (network_of net.now)) 0 [] unread.now order.items) }
+    requires { AreReads (readers_of net.now) (length (network_of net.now))
+        (length (network_of net.now)) [] unread.now }
+    ensures { IfOk result
+        (λ order. IsOrdering (readers_of net.now) (length (network_of net.now)) 0 [] unread.now
+        order.items) }
 {
     let Ok(mut order) = Vec::with_capacity(alloc, net.len() as usize) else {
         return Err(Memory);
@@ -74,9 +82,12 @@ fn place_readers(
     unread: &mut [u32],
     order: &mut Vec<u32>,
 ) -> Result<(), Memory>
-    requires is_ordering { IsOrdering (readers_of net.now) (length (network_of net.now)) place [] unread.old order.old.items }
+    requires is_ordering { IsOrdering (readers_of net.now) (length (network_of net.now)) place []
+        unread.old order.old.items }
     requires place { place < length order.old.items }
-    ensures { OnOk result (IsOrdering (readers_of net.now) (length (network_of net.now)) (place + 1) [] unread.new order.new.items) }
+    ensures { OnOk result
+        (IsOrdering (readers_of net.now) (length (network_of net.now)) (place + 1) [] unread.new
+        order.new.items) }
 {
     let var = order[place];
     for reader in net.readers(var) {
@@ -91,7 +102,8 @@ fn place_readers(
 fn tell(reader: u32, unread: &mut [u32], order: &mut Vec<u32>) -> Result<(), Memory>
     requires reader { reader < length unread.old }
     requires reads { 1 ≤ slice_index unread.old reader }
-    ensures { OnOk result (ReducesReader reader unread.old order.old.items unread.new order.new.items) }
+    ensures { OnOk result
+        (ReducesReader reader unread.old order.old.items unread.new order.new.items) }
 {
     unread[reader as usize] -= 1;
     if unread[reader as usize] == 0 {

@@ -17,7 +17,8 @@ with_wired_gate netlist name kind sources =
     }
 
 -- a gate with this name may be added, whose pins read these nodes
-pub record MayAddWiredGate (netlist : Netlist) (name : List ℕ) (kind : Kind) (sources : List ℕ) : Type 0 where
+pub record MayAddWiredGate (netlist : Netlist) (name : List ℕ) (kind : Kind)
+    (sources : List ℕ) : Type 0 where
   pub name_is : IsName name
   pub fresh : node_named netlist name ≡ None
   pub nodes : length netlist.names ≡ netlist.inputs + length netlist.gates
@@ -32,7 +33,8 @@ inputs_netlist = record empty_netlist { names = codes "go" ∷ codes "x" ∷ [];
 -- the names of the inputs, the pulse and a ring with so many buffers
 abbrev pub ring_names : ℕ → List (List ℕ)
 ring_names buffers =
-    codes "go" ∷ codes "x" ∷ codes "n" ∷ codes "p" ∷ r_name 1 ∷ map r_name (range_with_len 2 buffers)
+    codes "go" ∷ codes "x" ∷ codes "n" ∷ codes "p" ∷ r_name 1
+    ∷ map r_name (range_with_len 2 buffers)
 
 -- the buffer k of the ring reads the gate before it
 abbrev pub buffer_gate : ℕ → Gate
@@ -49,7 +51,8 @@ ring_gates first buffers =
 -- the circuit of the pulse and of a ring whose first gate reads these nodes
 abbrev pub ring_netlist : List ℕ → ℕ → Netlist
 ring_netlist first buffers =
-    record empty_netlist { names = ring_names buffers; inputs = 2; gates = ring_gates first buffers }
+    record empty_netlist
+    { names = ring_names buffers; inputs = 2; gates = ring_gates first buffers }
 
 -- the names of a multiplexer's gates
 abbrev pub multiplexer_names : ℕ → List (List ℕ)
@@ -74,5 +77,7 @@ chain_netlist n multiplexers =
     record empty_netlist {
       names = ring_names (n - 1) ++ flat_map multiplexer_names (range_with_len 1 multiplexers);
       inputs = 2;
-      gates = ring_gates (3 ∷ (n + 3) ∷ []) (n - 1) ++ flat_map (multiplexer_gates n) (range_with_len 1 multiplexers);
+      gates =
+          ring_gates (3 ∷ (n + 3) ∷ []) (n - 1)
+          ++ flat_map (multiplexer_gates n) (range_with_len 1 multiplexers);
     }

@@ -44,7 +44,8 @@ buffer_line k = record { name = r_name k; kind = Buff; sources = r_name (k - 1) 
 -- the ring: `r1 = OR(p, rN)`, and a buffer for each k from 2 to N
 abbrev pub ring_lines : ℕ → List GateLine
 ring_lines n =
-    record { name = r_name 1; kind = Or; sources = codes "p" ∷ r_name n ∷ [] } ∷ map buffer_line (range_with_len 2 (n - 1))
+    record { name = r_name 1; kind = Or; sources = codes "p" ∷ r_name n ∷ [] }
+    ∷ map buffer_line (range_with_len 2 (n - 1))
 
 -- a multiplexer: `ai = AND(go, m(i-1))`, `bi = AND(n, m(i-1))`, `mi = OR(ai, bi)`
 abbrev pub multiplexer_lines : ℕ → List GateLine

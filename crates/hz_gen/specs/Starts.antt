@@ -12,4 +12,6 @@ pub record IsCompletable (netlist : Netlist) (listed : List (Option Bool)) : Typ
 
 -- the script of every number has a start that is accepted
 abbrev pub DemoStarts : Type 0
-DemoStarts = (n : ℕ) → IsDemoNumber n → IsCircuit (demo_netlist n) → IsCompletable (demo_netlist n) (demo_script n).start
+DemoStarts =
+    (n : ℕ) → IsDemoNumber n → IsCircuit (demo_netlist n) →
+    IsCompletable (demo_netlist n) (demo_script n).start

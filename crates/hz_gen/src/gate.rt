@@ -35,7 +35,8 @@ pub(crate) fn add_numbered(
     sources: &[u32],
 ) -> Result<(), Memory>
     requires { MayAddWiredGate circuit.old (letter ∷ decimal number) kind sources.now }
-    ensures { OnOk result (circuit.new ≡ with_wired_gate circuit.old (letter ∷ decimal number) kind sources.now) }
+    ensures { OnOk result
+        (circuit.new ≡ with_wired_gate circuit.old (letter ∷ decimal number) kind sources.now) }
 {
     let mut buffer = Buffer::new();
     let digits = buffer.format(number).as_bytes();

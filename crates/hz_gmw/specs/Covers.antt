@@ -18,23 +18,29 @@ ACovers =
 -- every outcome state refines each state of Algorithm B, from the result of Algorithm A
 abbrev pub BCovers : Type 0
 BCovers =
-    (net : List Driver) (input start state : List Bool) (rounds round : ℕ) → length start ≡ length net →
+    (net : List Driver) (input start state : List Bool) (rounds round : ℕ) →
+    length start ≡ length net →
     AreRounds (algorithm_a net input start) rounds → IsOutcome net input start state →
     Refines state (algorithm_b net input (algorithm_a net input start rounds) round)
 
 -- Algorithm A covers from a ternary state: each binary state that refines it is a start
 abbrev pub ACoversFrom : Type 0
 ACoversFrom =
-    (net : List Driver) (input : List Bool) (first : List Tri) (start state : List Bool) (rounds : ℕ) →
-    length first ≡ length net → Refines start first → AreRounds (algorithm_a_from net input first) rounds →
+    (net : List Driver) (input : List Bool) (first : List Tri) (start state : List Bool)
+    (rounds : ℕ) →
+    length first ≡ length net → Refines start first →
+    AreRounds (algorithm_a_from net input first) rounds →
     IsReachable net input start state → Refines state (algorithm_a_from net input first rounds)
 
 -- and so does Algorithm B
 abbrev pub BCoversFrom : Type 0
 BCoversFrom =
-    (net : List Driver) (input : List Bool) (first : List Tri) (start state : List Bool) (rounds round : ℕ) →
-    length first ≡ length net → Refines start first → AreRounds (algorithm_a_from net input first) rounds →
-    IsOutcome net input start state → Refines state (algorithm_b net input (algorithm_a_from net input first rounds) round)
+    (net : List Driver) (input : List Bool) (first : List Tri) (start state : List Bool)
+    (rounds round : ℕ) →
+    length first ≡ length net → Refines start first →
+    AreRounds (algorithm_a_from net input first) rounds →
+    IsOutcome net input start state →
+    Refines state (algorithm_b net input (algorithm_a_from net input first rounds) round)
 
 -- every outcome state refines what the ternary state settles to
 abbrev pub SettledCovers : Type 0

@@ -7,7 +7,8 @@ use Rattle.hz_gmw.specs.Runs.{IsRun, end_of, IsReachable}
 pub use Rattle.hz_gmw.specs.Runs.{states_of}
 
 -- A cycle: a run with a step that ends where it began, or one stable state alone.
-pub record IsCycle (net : List Driver) (input state : List Bool) (steps : List (List ℕ)) : Type 0 where
+pub record IsCycle (net : List Driver) (input state : List Bool)
+    (steps : List (List ℕ)) : Type 0 where
   pub run : IsRun net input state steps
   pub closed : end_of state steps ≡ state
   pub alone : steps ≡ [] → IsStable net input state
@@ -15,7 +16,8 @@ pub record IsCycle (net : List Driver) (input state : List Bool) (steps : List (
 -- variable i waits in a run at a value: it has this value in all its states, and is unstable in all of them
 abbrev pub WaitsAt : List Driver → List Bool → List Bool → List (List ℕ) → ℕ → Bool → Type 0
 WaitsAt net input state steps i bit =
-    AllByRecursion (λ now. (bit_at now i ≡ bit) × IsUnstable net input now i) (states_of state steps)
+    AllByRecursion (λ now. (bit_at now i ≡ bit) × IsUnstable net input now i)
+    (states_of state steps)
 
 -- variable i waits in a run: at one value or the other
 abbrev pub Waits : List Driver → List Bool → List Bool → List (List ℕ) → ℕ → Type 0
@@ -26,7 +28,8 @@ abbrev pub IsTransient : List Driver → List Bool → List Bool → List (List 
 IsTransient net input state steps = (i : ℕ) × (i < length net) × Waits net input state steps i
 
 -- a cycle that is not transient
-pub record IsNontransient (net : List Driver) (input state : List Bool) (steps : List (List ℕ)) : Type 0 where
+pub record IsNontransient (net : List Driver) (input state : List Bool)
+    (steps : List (List ℕ)) : Type 0 where
   pub cycle : IsCycle net input state steps
   pub lasts : IsTransient net input state steps → ⊥
 

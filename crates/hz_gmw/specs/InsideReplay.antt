@@ -15,7 +15,10 @@ replayer_of fields = record {
   state = fields.current.state.items;
   marked = fields.marked.items;
   stepped = fields.stepped;
-  watched = watched_variables (network_of fields.net.now) fields.current.input.items fields.current.state.items (bit_at fields.watch.changed) (bit_at fields.watch.been_stable);
+  watched =
+      watched_variables (network_of fields.net.now) fields.current.input.items
+      fields.current.state.items (bit_at fields.watch.changed)
+      (bit_at fields.watch.been_stable);
 }
 
 -- The counts are right; what did not change since the mark has the value that it had there, what did not move the value
@@ -24,8 +27,10 @@ pub record HoldsReplay (fields : Inside) : Type 0 where
   pub exact : IsExact fields.net.now fields.current
   pub watch : WatchFits fields.net.now fields.watch
   pub marked : AreByVariable fields.net.now fields.marked.items
-  pub same : (i : ℕ) → bit_at fields.watch.changed i ≡ false → bit_at fields.marked.items i ≡ bit_at fields.current.state.items i
+  pub same : (i : ℕ) → bit_at fields.watch.changed i ≡ false →
+      bit_at fields.marked.items i ≡ bit_at fields.current.state.items i
   pub begun : AreByVariable fields.net.now fields.begun.items
   pub moved : AreByVariable fields.net.now fields.moved
-  pub back : (i : ℕ) → bit_at fields.moved i ≡ false → bit_at fields.begun.items i ≡ bit_at fields.current.state.items i
+  pub back : (i : ℕ) → bit_at fields.moved i ≡ false →
+      bit_at fields.begun.items i ≡ bit_at fields.current.state.items i
   pub named : fields.named ≡ replicate (length (network_of fields.net.now)) false

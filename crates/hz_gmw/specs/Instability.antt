@@ -10,8 +10,10 @@ is_unstable net input state i = not (beq (bit_at state i) (excitation net input 
 
 -- of each variable whether it is unstable
 abbrev pub unstable_variables : List Driver → List Bool → List Bool → List Bool
-unstable_variables net input state = map (is_unstable net input state) (range_with_len 0 (length net))
+unstable_variables net input state =
+    map (is_unstable net input state) (range_with_len 0 (length net))
 
 -- how many variables are unstable
 abbrev pub unstable_count : List Driver → List Bool → List Bool → ℕ
-unstable_count net input state = count_by (λ unstable. unstable) (unstable_variables net input state)
+unstable_count net input state =
+    count_by (λ unstable. unstable) (unstable_variables net input state)

@@ -14,7 +14,8 @@ IsStepFor now flips = IsStep (network_of now.circuit) now.input now.state flips
 
 -- why they are none
 abbrev pub IsStepFaultFor : Replayer → List ℕ → StepFault → Type 0
-IsStepFaultFor now flips fault = IsStepFault (network_of now.circuit) now.input now.state flips fault
+IsStepFaultFor now flips fault =
+    IsStepFault (network_of now.circuit) now.input now.state flips fault
 
 -- a run from the marked state is a nontransient cycle
 abbrev pub IsCycleFor : Replayer → List (List ℕ) → Type 0
@@ -22,4 +23,5 @@ IsCycleFor now steps = IsNontransient (network_of now.circuit) now.input now.mar
 
 -- why it is none
 abbrev pub IsCycleFaultFor : Replayer → List (List ℕ) → CycleFault → Type 0
-IsCycleFaultFor now steps fault = IsCycleFault (network_of now.circuit) now.input now.marked steps fault
+IsCycleFaultFor now steps fault =
+    IsCycleFault (network_of now.circuit) now.input now.marked steps fault

@@ -20,13 +20,16 @@ abbrev pub IsStepFault : List Driver → List Bool → List Bool → List ℕ �
 IsStepFault net input state flips Empty = flips ≡ []
 IsStepFault net input state flips (Repeated var) = IsLeast (λ i. 2 ≤ times_listed flips i) var
 IsStepFault net input state flips (Stable var) =
-    IsRepeatFree flips × IsLeast (λ i. IsTrue (is_listed flips i) × (bit_at state i ≡ excitation net input state i)) var
+    IsRepeatFree flips
+    × IsLeast
+    (λ i. IsTrue (is_listed flips i) × (bit_at state i ≡ excitation net input state i)) var
 
 -- Why a run is no nontransient cycle: it ends in another state than it began with, and this is the least variable that
 -- differs; it has no step, and this is the least variable that is unstable in its one state; it is a cycle with a step,
 -- and this is the least variable that waits all around it.
 abbrev pub IsCycleFault : List Driver → List Bool → List Bool → List (List ℕ) → CycleFault → Type 0
-IsCycleFault net input state steps (Differs var) = IsLeast (λ i. bit_at (end_of state steps) i ≢ bit_at state i) var
+IsCycleFault net input state steps (Differs var) =
+    IsLeast (λ i. bit_at (end_of state steps) i ≢ bit_at state i) var
 IsCycleFault net input state steps (NotStable var) =
     (steps ≡ []) × IsLeast (λ i. (i < length net) × IsUnstable net input state i) var
 IsCycleFault net input state steps (Transient var) =

@@ -47,7 +47,9 @@ initial_replayer circuit input state = replayer_at circuit input state state
 -- of each variable whether it was watched, is not among those that a step changes, and is unstable after it
 abbrev pub watched_after : Replayer → List ℕ → List Bool
 watched_after now flips =
-    map (λ i. (bit_at now.watched i && not (is_listed flips i)) && is_unstable (network_of now.circuit) now.input (state_after flips now.state) i)
+    map
+    (λ i. (bit_at now.watched i && not (is_listed flips i))
+    && is_unstable (network_of now.circuit) now.input (state_after flips now.state) i)
     (range_with_len 0 (length (network_of now.circuit)))
 
 -- a replayer after one step more

@@ -25,7 +25,8 @@ state_after flips state = bits_after_from 0 flips state
 -- A run, by the lists of variables that its steps change: each is a step from the state that the earlier ones leave.
 abbrev pub IsRun : List Driver → List Bool → List Bool → List (List ℕ) → Type 0
 IsRun net input state [] = Unit {0}
-IsRun net input state (flips ∷ steps) = IsStep net input state flips × IsRun net input (state_after flips state) steps
+IsRun net input state (flips ∷ steps) =
+    IsStep net input state flips × IsRun net input (state_after flips state) steps
 
 -- the state in which a run ends
 abbrev pub end_of : List Bool → List (List ℕ) → List Bool

@@ -28,14 +28,16 @@ is_watched net input state changed been_stable i =
     is_unstable net input state i && not (lapses (driver_at net i) changed been_stable i)
 
 -- of each variable whether it is watched
-abbrev pub watched_variables : List Driver → List Bool → List Bool → (ℕ → Bool) → (ℕ → Bool) → List Bool
+abbrev pub watched_variables : List Driver → List Bool → List Bool → (ℕ → Bool) → (ℕ → Bool) →
+    List Bool
 watched_variables net input state changed been_stable =
     map (is_watched net input state changed been_stable) (range_with_len 0 (length net))
 
 -- of each variable whether it is watched, in the current state
 abbrev pub watched_in : Netlist → CurrentState → Watch → ℕ → Bool
 watched_in netlist current watch =
-    is_watched (network_of netlist) current.input.items current.state.items (bit_at watch.changed) (bit_at watch.been_stable)
+    is_watched (network_of netlist) current.input.items current.state.items (bit_at watch.changed)
+    (bit_at watch.been_stable)
 
 -- whether variable i is unstable and did not change
 abbrev pub unstable_unchanged : List Driver → List Bool → List Bool → (ℕ → Bool) → ℕ → Bool
@@ -43,11 +45,14 @@ unstable_unchanged net input state changed i = is_unstable net input state i && 
 
 -- The gates that were known to have been stable, before the listed variables change, and those that are known now: the
 -- stable gates into which one of these variables goes are among them, and no unstable gate is new.
-pub record RecordsStable (net : List Driver) (input state : List Bool) (flips : List ℕ) (before after : List Bool) : Type 0 where
+pub record RecordsStable (net : List Driver) (input state : List Bool) (flips : List ℕ)
+    (before after : List Bool) : Type 0 where
   pub long : length after ≡ length before
   pub kept : (i : ℕ) → bit_at before i ≡ true → bit_at after i ≡ true
-  pub only : (i : ℕ) → bit_at after i ≡ true → (bit_at before i ≡ true) ⊎ (is_unstable net input state i ≡ false)
-  pub every : (gate wire : ℕ) → is_listed flips wire ≡ true → IsWireInto net gate wire → is_unstable net input state gate ≡ false → bit_at after gate ≡ true
+  pub only : (i : ℕ) → bit_at after i ≡ true →
+      (bit_at before i ≡ true) ⊎ (is_unstable net input state i ≡ false)
+  pub every : (gate wire : ℕ) → is_listed flips wire ≡ true → IsWireInto net gate wire →
+      is_unstable net input state gate ≡ false → bit_at after gate ≡ true
 
 -- the same before the listed variables of the current state change
 abbrev pub NotesStable : Netlist → CurrentState → List ℕ → List Bool → List Bool → Type 0

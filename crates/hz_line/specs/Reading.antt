@@ -41,11 +41,16 @@ abbrev pub IsUnreadLine : {S : Type 0} → Meaning S → StatementFault → Type
 IsUnreadLine meaning why = OrThat unread.Memory (λ _. meaning ≡ Malformed) why
 
 -- these are the statements of the text, and no line is malformed
-pub record AreStatementsOf {S : Type 0} (grammar : List TokenOf → Option S) (text : List ℕ) (read : List (Numbered S)) : Type 0 where
+pub record AreStatementsOf {S : Type 0} (grammar : List TokenOf → Option S) (text : List ℕ)
+    (read : List (Numbered S)) : Type 0 where
   pub statements : numbered_statements grammar text ≡ read
   pub formed : first_malformed grammar 1 (lines_of text) ≡ None
 
 -- why a text was not read: the line is the first malformed one; memory may always run out
-abbrev pub IsUnreadText : {S : Type 0} → (List TokenOf → Option S) → List ℕ → StatementsFault → Type 0
+abbrev pub IsUnreadText : {S : Type 0} → (List TokenOf → Option S) → List ℕ → StatementsFault →
+    Type 0
 IsUnreadText grammar text why =
-    OrThat unread_text.Memory (λ found. option_map unread_text.Form (first_malformed grammar 1 (lines_of text)) ≡ Some found) why
+    OrThat unread_text.Memory
+    (λ found. option_map unread_text.Form (first_malformed grammar 1 (lines_of text))
+    ≡ Some found)
+    why

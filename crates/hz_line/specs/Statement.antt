@@ -17,7 +17,8 @@ meaning_by None = Malformed
 meaning_by (Some statement) = Means statement
 
 -- what a line with these tokens is; a line with a forbidden byte before its comment has none and is malformed
-abbrev pub meaning_of_tokens : {S : Type 0} → (List TokenOf → Option S) → Option (List TokenOf) → Meaning S
+abbrev pub meaning_of_tokens : {S : Type 0} → (List TokenOf → Option S) → Option (List TokenOf) →
+    Meaning S
 meaning_of_tokens grammar None = Malformed
 meaning_of_tokens grammar (Some []) = Nothing
 meaning_of_tokens grammar (Some (token ∷ tokens)) = meaning_by (grammar (token ∷ tokens))
@@ -43,22 +44,27 @@ with_meaning line Malformed rest = rest
 with_meaning line (Means statement) rest = record { line = line; statement = statement } ∷ rest
 
 -- the statements of lines, the first of which has this number
-abbrev pub numbered_from : {S : Type 0} → (List TokenOf → Option S) → ℕ → List (List ℕ) → List (Numbered S)
+abbrev pub numbered_from : {S : Type 0} → (List TokenOf → Option S) → ℕ → List (List ℕ) →
+    List (Numbered S)
 numbered_from grammar line [] = []
-numbered_from grammar line (first ∷ rest) = with_meaning line (meaning_of grammar first) (numbered_from grammar (suc line) rest)
+numbered_from grammar line (first ∷ rest) =
+    with_meaning line (meaning_of grammar first) (numbered_from grammar (suc line) rest)
 
 -- the statements of a text, with their lines
-abbrev pub numbered_statements : {S : Type 0} → (List TokenOf → Option S) → List ℕ → List (Numbered S)
+abbrev pub numbered_statements : {S : Type 0} → (List TokenOf → Option S) → List ℕ →
+    List (Numbered S)
 numbered_statements grammar text = numbered_from grammar 1 (lines_of text)
 
 -- some of these statements is on this line and passes the test
 abbrev pub PassesOn : {S : Type 0} → (S → Bool) → List (Numbered S) → ℕ → Type 0
 PassesOn test [] line = ⊥
-PassesOn test (first ∷ later) line = ((first.line ≡ line) × (test first.statement ≡ true)) ⊎ PassesOn test later line
+PassesOn test (first ∷ later) line =
+    ((first.line ≡ line) × (test first.statement ≡ true)) ⊎ PassesOn test later line
 
 -- the line of the first statement that passes the test, if one does
 abbrev pub first_passing_line : {S : Type 0} → (S → Bool) → List (Numbered S) → Option ℕ
-first_passing_line test statements = option_map (λ numbered. numbered.line) (find (λ numbered. test numbered.statement) statements)
+first_passing_line test statements =
+    option_map (λ numbered. numbered.line) (find (λ numbered. test numbered.statement) statements)
 
 -- the first malformed line, where the line with this number means this, and later ones have this first one
 abbrev pub malformed_before : {S : Type 0} → ℕ → Meaning S → Option ℕ → Option ℕ

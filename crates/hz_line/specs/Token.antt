@@ -27,7 +27,8 @@ abbrev pub with_byte_first : ℕ → Option (List TokenOf) → Option (List Toke
 with_byte_first byte None = None
 with_byte_first byte (Some []) = Some []
 with_byte_first byte (Some (WordOf word ∷ tokens)) = Some (WordOf (byte ∷ word) ∷ tokens)
-with_byte_first byte (Some (PunctuationOf punctuation ∷ tokens)) = Some (PunctuationOf punctuation ∷ tokens)
+with_byte_first byte (Some (PunctuationOf punctuation ∷ tokens)) =
+    Some (PunctuationOf punctuation ∷ tokens)
 
 -- the line begins with a word byte
 abbrev pub begins_in_word : List ℕ → Bool
@@ -50,7 +51,9 @@ abbrev pub tokens_with : ℕ → Class → List ℕ → Option (List TokenOf) �
 tokens_with byte Blank rest tokens = tokens
 tokens_with byte Hash rest tokens = Some []
 tokens_with byte (Punct punctuation) rest tokens = with_token (PunctuationOf punctuation) tokens
-tokens_with byte WordByte rest tokens = if begins_in_word rest then with_byte_first byte tokens else with_token (WordOf (byte ∷ [])) tokens
+tokens_with byte WordByte rest tokens =
+    if begins_in_word rest then with_byte_first byte tokens
+    else with_token (WordOf (byte ∷ [])) tokens
 tokens_with byte Forbidden rest tokens = None
 
 -- the tokens of a line, or none where a forbidden byte stands before its comment
@@ -67,7 +70,9 @@ token_of (token.Punct punctuation) = PunctuationOf punctuation
 abbrev pub IsNext : List ℕ → Next → Type 0
 IsNext line next.End = tokens_of line ≡ Some []
 IsNext line next.Forbidden = tokens_of line ≡ None
-IsNext line (next.Token token rest) = (tokens_of line ≡ with_token (token_of token) (tokens_of rest.now)) × (length rest.now < length line)
+IsNext line (next.Token token rest) =
+    (tokens_of line ≡ with_token (token_of token) (tokens_of rest.now))
+    × (length rest.now < length line)
 
 -- a line has a list of tokens, and it is empty
 abbrev pub has_no_token : Option (List TokenOf) → Bool
@@ -92,12 +97,16 @@ has_punctuation_first (Some (PunctuationOf punctuation ∷ tokens)) = true
 -- the tokens of a line are this word before those of a shorter line; or no word is the first of them
 abbrev pub IsWordFirst : List ℕ → Option (Bor (List ℕ) × Bor (List ℕ)) → Type 0
 IsWordFirst line None = has_word_first (tokens_of line) ≡ false
-IsWordFirst line (Some found) = (tokens_of line ≡ with_token (WordOf found.0.now) (tokens_of found.1.now)) × (length found.1.now < length line)
+IsWordFirst line (Some found) =
+    (tokens_of line ≡ with_token (WordOf found.0.now) (tokens_of found.1.now))
+    × (length found.1.now < length line)
 
 -- the tokens of a line are this punctuation before those of a shorter line; or no punctuation is the first of them
 abbrev pub IsPunctuationFirst : List ℕ → Option (Punctuation × Bor (List ℕ)) → Type 0
 IsPunctuationFirst line None = has_punctuation_first (tokens_of line) ≡ false
-IsPunctuationFirst line (Some found) = (tokens_of line ≡ with_token (PunctuationOf found.0) (tokens_of found.1.now)) × (length found.1.now < length line)
+IsPunctuationFirst line (Some found) =
+    (tokens_of line ≡ with_token (PunctuationOf found.0) (tokens_of found.1.now))
+    × (length found.1.now < length line)
 
 -- why a line has no tokens: a forbidden byte stands before its comment; memory may always run out
 abbrev pub HasLineFault : List ℕ → LineFault → Type 0
@@ -134,8 +143,10 @@ BeginsForbidden (byte ∷ rest) = class_of byte ≡ Forbidden
 
 -- the line is the token and then this rest: a word has all the word bytes that stand there, punctuation is one byte
 abbrev pub IsTokenAndRest : TokenOf → List ℕ → List ℕ → Type 0
-IsTokenAndRest (WordOf word) rest line = IsWordToken word × (line ≡ word ++ rest) × (begins_in_word rest ≡ false)
-IsTokenAndRest (PunctuationOf punctuation) rest line = (byte : ℕ) × (class_of byte ≡ Punct punctuation) × (line ≡ byte ∷ rest)
+IsTokenAndRest (WordOf word) rest line =
+    IsWordToken word × (line ≡ word ++ rest) × (begins_in_word rest ≡ false)
+IsTokenAndRest (PunctuationOf punctuation) rest line =
+    (byte : ℕ) × (class_of byte ≡ Punct punctuation) × (line ≡ byte ∷ rest)
 
 -- the line begins with the token, and this rest comes after it
 abbrev pub BeginsWithToken : List ℕ → TokenOf → List ℕ → Type 0
@@ -170,9 +181,11 @@ BeginsWithPunctuation line (Some found) = BeginsWithToken line (PunctuationOf fo
 -- the line begins with these tokens, one after the other, and this rest comes after them
 abbrev pub BeginsWithTokens : List ℕ → List TokenOf → List ℕ → Type 0
 BeginsWithTokens line [] rest = line ≡ rest
-BeginsWithTokens line (token ∷ tokens) rest = (after : List ℕ) × BeginsWithToken line token after × BeginsWithTokens after tokens rest
+BeginsWithTokens line (token ∷ tokens) rest =
+    (after : List ℕ) × BeginsWithToken line token after × BeginsWithTokens after tokens rest
 
 -- these tokens stand before the fault: all of those before the forbidden byte, or some where memory ran out
 abbrev pub AreTokensBeforeFault : LineFault → List TokenOf → List ℕ → Type 0
-AreTokensBeforeFault fault.Forbidden tokens line = (rest : List ℕ) × BeginsWithTokens line tokens rest × PastBlanks BeginsForbidden rest
+AreTokensBeforeFault fault.Forbidden tokens line =
+    (rest : List ℕ) × BeginsWithTokens line tokens rest × PastBlanks BeginsForbidden rest
 AreTokensBeforeFault fault.Memory tokens line = (rest : List ℕ) × BeginsWithTokens line tokens rest

@@ -99,16 +99,19 @@ pub trait Grammar<'t> {
     /// token with which no statement goes on.
     fn statement(&mut self, first: Token<'t>, rest: &'t [u8]) -> Result<Self::Held, StatementFault>
         ensures read { MatchResult result
-            (λ held. by_tokens (λ later. grammar (context self.old) (token_of first.entry ∷ later)) (tokens_of rest.now)
+            (λ held. by_tokens (λ later. grammar (context self.old) (token_of first.entry ∷ later))
+            (tokens_of rest.now)
             ≡ Some (stated held))
-            (λ why. IsUnread (by_tokens (λ later. grammar (context self.old) (token_of first.entry ∷ later))
+            (λ why. IsUnread
+            (by_tokens (λ later. grammar (context self.old) (token_of first.entry ∷ later))
             (tokens_of rest.now)) why) }
         ensures sound { IfOk result (IsSound (context self.old)) }
         ensures same { context self.new ≡ context self.old };
 
     /// The statement of a line in the commonest form, read without its tokens. `None` says nothing of the line.
     fn short(&self, line: &'t [u8]) -> Option<Self::Held>
-        ensures read { IfSome result (λ held. meaning_of (grammar (context self.now)) line.now ≡ Means (stated held)) }
+        ensures read { IfSome result
+            (λ held. meaning_of (grammar (context self.now)) line.now ≡ Means (stated held)) }
         ensures sound { IfSome result (IsSound (context self.now)) };
 }
 
@@ -121,9 +124,11 @@ pub fn read_statements<'t, G: Grammar<'t>>(
 ) -> Result<Vec<Numbered<G::Held>>, StatementsFault>
     requires { length text.now ≤ 4294967294 }
     ensures read { MatchResult result
-        (λ read. AreStatementsOf (G.grammar (G.context grammar.old)) text.now (map (numbered_by G.stated) read.items))
+        (λ read. AreStatementsOf (G.grammar (G.context grammar.old)) text.now
+        (map (numbered_by G.stated) read.items))
         (λ why. IsUnreadText (G.grammar (G.context grammar.old)) text.now why) }
-    ensures sound { IfOk result (λ read. All (λ entry. G.IsSound (G.context grammar.old) entry.held) read.items) }
+    ensures sound { IfOk result
+        (λ read. All (λ entry. G.IsSound (G.context grammar.old) entry.held) read.items) }
     ensures same { G.context grammar.new ≡ G.context grammar.old }
 {
     let mut entries = Vec::new(alloc);
@@ -149,7 +154,8 @@ fn read_line<'t, G: Grammar<'t>>(
     line: &'t [u8],
 ) -> Result<Option<G::Held>, StatementFault>
     ensures read { MatchResult result
-        (λ read. meaning_of (G.grammar (G.context grammar.old)) line.now ≡ meaning_read G.stated read)
+        (λ read. meaning_of (G.grammar (G.context grammar.old)) line.now
+        ≡ meaning_read G.stated read)
         (λ why. IsUnreadLine (meaning_of (G.grammar (G.context grammar.old)) line.now) why) }
     ensures sound { IfOk result (λ read. IfSome read (G.IsSound (G.context grammar.old))) }
     ensures same { G.context grammar.new ≡ G.context grammar.old }

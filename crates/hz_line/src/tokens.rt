@@ -55,7 +55,8 @@ pub fn read_tokens<'a>(line: &'a [u8], tokens: &mut Vec<Token<'a>>) -> Result<()
     ensures value { MatchResult result
         (λ _. tokens_of line.now ≡ Some (map token_of tokens.new.items))
         (λ fault. HasLineFault line.now fault) }
-    ensures before { IfErr result (λ fault. AreTokensBeforeFault fault (map token_of tokens.new.items) line.now) }
+    ensures before { IfErr result
+        (λ fault. AreTokensBeforeFault fault (map token_of tokens.new.items) line.now) }
 {
     tokens.clear();
     let mut rest = line;

@@ -14,7 +14,8 @@ pub(crate) fn set_bit(words: &mut [u64], place: u32)
 pub(crate) fn clear_bit(words: &mut [u64], place: u32) -> bool
     requires { place / 64 < length words.old }
     ensures turned { IsTurned words.old words.new place 0 }
-    ensures stays { slice_index_or words.old (place / 64) 0 ≡ 0 → slice_index_or words.new (place / 64) 0 ≡ 0 }
+    ensures stays { slice_index_or words.old (place / 64) 0 ≡ 0 →
+        slice_index_or words.new (place / 64) 0 ≡ 0 }
     ensures empty { IsTrue result ↔ (slice_index_or words.new (place / 64) 0 ≡ 0) }
 {
     let word = (place / 64) as usize;

@@ -81,7 +81,10 @@ fn is_marked(marks: &[bool], number: u32) -> bool
 
 // Marks a number.
 fn mark(marks: &mut Vec<bool>, number: u32) -> Result<(), AllocError>
-    ensures ok { OnOk result ((i : ℕ) → slice_index_or marks.new.items i false ≡ (nat_eq i number || slice_index_or marks.old.items i false)) }
+    ensures ok { OnOk result
+        ((i : ℕ) →
+        slice_index_or marks.new.items i false
+        ≡ (nat_eq i number || slice_index_or marks.old.items i false)) }
     ensures err { OnErr result (marks.new.items ≡ marks.old.items) }
 {
     let place = number as usize;

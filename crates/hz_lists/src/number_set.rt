@@ -28,7 +28,8 @@ impl Model for NumberSet {
 
     ghost view = { λ set. marks_of set.count set.low.items };
 
-    ghost invariant = { λ set. HoldsNumberSet set.count set.low.items set.middle.items set.top.items };
+    ghost invariant = { λ set. HoldsNumberSet set.count set.low.items set.middle.items
+        set.top.items };
 }
 
 impl NumberSet {

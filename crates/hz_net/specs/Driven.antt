@@ -18,9 +18,11 @@ pub record IsInputAt (netlist : Netlist) (var number : ℕ) : Type 0 where
 -- a gate is driven by its function of its own wires, which are there, and as many as the function takes
 pub record IsGateAt (netlist : Netlist) (var : ℕ) (kind : Kind) : Type 0 where
   pub driven :
-      driver_at (network_of netlist) var ≡ Function kind (first_wire netlist var) (length (gate_at netlist var).sources)
+      driver_at (network_of netlist) var
+      ≡ Function kind (first_wire netlist var) (length (gate_at netlist var).sources)
   pub is_gate : IsGateNumber netlist var
-  pub inside : first_wire netlist var + length (gate_at netlist var).sources ≤ length (network_of netlist)
+  pub inside : first_wire netlist var + length (gate_at netlist var).sources
+      ≤ length (network_of netlist)
   pub takes_pins : IsTrue (takes kind (length (gate_at netlist var).sources))
 
 -- a wire is driven by its source, a node, and goes into its gate

@@ -26,7 +26,8 @@ entry_kind (WireEntry pin gate source) = WireKind gate pin source
 abbrev pub gate_entries : ℕ → List Gate → List Entry
 gate_entries first [] = []
 gate_entries first (gate ∷ gates) =
-    GateEntry gate.kind first (length gate.sources) ∷ gate_entries (first + length gate.sources) gates
+    GateEntry gate.kind first (length gate.sources)
+    ∷ gate_entries (first + length gate.sources) gates
 
 -- the entry of a wire
 abbrev pub wire_entry : Wire → Entry
@@ -35,15 +36,18 @@ wire_entry wire = WireEntry wire.pin wire.gate wire.source
 -- the entries of a circuit: inputs, then gates, then wires by gate and pin
 unfoldable pub entries_of : Netlist → List Entry
 entries_of netlist =
-    map InputEntry (range_with_len 0 netlist.inputs) ++ gate_entries (length netlist.names) netlist.gates
+    map InputEntry (range_with_len 0 netlist.inputs)
+    ++ gate_entries (length netlist.names) netlist.gates
     ++ map wire_entry (wires_of netlist)
 
 -- an entry is right for a variable of a whole circuit, and all that it names is there
 abbrev pub IsEntryAt : Netlist → ℕ → Entry → Type 0
 IsEntryAt netlist var (InputEntry number) = (number ≡ var) × (var < netlist.inputs)
 IsEntryAt netlist var (GateEntry kind first pins) =
-    IsGateNumber netlist var × (first ≡ first_wire netlist var) × (pins ≡ length (gate_at netlist var).sources)
+    IsGateNumber netlist var × (first ≡ first_wire netlist var)
+    × (pins ≡ length (gate_at netlist var).sources)
     × (first + pins ≤ length (network_of netlist)) × IsTrue (takes kind pins)
 IsEntryAt netlist var (WireEntry pin gate source) =
     (length netlist.names ≤ var) × (source < length netlist.names)
-    × (slice_get (wires_of netlist) (var - length netlist.names) ≡ Some (record { gate = gate; pin = pin; source = source }))
+    × (slice_get (wires_of netlist) (var - length netlist.names)
+    ≡ Some (record { gate = gate; pin = pin; source = source }))

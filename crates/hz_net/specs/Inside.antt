@@ -10,4 +10,5 @@ pub record HoldsNetwork (fields : Inside) : Type 0 where
   pub circuit : IsCircuit fields.circuit
   pub whole : IsWhole fields.circuit
   pub entries : fields.entries.items ≡ entries_of fields.circuit
-  pub fan_out : IsSplit fields.fan_out.starts.items fields.fan_out.readers.items (readers_by_node (length fields.circuit.names) fields.entries.items)
+  pub fan_out : IsSplit fields.fan_out.starts.items fields.fan_out.readers.items
+      (readers_by_node (length fields.circuit.names) fields.entries.items)

@@ -41,12 +41,14 @@ pub data Driver : Type 0 where
 abbrev pub gate_drivers : ℕ → List Gate → List Driver
 gate_drivers first [] = []
 gate_drivers first (gate ∷ gates) =
-    Function gate.kind first (length gate.sources) ∷ gate_drivers (first + length gate.sources) gates
+    Function gate.kind first (length gate.sources)
+    ∷ gate_drivers (first + length gate.sources) gates
 
 -- the complete network: what drives each variable, inputs first, then gates, then wires
 unfoldable pub network_of : Netlist → List Driver
 network_of netlist =
-    map External (range_with_len 0 netlist.inputs) ++ gate_drivers (length netlist.names) netlist.gates
+    map External (range_with_len 0 netlist.inputs)
+    ++ gate_drivers (length netlist.names) netlist.gates
     ++ map (λ wire. Source wire.source) (wires_of netlist)
 
 -- a number is that of a variable of the complete network
@@ -80,13 +82,15 @@ value_at state i = slice_index_or state i Zero
 -- what a driver asks for, under an external input, in a state
 abbrev pub driver_value : List Bool → List Bool → Driver → Bool
 driver_value input state (External place) = bit_at input place
-driver_value input state (Function kind first pins) = gate_value kind (slice_range state first (first + pins))
+driver_value input state (Function kind first pins) =
+    gate_value kind (slice_range state first (first + pins))
 driver_value input state (Source node) = bit_at state node
 
 -- the same in a ternary state, by the ternary extension of the gate function
 abbrev pub driver_value3 : List Bool → List Tri → Driver → Tri
 driver_value3 input state (External place) = tri_of (bit_at input place)
-driver_value3 input state (Function kind first pins) = extension kind (slice_range state first (first + pins))
+driver_value3 input state (Function kind first pins) =
+    extension kind (slice_range state first (first + pins))
 driver_value3 input state (Source node) = value_at state node
 
 -- the excitation of variable i

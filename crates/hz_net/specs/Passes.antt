@@ -19,7 +19,8 @@ join_each (value ∷ values) (other ∷ others) = join_of value other ∷ join_e
 abbrev pub algorithm_a : List Driver → List Bool → List Bool → ℕ → List Tri
 algorithm_a net input start zero = map tri_of start
 algorithm_a net input start (suc round) =
-    let before = algorithm_a net input start round in join_each before (excitations net input before)
+    let before = algorithm_a net input start round in
+    join_each before (excitations net input before)
 
 -- Algorithm B, from any ternary state: each state is the excitations of the one before
 abbrev pub algorithm_b : List Driver → List Bool → List Tri → ℕ → List Tri
@@ -37,7 +38,8 @@ abbrev pub IsResult : (ℕ → List Tri) → List Tri → Type 0
 IsResult sequence result = (rounds : ℕ) × AreRounds sequence rounds × (result ≡ sequence rounds)
 
 -- a number is the first round in which a variable has a value with a property
-pub record IsFirstRound (sequence : ℕ → List Tri) (i : ℕ) (has : Tri → Type 0) (first : ℕ) : Type 0 where
+pub record IsFirstRound (sequence : ℕ → List Tri) (i : ℕ) (has : Tri → Type 0)
+    (first : ℕ) : Type 0 where
   pub there : has (value_at (sequence first) i)
   pub least : (round : ℕ) → round < first → has (value_at (sequence round) i) → ⊥
 
@@ -61,14 +63,18 @@ IsRank sequence i result = IsFirstRoundIf (is_unknown result) sequence i IsUnkno
 -- the settling round of a variable, by its first value and its value in the result: an X that becomes 0 or 1 tells the
 -- first round in which it is 0 or 1
 abbrev pub IsSettlingRound : (ℕ → List Tri) → ℕ → Tri → Tri → ℕ → Type 0
-IsSettlingRound sequence i first result = IsFirstRoundIf (is_unknown first && not (is_unknown result)) sequence i IsKnown
+IsSettlingRound sequence i first result =
+    IsFirstRoundIf (is_unknown first && not (is_unknown result)) sequence i IsKnown
 
 -- each variable's rank
 pub record AreRanks (sequence : ℕ → List Tri) (result : List Tri) (ranks : List ℕ) : Type 0 where
   pub long : length ranks ≡ length result
-  pub each : (i : ℕ) → i < length result → IsRank sequence i (value_at result i) (slice_index ranks i)
+  pub each : (i : ℕ) → i < length result →
+      IsRank sequence i (value_at result i) (slice_index ranks i)
 
 -- each variable's settling round
-pub record AreSettlingRounds (sequence : ℕ → List Tri) (first result : List Tri) (rounds : List ℕ) : Type 0 where
+pub record AreSettlingRounds (sequence : ℕ → List Tri) (first result : List Tri)
+    (rounds : List ℕ) : Type 0 where
   pub long : length rounds ≡ length first
-  pub each : (i : ℕ) → i < length first → IsSettlingRound sequence i (value_at first i) (value_at result i) (slice_index rounds i)
+  pub each : (i : ℕ) → i < length first →
+      IsSettlingRound sequence i (value_at first i) (value_at result i) (slice_index rounds i)

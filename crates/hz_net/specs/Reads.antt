@@ -46,6 +46,9 @@ IsNode net i = (source : ℕ) → driver_at net i ≢ Source source
 pub record IsWired (net : List Driver) : Type 0 where
   pub node : (wire source : ℕ) → driver_at net wire ≡ Source source → IsNode net source
   pub node_inside : (wire source : ℕ) → driver_at net wire ≡ Source source → source < length net
-  pub gate : (wire source : ℕ) → driver_at net wire ≡ Source source → (gate : ℕ) × IsWireInto net gate wire
-  pub source : (gate wire : ℕ) → IsWireInto net gate wire → (source : ℕ) × (driver_at net wire ≡ Source source)
-  pub own : (gate other wire : ℕ) → IsWireInto net gate wire → IsWireInto net other wire → gate ≡ other
+  pub gate : (wire source : ℕ) → driver_at net wire ≡ Source source →
+      (gate : ℕ) × IsWireInto net gate wire
+  pub source : (gate wire : ℕ) → IsWireInto net gate wire →
+      (source : ℕ) × (driver_at net wire ≡ Source source)
+  pub own : (gate other wire : ℕ) → IsWireInto net gate wire → IsWireInto net other wire →
+      gate ≡ other

@@ -14,7 +14,8 @@ AgreeWith pairs (source ∷ sources) (bit ∷ bits) =
     ((other : Bool) → Contains pairs (source, other) → other ≡ bit) × AgreeWith pairs sources bits
 
 -- A cut that is not listed has the bit that a pair gives to its data node, as in a clocked circuit at rest.
-pub record TakesData (netlist : Netlist) (listed : List (Option Bool)) (pairs : List (ℕ × Bool)) (cut : ℕ) (bit : Bool) : Type 0 where
+pub record TakesData (netlist : Netlist) (listed : List (Option Bool)) (pairs : List (ℕ × Bool))
+    (cut : ℕ) (bit : Bool) : Type 0 where
   pub node : ℕ
   pub is_cut : IsCutNumber netlist cut
   pub is_data : data_of netlist cut ≡ Some node
@@ -22,15 +23,18 @@ pub record TakesData (netlist : Netlist) (listed : List (Option Bool)) (pairs : 
   pub given : Contains pairs (node, bit)
 
 -- A gate that is not listed has a bit whatever its pins hold that the pairs leave open.
-pub record Follows (netlist : Netlist) (listed : List (Option Bool)) (pairs : List (ℕ × Bool)) (gate : ℕ) (bit : Bool) : Type 0 where
+pub record Follows (netlist : Netlist) (listed : List (Option Bool)) (pairs : List (ℕ × Bool))
+    (gate : ℕ) (bit : Bool) : Type 0 where
   pub is_gate : IsGateNumber netlist gate
   pub unlisted : slice_get listed gate ≡ Some None
-  pub always : (bits : List Bool) → AgreeWith pairs (gate_at netlist gate).sources bits → gate_value (gate_at netlist gate).kind bits ≡ bit
+  pub always : (bits : List Bool) → AgreeWith pairs (gate_at netlist gate).sources bits →
+      gate_value (gate_at netlist gate).kind bits ≡ bit
 
 -- A node has a bit, given these pairs: it is listed with this bit, or it takes it from its data node, or it follows at a gate.
 abbrev pub IsGiven : Netlist → List (Option Bool) → List (ℕ × Bool) → ℕ → Bool → Type 0
 IsGiven netlist listed pairs node bit =
-    (slice_get listed node ≡ Some (Some bit)) ⊎ (TakesData netlist listed pairs node bit ⊎ Follows netlist listed pairs node bit)
+    (slice_get listed node ≡ Some (Some bit))
+    ⊎ (TakesData netlist listed pairs node bit ⊎ Follows netlist listed pairs node bit)
 
 -- A derivation, its newest pair first: each pair of a node and a bit is given by the earlier ones.
 abbrev pub IsDerivation : Netlist → List (Option Bool) → List (ℕ × Bool) → Type 0
@@ -50,13 +54,16 @@ IsOpen netlist listed node = (bit : Bool) → IsForced netlist listed node bit �
 -- each input that is no cut has a listed value
 abbrev pub ListsInputs : Netlist → List (Option Bool) → Type 0
 ListsInputs netlist listed =
-    (input : ℕ) → IsPrimaryInput netlist input → (bit : Bool) × (slice_get listed input ≡ Some (Some bit))
+    (input : ℕ) → IsPrimaryInput netlist input →
+    (bit : Bool) × (slice_get listed input ≡ Some (Some bit))
 
 -- The completed start, which is there where no node is open: each node has the bit to which it is forced, each wire its
 -- source's.
-pub record IsCompletedStart (netlist : Netlist) (listed : List (Option Bool)) (state : List Bool) : Type 0 where
+pub record IsCompletedStart (netlist : Netlist) (listed : List (Option Bool))
+    (state : List Bool) : Type 0 where
   pub long : IsState netlist state
-  pub forced : (node : ℕ) → node < length netlist.names → IsForced netlist listed node (bit_at state node)
+  pub forced : (node : ℕ) → node < length netlist.names →
+      IsForced netlist listed node (bit_at state node)
   pub wires : state ≡ expansion_of netlist (take (length netlist.names) state)
 
 -- a state of the network that is stable under its own inputs: a change may start from it
@@ -65,7 +72,8 @@ pub record IsStableStart (netlist : Netlist) (state : List Bool) : Type 0 where
   pub stable : IsStable (network_of netlist) (take netlist.inputs state) state
 
 -- a completed start that is accepted: it is stable under its own inputs
-pub record IsAcceptedStart (netlist : Netlist) (listed : List (Option Bool)) (state : List Bool) : Type 0 where
+pub record IsAcceptedStart (netlist : Netlist) (listed : List (Option Bool))
+    (state : List Bool) : Type 0 where
   pub completed : IsCompletedStart netlist listed state
   pub stable : IsStable (network_of netlist) (take netlist.inputs state) state
 
@@ -76,9 +84,11 @@ pub record IsLeastOpen (netlist : Netlist) (listed : List (Option Bool)) (node :
   pub least : (other : ℕ) → other < node → (bit : Bool) × IsForced netlist listed other bit
 
 -- The least gate that is unstable at the completed start: its bit differs from its gate function of its wires.
-pub record IsLeastUnstable (netlist : Netlist) (listed : List (Option Bool)) (gate : ℕ) : Type 0 where
+pub record IsLeastUnstable (netlist : Netlist) (listed : List (Option Bool))
+    (gate : ℕ) : Type 0 where
   pub state : List Bool
   pub completed : IsCompletedStart netlist listed state
   pub is_gate : IsGateNumber netlist gate
   pub is_unstable : IsUnstable (network_of netlist) (take netlist.inputs state) state gate
-  pub least : (other : ℕ) → netlist.inputs ≤ other → other < gate → bit_at state other ≡ excitation (network_of netlist) (take netlist.inputs state) state other
+  pub least : (other : ℕ) → netlist.inputs ≤ other → other < gate →
+      bit_at state other ≡ excitation (network_of netlist) (take netlist.inputs state) state other

@@ -11,11 +11,13 @@ use Rattle.hz_net.specs.Passes.{excitations, join_each, algorithm_b, AreRounds, 
 abbrev pub algorithm_a_from : List Driver → List Bool → List Tri → ℕ → List Tri
 algorithm_a_from net input first zero = first
 algorithm_a_from net input first (suc round) =
-    let before = algorithm_a_from net input first round in join_each before (excitations net input before)
+    let before = algorithm_a_from net input first round in
+    join_each before (excitations net input before)
 
 -- One ternary state settles to another under an input: Algorithm A leads from the first to a result, and Algorithm B from
 -- there to the second.
-pub record SettlesTo (net : List Driver) (input : List Bool) (first settled : List Tri) : Type 0 where
+pub record SettlesTo (net : List Driver) (input : List Bool)
+    (first settled : List Tri) : Type 0 where
   pub spread : List Tri
   pub is_spread : IsResult (algorithm_a_from net input first) spread
   pub is_settled : IsResult (algorithm_b net input spread) settled
@@ -27,7 +29,8 @@ held_value (Some bit) = tri_of bit
 
 -- The unknown start: each node that is held has its bit, and every other variable is X, wires too.
 abbrev pub unknown_start : List Driver → List (Option Bool) → List Tri
-unknown_start net held = map (λ i. held_value (slice_index_or held i None)) (range_with_len 0 (length net))
+unknown_start net held =
+    map (λ i. held_value (slice_index_or held i None)) (range_with_len 0 (length net))
 
 -- each ternary state settles under each input
 abbrev pub EachSettles : Type 0
@@ -49,5 +52,6 @@ SettlesWhole =
 -- each pass ends after at most one round more than there are variables
 abbrev pub RoundsAreFew : Type 0
 RoundsAreFew =
-    (net : List Driver) (input : List Bool) (first : List Tri) (rounds : ℕ) → length first ≡ length net →
+    (net : List Driver) (input : List Bool) (first : List Tri) (rounds : ℕ) →
+    length first ≡ length net →
     AreRounds (algorithm_a_from net input first) rounds → rounds ≤ length net + 1

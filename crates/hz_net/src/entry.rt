@@ -36,7 +36,8 @@ pub(crate) fn list_entries(alloc: Global, circuit: &Circuit) -> Result<Vec<Entry
 }
 
 fn push_inputs(list: &mut Vec<Entry>, inputs: u32) -> Result<(), Memory>
-    ensures { OnOk result (list.new.items ≡ list.old.items ++ map Entry.Input (range_with_len 0 inputs)) }
+    ensures { OnOk result
+        (list.new.items ≡ list.old.items ++ map Entry.Input (range_with_len 0 inputs)) }
 {
     for number in 0..inputs {
         let Ok(()) = list.push(Entry::Input { number }) else {
@@ -47,7 +48,9 @@ fn push_inputs(list: &mut Vec<Entry>, inputs: u32) -> Result<(), Memory>
 }
 
 fn push_gates(list: &mut Vec<Entry>, circuit: &Circuit) -> Result<(), Memory>
-    ensures { OnOk result (list.new.items ≡ list.old.items ++ gate_entries (length circuit.now.names) circuit.now.gates) }
+    ensures { OnOk result
+        (list.new.items
+        ≡ list.old.items ++ gate_entries (length circuit.now.names) circuit.now.gates) }
 {
     let mut first = circuit.nodes();
     for gate in circuit.inputs()..circuit.nodes() {
@@ -62,7 +65,8 @@ fn push_gates(list: &mut Vec<Entry>, circuit: &Circuit) -> Result<(), Memory>
 }
 
 fn push_wires(list: &mut Vec<Entry>, circuit: &Circuit) -> Result<(), Memory>
-    ensures { OnOk result (list.new.items ≡ list.old.items ++ map wire_entry (wires_of circuit.now)) }
+    ensures { OnOk result
+        (list.new.items ≡ list.old.items ++ map wire_entry (wires_of circuit.now)) }
 {
     for gate in circuit.inputs()..circuit.nodes() {
         push_gate_wires(list, gate, circuit.sources(gate))?;
@@ -72,7 +76,8 @@ fn push_wires(list: &mut Vec<Entry>, circuit: &Circuit) -> Result<(), Memory>
 
 fn push_gate_wires(list: &mut Vec<Entry>, gate: u32, sources: &[u32]) -> Result<(), Memory>
     requires { length sources.now ≤ most_gate_pins }
-    ensures { OnOk result (list.new.items ≡ list.old.items ++ map wire_entry (gate_wires gate 0 sources.now)) }
+    ensures { OnOk result
+        (list.new.items ≡ list.old.items ++ map wire_entry (gate_wires gate 0 sources.now)) }
 {
     for (pin, source) in sources.iter().enumerate() {
         let wire = Entry::Wire {

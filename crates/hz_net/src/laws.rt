@@ -9,11 +9,17 @@ ghost use Rattle.hz_net.specs.Reads.{Reads, AreReaders, readers_of, IsWired};
 /// the reader of a wire is the gate that it goes into.
 pub fn network_is_wired()
     ensures wired { (netlist : Netlist) → IsCircuit netlist → IsWired (network_of netlist) }
-    ensures readers { (netlist : Netlist) (i : ℕ) → IsCircuit netlist → IsVariable netlist i → AreReaders (network_of netlist) i (readers_of netlist i) }
+    ensures readers { (netlist : Netlist) (i : ℕ) → IsCircuit netlist → IsVariable netlist i →
+        AreReaders (network_of netlist) i (readers_of netlist i) }
 {}
 
 /// What drives a variable asks for the same value in two states that agree at the variables that it reads.
 pub fn values_read_decide()
-    ensures binary { (input left right : List Bool) (driver : Driver) → length left ≡ length right → ((i : ℕ) → Reads driver i → bit_at left i ≡ bit_at right i) → driver_value input left driver ≡ driver_value input right driver }
-    ensures ternary { (input : List Bool) (left right : List Tri) (driver : Driver) → length left ≡ length right → ((i : ℕ) → Reads driver i → value_at left i ≡ value_at right i) → driver_value3 input left driver ≡ driver_value3 input right driver }
+    ensures binary { (input left right : List Bool) (driver : Driver) → length left ≡ length right →
+        ((i : ℕ) → Reads driver i → bit_at left i ≡ bit_at right i) →
+        driver_value input left driver ≡ driver_value input right driver }
+    ensures ternary { (input : List Bool) (left right : List Tri) (driver : Driver) →
+        length left ≡ length right →
+        ((i : ℕ) → Reads driver i → value_at left i ≡ value_at right i) →
+        driver_value3 input left driver ≡ driver_value3 input right driver }
 {}

@@ -8,7 +8,8 @@ ghost use Rattle.hz_net.specs.TernaryStarts.{algorithm_a_from, EachSettles, Sett
 /// Algorithm A from a start of bits is a case of Algorithm A from a ternary state.
 #[tactic(auto, using(crate::proofs::TernaryStarts::bits_are_a_case))]
 pub fn bits_are_a_case()
-    ensures { (net : List Driver) (input start : List Bool) (round : ℕ) → algorithm_a net input start round ≡ algorithm_a_from net input (map tri_of start) round }
+    ensures { (net : List Driver) (input start : List Bool) (round : ℕ) →
+        algorithm_a net input start round ≡ algorithm_a_from net input (map tri_of start) round }
 {}
 
 /// Each ternary state settles under each input: Algorithm A comes to rest, after at most one round more than there are

@@ -45,14 +45,20 @@ pub record BuilderState : Type 0 where
 
 -- no cut and no gate is connected yet
 abbrev pub initial_builder : Netlist → BuilderState
-initial_builder netlist = record { netlist = netlist; cut = primary_inputs netlist; gate = netlist.inputs }
+initial_builder netlist =
+    record { netlist = netlist; cut = primary_inputs netlist; gate = netlist.inputs }
 
 -- the data node of an element, if it is a cut, or its pins, if it is a gate
 abbrev pub with_pins_of : BuilderState → Element → BuilderState
 with_pins_of now (Input name) = now
 with_pins_of now (Output name) = now
-with_pins_of now (Cut name source) = record now { netlist = with_data now.netlist now.cut (number_in now.netlist.names source); cut = suc now.cut }
-with_pins_of now (Gate name kind sources) = record now { netlist = fold (with_pin_named now.gate) now.netlist sources; gate = suc now.gate }
+with_pins_of now (Cut name source) =
+    record now {
+      netlist = with_data now.netlist now.cut (number_in now.netlist.names source);
+      cut = suc now.cut;
+    }
+with_pins_of now (Gate name kind sources) =
+    record now { netlist = fold (with_pin_named now.gate) now.netlist sources; gate = suc now.gate }
 
 -- the output of an element, if it is one
 abbrev pub with_output_of : Netlist → Element → Netlist
@@ -84,12 +90,16 @@ with_data_outputs netlist = fold with_data_output netlist netlist.cuts
 
 -- the circuit of nodes and outputs, built
 abbrev pub built_netlist : List Element → List Element → Netlist
-built_netlist nodes outputs = with_data_outputs (fold with_output_of (connected_netlist (unconnected_netlist nodes) nodes) outputs)
+built_netlist nodes outputs =
+    with_data_outputs
+    (fold with_output_of (connected_netlist (unconnected_netlist nodes) nodes) outputs)
 
 -- each step may be taken, from where the earlier ones lead
-abbrev pub AreAdmissibleSteps : {A B : Type 0} → (A → B → Type 0) → (A → B → A) → A → List B → Type 0
+abbrev pub AreAdmissibleSteps : {A B : Type 0} → (A → B → Type 0) → (A → B → A) → A → List B →
+    Type 0
 AreAdmissibleSteps May step now [] = Unit {0}
-AreAdmissibleSteps May step now (first ∷ rest) = May now first × AreAdmissibleSteps May step (step now first) rest
+AreAdmissibleSteps May step now (first ∷ rest) =
+    May now first × AreAdmissibleSteps May step (step now first) rest
 
 -- a node with this name may be added
 pub record MayAddNode (netlist : Netlist) (name : List ℕ) : Type 0 where
@@ -99,7 +109,8 @@ pub record MayAddNode (netlist : Netlist) (name : List ℕ) : Type 0 where
 
 -- the input of an element may be added, if it is one: inputs come before cuts and gates
 abbrev pub MayAddInput : Netlist → Element → Type 0
-MayAddInput netlist (Input name) = MayAddNode netlist name × (netlist.cuts ≡ []) × (netlist.gates ≡ [])
+MayAddInput netlist (Input name) =
+    MayAddNode netlist name × (netlist.cuts ≡ []) × (netlist.gates ≡ [])
 MayAddInput netlist (Output name) = Unit {0}
 MayAddInput netlist (Cut name source) = Unit {0}
 MayAddInput netlist (Gate name kind sources) = Unit {0}
@@ -144,15 +155,18 @@ HasNode netlist node = node < length netlist.names
 -- there is a mark for each node, and the marked nodes are outputs
 pub record AreMarked (netlist : Netlist) (marks : List Bool) : Type 0 where
   pub long : length marks ≡ length netlist.names
-  pub listed : (node : ℕ) → node < length marks → slice_index_or marks node false ≡ true → list_any (nat_eq node) netlist.outputs ≡ true
+  pub listed : (node : ℕ) → node < length marks → slice_index_or marks node false ≡ true →
+      list_any (nat_eq node) netlist.outputs ≡ true
 
 -- the data node of an element may be set, if it is a cut, and its pins may be added, if it is a gate
 abbrev pub MayAddPins : BuilderState → Element → Type 0
 MayAddPins now (Input name) = Unit {0}
 MayAddPins now (Output name) = Unit {0}
-MayAddPins now (Cut name source) = (now.cut < most_variables) × MaySetData now.cut now.netlist source
+MayAddPins now (Cut name source) =
+    (now.cut < most_variables) × MaySetData now.cut now.netlist source
 MayAddPins now (Gate name kind sources) =
-    (now.gate < most_variables) × AreAdmissibleSteps (MayAddPinNamed now.gate) (with_pin_named now.gate) now.netlist sources
+    (now.gate < most_variables)
+    × AreAdmissibleSteps (MayAddPinNamed now.gate) (with_pin_named now.gate) now.netlist sources
 
 -- the output of an element may be added, if it is one
 abbrev pub MayAddOutput : Netlist → Element → Type 0
@@ -166,13 +180,16 @@ pub record MayBuild (nodes outputs : List Element) : Type 0 where
   pub inputs : AreAdmissibleSteps MayAddInput with_input_of empty_netlist nodes
   pub cuts : AreAdmissibleSteps MayAddCut with_cut_of (fold with_input_of empty_netlist nodes) nodes
   pub gates : AreAdmissibleSteps MayAddGate with_gate_of (inputs_of nodes) nodes
-  pub pins : AreAdmissibleSteps MayAddPins with_pins_of (initial_builder (unconnected_netlist nodes)) nodes
-  pub outputs_may : AreAdmissibleSteps MayAddOutput with_output_of (connected_netlist (unconnected_netlist nodes) nodes) outputs
+  pub pins : AreAdmissibleSteps MayAddPins with_pins_of
+      (initial_builder (unconnected_netlist nodes)) nodes
+  pub outputs_may : AreAdmissibleSteps MayAddOutput with_output_of
+      (connected_netlist (unconnected_netlist nodes) nodes) outputs
 
 -- the names are new where they come: none is among these or among those before it
 abbrev pub Apart : List (List ℕ) → List (List ℕ) → Type 0
 Apart names [] = Unit {0}
-Apart names (name ∷ rest) = (list_any (bytes_eq name) names ≡ false) × Apart (names ++ name ∷ []) rest
+Apart names (name ∷ rest) =
+    (list_any (bytes_eq name) names ≡ false) × Apart (names ++ name ∷ []) rest
 
 -- the names are among these
 abbrev pub AreKnown : List (List ℕ) → List (List ℕ) → Type 0

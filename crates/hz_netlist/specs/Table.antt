@@ -34,5 +34,7 @@ entry_of name = record { name = name; definer = None; user = None }
 
 -- what a search for a name among entries comes to: the place of the name, or its hash if no entry has it
 abbrev pub IsSearched : List Entry → NameHashing → List ℕ → Search → Type 0
-IsSearched entries hashing name (Found place) = position (bytes_eq name) (entry_names entries) ≡ Some place
-IsSearched entries hashing name (Missing hash) = (position (bytes_eq name) (entry_names entries) ≡ None) × (hash ≡ hash_of hashing name)
+IsSearched entries hashing name (Found place) =
+    position (bytes_eq name) (entry_names entries) ≡ Some place
+IsSearched entries hashing name (Missing hash) =
+    (position (bytes_eq name) (entry_names entries) ≡ None) × (hash ≡ hash_of hashing name)

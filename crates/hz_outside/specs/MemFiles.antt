@@ -29,7 +29,8 @@ abbrev pub state_after_call : MemState → MemState
 state_after_call state = record state { calls = count_after state.calls }
 
 -- a load gave these bytes: the call is none that fails, and the file is not too long
-pub record GivesFile (old : MemState) (name : List ℕ) (most : ℕ) (bytes : List ℕ) (new : MemState) : Type 0 where
+pub record GivesFile (old : MemState) (name : List ℕ) (most : ℕ) (bytes : List ℕ)
+    (new : MemState) : Type 0 where
   pub unlisted : fails_next old ≡ false
   pub held : bytes ≡ contents_of old.files name
   pub short : length bytes ≤ most
@@ -38,7 +39,9 @@ pub record GivesFile (old : MemState) (name : List ℕ) (most : ℕ) (bytes : Li
 -- a load gave no file: the listed calls fail, a longer file is too long, and memory may run out at any call
 abbrev pub GivesNoFile : MemState → Place → List ℕ → ℕ → LoadFault → MemState → Type 0
 GivesNoFile old place name most Failed new =
-    (fails_next old ≡ true) × (new ≡ record (state_after_call old) { faults = counts_after old.faults place })
+    (fails_next old ≡ true)
+    × (new ≡ record (state_after_call old) { faults = counts_after old.faults place })
 GivesNoFile old place name most TooLong new =
-    (fails_next old ≡ false) × (most < length (contents_of old.files name)) × (new ≡ record (state_after_call old) { longs = counts_after old.longs place })
+    (fails_next old ≡ false) × (most < length (contents_of old.files name))
+    × (new ≡ record (state_after_call old) { longs = counts_after old.longs place })
 GivesNoFile old place name most Memory new = (fails_next old ≡ false) × (new ≡ state_after_call old)

@@ -36,5 +36,6 @@ put_by state more = record state { bytes = state.bytes ++ more; calls = count_af
 -- a put that gave no success: the listed calls fail after what they take, and memory may run out at any call
 abbrev pub PutsLess : SinkState → List ℕ → PutFault → SinkState → Type 0
 PutsLess old piece Failed new =
-    IsSomeAnd (taken_next old) (λ taken. new ≡ record (put_by old (take taken piece)) { faults = count_after old.faults })
+    IsSomeAnd (taken_next old)
+    (λ taken. new ≡ record (put_by old (take taken piece)) { faults = count_after old.faults })
 PutsLess old piece Memory new = new ≡ record old { calls = count_after old.calls }

@@ -16,7 +16,8 @@ abbrev pub empty_plain : PlainState
 empty_plain = record { files = []; longs = no_counts }
 
 -- a load gave these bytes
-pub record GivesPlain (old : PlainState) (name : List ℕ) (most : ℕ) (bytes : List ℕ) (new : PlainState) : Type 0 where
+pub record GivesPlain (old : PlainState) (name : List ℕ) (most : ℕ) (bytes : List ℕ)
+    (new : PlainState) : Type 0 where
   pub held : bytes ≡ contents_of old.files name
   pub short : length bytes ≤ most
   pub after : new ≡ old
@@ -25,5 +26,6 @@ pub record GivesPlain (old : PlainState) (name : List ℕ) (most : ℕ) (bytes :
 abbrev pub GivesNoPlain : PlainState → Place → List ℕ → ℕ → LoadFault → PlainState → Type 0
 GivesNoPlain old place name most Failed new = ⊥
 GivesNoPlain old place name most TooLong new =
-    (most < length (contents_of old.files name)) × (new ≡ record old { longs = counts_after old.longs place })
+    (most < length (contents_of old.files name))
+    × (new ≡ record old { longs = counts_after old.longs place })
 GivesNoPlain old place name most Memory new = new ≡ old

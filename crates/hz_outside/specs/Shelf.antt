@@ -9,4 +9,5 @@ pub record NamedBytes : Type 0 where
 -- the bytes held under a name: those of the first file of this name, and none where there is no such file
 abbrev pub contents_of : List NamedBytes → List ℕ → List ℕ
 contents_of [] name = []
-contents_of (file ∷ files) name = if bytes_eq file.name name then file.bytes else contents_of files name
+contents_of (file ∷ files) name =
+    if bytes_eq file.name name then file.bytes else contents_of files name

@@ -7,7 +7,8 @@ extended_text None more = None
 extended_text (Some text) more = Some (text ++ more)
 
 -- a text grew by a prefix of the piece, and the rest was not written
-pub record GrewByPrefix (was : Option (List ℕ)) (piece : List ℕ) (now : Option (List ℕ)) : Type 0 where
+pub record GrewByPrefix (was : Option (List ℕ)) (piece : List ℕ)
+    (now : Option (List ℕ)) : Type 0 where
   pub front : List ℕ
   pub rest : List ℕ
   pub parts : front ++ rest ≡ piece

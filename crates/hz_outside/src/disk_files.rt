@@ -79,7 +79,8 @@ impl<'r, R: rt::Files> Files for DiskFiles<'r, R> {
         most: usize,
     ) -> Result<Vec<u8>, LoadFault>
         ensures short { IfOk result (λ file. vec_len file ≤ most) }
-        ensures counts { MatchResult result (λ _. self.new ≡ self.old) (λ fault. self.new ≡ disk_after_fault self.old place fault) }
+        ensures counts { MatchResult result (λ _. self.new ≡ self.old)
+            (λ fault. self.new ≡ disk_after_fault self.old place fault) }
     {
         let loaded = match fs::open(self.rt, name) {
             Ok(mut file) => {
@@ -112,8 +113,10 @@ fn read_up_to<R: Read>(
     most: usize,
 ) -> Result<Vec<u8>, LoadFault>
     ensures short { IfOk result (λ file. vec_len file ≤ most) }
-    ensures whole { IfOk result (λ file. IfSome (R.remaining reader.old) (λ left. file.items ≡ left)) }
-    ensures over { result ≡ Err LoadFault.TooLong → IfSome (R.remaining reader.old) (λ left. most < length left) }
+    ensures whole { IfOk result
+        (λ file. IfSome (R.remaining reader.old) (λ left. file.items ≡ left)) }
+    ensures over { result ≡ Err LoadFault.TooLong →
+        IfSome (R.remaining reader.old) (λ left. most < length left) }
 {
     let mut file = Vec::new(alloc);
     let mut filled = 0;
@@ -168,7 +171,9 @@ fn read_at<R: Read>(reader: &mut R, file: &mut [u8], at: usize) -> io::Result<us
     ensures long { length file.new ≡ length file.old }
     ensures front { take at file.new ≡ take at file.old }
     ensures fits { IfOk result (λ count. at + count ≤ length file.new) }
-    ensures read { IfOk result (λ count. Consumes (R.remaining reader.old) (R.remaining reader.new) (take count (drop at file.new))) }
+    ensures read { IfOk result
+        (λ count. Consumes (R.remaining reader.old) (R.remaining reader.new)
+        (take count (drop at file.new))) }
     ensures end { IfOk result (λ count. count ≡ 0 → IsAtEnd (R.remaining reader.new)) }
 {
     reader.read(&mut file[at..])

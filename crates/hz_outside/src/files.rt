@@ -35,15 +35,21 @@ pub trait Files {
     ) -> Result<Vec<u8>, LoadFault>
         requires { granted self.old place name.now most }
         ensures short { IfOk result (λ file. vec_len file ≤ most) }
-        ensures bytes { IfOk result (λ file. IfSome (held self.old) (λ bytes_of. file.items ≡ bytes_of name.now)) }
-        ensures failed { result ≡ Err LoadFault.Failed → Rose (faults self.old place) (faults self.new place) }
-        ensures too_long { result ≡ Err LoadFault.TooLong → Rose (longs self.old place) (longs self.new place) }
-        ensures over { result ≡ Err LoadFault.TooLong → IfSome (held self.old) (λ bytes_of. most < length (bytes_of name.now)) }
+        ensures bytes { IfOk result
+            (λ file. IfSome (held self.old) (λ bytes_of. file.items ≡ bytes_of name.now)) }
+        ensures failed { result ≡ Err LoadFault.Failed →
+            Rose (faults self.old place) (faults self.new place) }
+        ensures too_long { result ≡ Err LoadFault.TooLong →
+            Rose (longs self.old place) (longs self.new place) }
+        ensures over { result ≡ Err LoadFault.TooLong →
+            IfSome (held self.old) (λ bytes_of. most < length (bytes_of name.now)) }
         ensures same_files { held self.new ≡ held self.old }
         ensures faults_never_fall { faults self.old place ≤ faults self.new place }
         ensures longs_never_fall { longs self.old place ≤ longs self.new place }
-        ensures other_faults { faults self.new (other_place place) ≡ faults self.old (other_place place) }
-        ensures other_longs { longs self.new (other_place place) ≡ longs self.old (other_place place) }
+        ensures other_faults { faults self.new (other_place place)
+            ≡ faults self.old (other_place place) }
+        ensures other_longs { longs self.new (other_place place)
+            ≡ longs self.old (other_place place) }
         ensures other_granted { (other_name : List ℕ) (other_most : ℕ) →
             granted self.new (other_place place) other_name other_most
             ↔ granted self.old (other_place place) other_name other_most };

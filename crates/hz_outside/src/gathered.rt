@@ -59,9 +59,12 @@ impl<K: Sink + Drop> Gathered<K> {
     // Puts what waits in the buffer, which is then empty, whatever the answer.
     fn pass_on(&mut self) -> Result<(), PutFault>
         ensures emptied { self.new.gathered ≡ [] }
-        ensures whole { OnOk result (Took (K.output self.old.out) self.old.gathered (K.output self.new.out)) }
-        ensures front { OnErr result (TookPrefix (K.output self.old.out) self.old.gathered (K.output self.new.out)) }
-        ensures failed { result ≡ Err PutFault.Failed → Rose (K.faults self.old.out) (K.faults self.new.out) }
+        ensures whole { OnOk result
+            (Took (K.output self.old.out) self.old.gathered (K.output self.new.out)) }
+        ensures front { OnErr result
+            (TookPrefix (K.output self.old.out) self.old.gathered (K.output self.new.out)) }
+        ensures failed { result ≡ Err PutFault.Failed →
+            Rose (K.faults self.old.out) (K.faults self.new.out) }
         ensures never_falls { K.faults self.old.out ≤ K.faults self.new.out }
     {
         let held = self.held;
@@ -86,7 +89,8 @@ impl<K: Sink + Drop> Gathered<K> {
             (with_more (K.output self.old.out) self.old.gathered)
             piece.now
             (with_more (K.output self.new.out) self.new.gathered)) }
-        ensures failed { result ≡ Err PutFault.Failed → Rose (K.faults self.old.out) (K.faults self.new.out) }
+        ensures failed { result ≡ Err PutFault.Failed →
+            Rose (K.faults self.old.out) (K.faults self.new.out) }
         ensures never_falls { K.faults self.old.out ≤ K.faults self.new.out }
     {
         self.pass_on()?;

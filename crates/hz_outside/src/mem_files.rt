@@ -62,7 +62,8 @@ impl MemFiles {
 
     /// Lets the load of this number fail.
     pub fn fail(&mut self, call: u64) -> Result<(), Memory>
-        ensures ok { OnOk result (self.new ≡ record self.old { failing = self.old.failing ++ call ∷ [] }) }
+        ensures ok { OnOk result
+            (self.new ≡ record self.old { failing = self.old.failing ++ call ∷ [] }) }
         ensures err { OnErr result (self.new ≡ self.old) }
     {
         let Ok(_) = self.failing.push(call) else {

@@ -50,7 +50,8 @@ impl Shelf {
 
     /// Adds a file after those that are there.
     pub(crate) fn add(&mut self, name: &str, bytes: &[u8]) -> Result<(), Memory>
-        ensures ok { OnOk result (self.new ≡ self.old ++ record { name = name.now; bytes = bytes.now } ∷ []) }
+        ensures ok { OnOk result
+            (self.new ≡ self.old ++ record { name = name.now; bytes = bytes.now } ∷ []) }
         ensures err { OnErr result (self.new ≡ self.old) }
     {
         let Ok(name) = String::from_str(self.alloc, name) else {

@@ -19,4 +19,5 @@ is_change Unknown Unknown = false
 abbrev pub differing_count : List Tri → List Tri → ℕ
 differing_count [] others = 0
 differing_count (value ∷ values) [] = 0
-differing_count (value ∷ values) (other ∷ others) = (if is_change value other then 1 else 0) + differing_count values others
+differing_count (value ∷ values) (other ∷ others) =
+    (if is_change value other then 1 else 0) + differing_count values others

@@ -24,10 +24,12 @@ pub record IsLeastUnknown (netlist : Netlist) (values : List Tri) (node : ℕ) :
   pub above : primary_inputs netlist ≤ node
   pub is_node : node < length netlist.names
   pub is_unknown : value_at values node ≡ Unknown
-  pub least : (other : ℕ) → primary_inputs netlist ≤ other → other < node → value_at values other ≢ Unknown
+  pub least : (other : ℕ) → primary_inputs netlist ≤ other → other < node →
+      value_at values other ≢ Unknown
 
 -- the least gate that is unstable in a state, under its own inputs
 pub record IsLeastUnstableIn (netlist : Netlist) (state : List Bool) (gate : ℕ) : Type 0 where
   pub is_gate : IsGateNumber netlist gate
   pub is_unstable : IsUnstable (network_of netlist) (take netlist.inputs state) state gate
-  pub least : (other : ℕ) → netlist.inputs ≤ other → other < gate → bit_at state other ≡ excitation (network_of netlist) (take netlist.inputs state) state other
+  pub least : (other : ℕ) → netlist.inputs ≤ other → other < gate →
+      bit_at state other ≡ excitation (network_of netlist) (take netlist.inputs state) state other

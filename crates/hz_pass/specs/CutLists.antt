@@ -16,9 +16,12 @@ pub record IsDataOf (netlist : Netlist) (node cut : ℕ) : Type 0 where
 pub record AreDataCutsBelow (netlist : Netlist) (lists : List (List ℕ)) (end : ℕ) : Type 0 where
   pub long : length lists ≡ length netlist.names
   pub sound : (node : ℕ) → All (IsDataOf netlist node) (cuts_at lists node)
-  pub complete : (node cut : ℕ) → IsDataOf netlist node cut → cut < end → Contains (cuts_at lists node) cut
+  pub complete : (node cut : ℕ) → IsDataOf netlist node cut → cut < end →
+      Contains (cuts_at lists node) cut
 
 -- in the list of each node are cuts whose data node it is; each such cut is there, if it is not listed
-pub record AreByData (netlist : Netlist) (listed : List (Option Bool)) (lists : List (List ℕ)) : Type 0 where
+pub record AreByData (netlist : Netlist) (listed : List (Option Bool))
+    (lists : List (List ℕ)) : Type 0 where
   pub sound : (node : ℕ) → All (IsDataOf netlist node) (cuts_at lists node)
-  pub complete : (node cut : ℕ) → IsDataOf netlist node cut → slice_get listed cut ≡ Some None → Contains (cuts_at lists node) cut
+  pub complete : (node cut : ℕ) → IsDataOf netlist node cut → slice_get listed cut ≡ Some None →
+      Contains (cuts_at lists node) cut

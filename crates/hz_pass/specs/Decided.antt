@@ -25,6 +25,8 @@ pub record IsOneOfThree (first second third : Type 0) : Type 0 where
 -- Every listing that lists each input that is no cut is open, unstable or accepted, and exactly one of these.
 abbrev pub StartsAreDecided : Type 0
 StartsAreDecided =
-    (netlist : Netlist) (listed : List (Option Bool)) → IsCircuit netlist → length listed ≡ length netlist.names →
+    (netlist : Netlist) (listed : List (Option Bool)) → IsCircuit netlist →
+    length listed ≡ length netlist.names →
     ListsInputs netlist listed →
-    IsOneOfThree (HasOpenNode netlist listed) (HasUnstableGate netlist listed) (GivesStart netlist listed)
+    IsOneOfThree (HasOpenNode netlist listed) (HasUnstableGate netlist listed)
+    (GivesStart netlist listed)

@@ -23,12 +23,15 @@ next_state Replace net input state = excitations net input state
 -- the states that rounds make from a first one
 abbrev pub round_states : Rule → List Driver → List Bool → List Tri → ℕ → List Tri
 round_states rule net input first zero = first
-round_states rule net input first (suc round) = next_state rule net input (round_states rule net input first round)
+round_states rule net input first (suc round) =
+    next_state rule net input (round_states rule net input first round)
 
 -- each number is the first round in which a variable has the value that it has in a state
-pub record AreFirstRounds (sequence : ℕ → List Tri) (state : List Tri) (rounds : List ℕ) : Type 0 where
+pub record AreFirstRounds (sequence : ℕ → List Tri) (state : List Tri)
+    (rounds : List ℕ) : Type 0 where
   pub long : length rounds ≡ length state
-  pub each : (i : ℕ) → i < length state → IsFirstRound sequence i (λ value. value ≡ value_at state i) (slice_index rounds i)
+  pub each : (i : ℕ) → i < length state →
+      IsFirstRound sequence i (λ value. value ≡ value_at state i) (slice_index rounds i)
 
 -- where excitations take the place of the state, they lie below it
 abbrev pub Falls : Rule → List Driver → List Bool → List Tri → Type 0
@@ -37,7 +40,8 @@ Falls Replace net input state = AllBelow (excitations net input state) state
 
 -- variable i has the value that the round makes
 abbrev pub IsMade : Rule → List Driver → List Bool → List Tri → List Tri → ℕ → Type 0
-IsMade rule net input state next i = value_at next i ≡ next_value rule (value_at state i) (excitation3 net input state i)
+IsMade rule net input state next i =
+    value_at next i ≡ next_value rule (value_at state i) (excitation3 net input state i)
 
 -- a list has the variables at which two states differ, and no others
 pub record ListsChanges (before after : List Tri) (changed : List ℕ) : Type 0 where
@@ -57,29 +61,35 @@ is_open Replace Unknown = true
 abbrev pub open_weight_from : Rule → (ℕ → ℕ) → ℕ → List Tri → ℕ
 open_weight_from rule weight first [] = 0
 open_weight_from rule weight first (value ∷ values) =
-    (if is_open rule value then weight first else 0) + open_weight_from rule weight (suc first) values
+    (if is_open rule value then weight first else 0)
+    + open_weight_from rule weight (suc first) values
 
 abbrev pub open_weight : Rule → (ℕ → ℕ) → List Tri → ℕ
 open_weight rule weight values = open_weight_from rule weight 0 values
 
 -- Within a round: each variable has the value that it had or the one that the round makes, the list has those that changed,
 -- and whatever variables weigh, the listed ones weigh what the variables that may still change have lost.
-pub record IsRoundSoFar (rule : Rule) (net : List Driver) (input : List Bool) (state next : List Tri) (changed : List ℕ) : Type 0 where
+pub record IsRoundSoFar (rule : Rule) (net : List Driver) (input : List Bool)
+    (state next : List Tri) (changed : List ℕ) : Type 0 where
   pub long : length next ≡ length state
   pub either : (i : ℕ) → (value_at next i ≡ value_at state i) ⊎ IsMade rule net input state next i
   pub lists : ListsChanges state next changed
-  pub balance : (weight : ℕ → ℕ) → sum_by weight changed + open_weight rule weight next ≡ open_weight rule weight state
+  pub balance : (weight : ℕ → ℕ) →
+      sum_by weight changed + open_weight rule weight next ≡ open_weight rule weight state
 
 -- a whole round: the next state, and what changed
-pub record IsRound (rule : Rule) (net : List Driver) (input : List Bool) (state next : List Tri) (changed : List ℕ) : Type 0 where
+pub record IsRound (rule : Rule) (net : List Driver) (input : List Bool) (state next : List Tri)
+    (changed : List ℕ) : Type 0 where
   pub made : next ≡ next_state rule net input state
   pub lists : ListsChanges state next changed
-  pub balance : (weight : ℕ → ℕ) → sum_by weight changed + open_weight rule weight next ≡ open_weight rule weight state
+  pub balance : (weight : ℕ → ℕ) →
+      sum_by weight changed + open_weight rule weight next ≡ open_weight rule weight state
 
 -- a round leaves each variable as it is that reads none of the listed ones
 abbrev pub IsQuiet : Rule → List Driver → List Bool → List Tri → List ℕ → Type 0
 IsQuiet rule net input state changed =
-    (i : ℕ) → i < length net → ((source : ℕ) → Contains changed source → Reads (driver_at net i) source → ⊥) →
+    (i : ℕ) → i < length net →
+    ((source : ℕ) → Contains changed source → Reads (driver_at net i) source → ⊥) →
     IsMade rule net input state state i
 
 -- how many variables read one

@@ -14,7 +14,8 @@ pub record CanBeMade (round : Round) : Type 0 where
 
 -- variable i has the value that the round makes
 abbrev pub IsMadeIn : Round → List Tri → ℕ → Type 0
-IsMadeIn round next i = IsMade round.rule (network_of round.net.now) round.input.now round.state.now next i
+IsMadeIn round next i =
+    IsMade round.rule (network_of round.net.now) round.input.now round.state.now next i
 
 -- what was made is still made
 abbrev pub KeepsMade : Round → List Tri → List Tri → Type 0
@@ -27,7 +28,8 @@ LeavesFrom first round =
 
 -- the round leaves each variable as it is that reads none of the listed ones
 abbrev pub IsQuietIn : Round → List ℕ → Type 0
-IsQuietIn round listed = IsQuiet round.rule (network_of round.net.now) round.input.now round.state.now listed
+IsQuietIn round listed =
+    IsQuiet round.rule (network_of round.net.now) round.input.now round.state.now listed
 
 -- within the round: what is known of the next state and of the variables that changed
 abbrev pub MakesSoFar : Round → List Tri → List ℕ → Type 0
@@ -36,7 +38,8 @@ MakesSoFar round next changed =
 
 -- the whole round makes this state and changes these variables
 abbrev pub Makes : Round → List Tri → List ℕ → Type 0
-Makes round next changed = IsRound round.rule (network_of round.net.now) round.input.now round.state.now next changed
+Makes round next changed =
+    IsRound round.rule (network_of round.net.now) round.input.now round.state.now next changed
 
 -- the states that the rounds of a pass make from a first one
 abbrev pub states_from : Pass → List Tri → ℕ → List Tri

@@ -14,13 +14,17 @@ use Rattle.hz_refusal.specs.declared.status.Status.TheVariants as status
 
 -- Where a value is 0 or 1, it is right. Take any state that the circuit may come up in, that is any whose held gates have their
 -- bits, and for each input after the other any outcome of the state before. Then the last one has this bit. An X promises nothing.
-abbrev pub AreRight : Netlist → List (Option Bool) → (inputs : List (List Bool)) → (values : List Tri) → Type 0
+abbrev pub AreRight : Netlist → List (Option Bool) → (inputs : List (List Bool)) →
+    (values : List Tri) → Type 0
 AreRight netlist held inputs values =
-    (start state : List Bool) (var : ℕ) (bit : Bool) → Refines start (unknown_start (network_of netlist) held) →
-    IsOutcomeAlong (network_of netlist) start inputs state → value_at values var ≡ tri_of bit → bit_at state var ≡ bit
+    (start state : List Bool) (var : ℕ) (bit : Bool) →
+    Refines start (unknown_start (network_of netlist) held) →
+    IsOutcomeAlong (network_of netlist) start inputs state → value_at values var ≡ tri_of bit →
+    bit_at state var ≡ bit
 
 -- what a pattern brings about is right after its first bits, and after its second bits
-pub record IsRight (netlist : Netlist) (held : List (Option Bool)) (pattern : PatternOf) (values : BothValues) : Type 0 where
+pub record IsRight (netlist : Netlist) (held : List (Option Bool)) (pattern : PatternOf)
+    (values : BothValues) : Type 0 where
   pub first : AreRight netlist held (pattern.from ∷ []) values.first
   pub second : AreRight netlist held (pattern.from ∷ pattern.to ∷ []) values.second
 
@@ -28,4 +32,5 @@ pub record IsRight (netlist : Netlist) (held : List (Option Bool)) (pattern : Pa
 abbrev pub IsResetOutcome : Netlist → PatternsOf → Status → List ℕ → Type 0
 IsResetOutcome netlist patterns own text =
     (own ≡ status.Done)
-    × ((says : IsResetText netlist patterns text) × AreEach (IsRight netlist patterns.held) patterns.patterns says.values)
+    × ((says : IsResetText netlist patterns text)
+    × AreEach (IsRight netlist patterns.held) patterns.patterns says.values)

@@ -27,15 +27,19 @@ IsForward order back = (place : ℕ) → place < length order → readers_at bac
 
 -- each node below the inputs' number has a known bit in each lane
 abbrev pub AreKnownInputs : Netlist → List Pair → Type 0
-AreKnownInputs netlist planes = (input : ℕ) → input < netlist.inputs → IsKnownPair (pair_at planes input)
+AreKnownInputs netlist planes =
+    (input : ℕ) → input < netlist.inputs → IsKnownPair (pair_at planes input)
 
 -- Each node has a known bit in each lane, and each gate is its own excitation.
 pub record AreEvaluated (netlist : Netlist) (planes : List Pair) : Type 0 where
   pub known : (node : ℕ) → node < length netlist.names → IsKnownPair (pair_at planes node)
-  pub excited : (gate : ℕ) → IsGateNumber netlist gate → pair_at planes gate ≡ gate_pair netlist planes gate
+  pub excited : (gate : ℕ) → IsGateNumber netlist gate →
+      pair_at planes gate ≡ gate_pair netlist planes gate
 
 -- The same of the inputs, and of the gates at the first places of an order.
-pub record AreEvaluatedBelow (end : ℕ) (netlist : Netlist) (order : List ℕ) (planes : List Pair) : Type 0 where
+pub record AreEvaluatedBelow (end : ℕ) (netlist : Netlist) (order : List ℕ)
+    (planes : List Pair) : Type 0 where
   pub inputs : AreKnownInputs netlist planes
   pub known : (place : ℕ) → place < end → IsKnownPair (pair_at planes (slice_index order place))
-  pub excited : (place : ℕ) → place < end → pair_at planes (slice_index order place) ≡ gate_pair netlist planes (slice_index order place)
+  pub excited : (place : ℕ) → place < end →
+      pair_at planes (slice_index order place) ≡ gate_pair netlist planes (slice_index order place)

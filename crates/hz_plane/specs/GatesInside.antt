@@ -8,7 +8,8 @@ use Rattle.hz_plane.specs.declared.gates.Gates.TheInside.{Inside}
 abbrev pub gates_by : List Shape → List ℕ → List Gate
 gates_by [] sources = []
 gates_by (shape ∷ shapes) sources =
-    record { kind = shape.kind; sources = take shape.pins sources } ∷ gates_by shapes (drop shape.pins sources)
+    record { kind = shape.kind; sources = take shape.pins sources }
+    ∷ gates_by shapes (drop shape.pins sources)
 
 abbrev pub gates_of : Inside → List Gate
 gates_of fields = gates_by fields.shapes.items fields.sources.items

@@ -35,9 +35,17 @@ pub record HoldsPlanes (fields : Inside) : Type 0 where
   pub marks : length fields.marks.items ≡ length fields.schedule.order.items / 64 + 1
   pub faults_count : length fields.faults.items ≡ 512
   pub values_planes : AreAllPlanes fields.values.items
-  pub sources : (pin : ℕ) → pin < length (pin_sources fields.gates) → slice_index (pin_sources fields.gates) pin < fields.loads.nodes
+  pub sources : (pin : ℕ) → pin < length (pin_sources fields.gates) →
+      slice_index (pin_sources fields.gates) pin < fields.loads.nodes
   pub schedule : (netlist : Netlist) → IsOf netlist fields → IsSchedule netlist fields.schedule
-  pub lists : (lane : ℕ) (loaded : Loaded) → slice_get fields.loads.lanes lane ≡ Some (Some loaded) → (input : ℕ) → input < fields.loads.inputs → (bit : Bool) × (slice_get loaded.listed input ≡ Some (Some bit))
-  pub lanes : (netlist : Netlist) (lane : ℕ) (loaded : Loaded) → IsOf netlist fields → slice_get fields.loads.lanes lane ≡ Some (Some loaded) → LaneHolds fields.stage netlist loaded fields.values.items lane
-  pub faults : (netlist : Netlist) (lane : ℕ) (loaded : Loaded) → IsOf netlist fields → slice_get fields.loads.lanes lane ≡ Some (Some loaded) → fields.stage ≢ Loading → IsLaneFault netlist loaded.listed (fault_at fields.faults.items lane)
-  pub unsettled : fields.stage ≡ Settled → AreUnknownLanes fields.values.items (length fields.values.items) fields.unsettled
+  pub lists : (lane : ℕ) (loaded : Loaded) →
+      slice_get fields.loads.lanes lane ≡ Some (Some loaded) → (input : ℕ) →
+      input < fields.loads.inputs → (bit : Bool) × (slice_get loaded.listed input ≡ Some (Some bit))
+  pub lanes : (netlist : Netlist) (lane : ℕ) (loaded : Loaded) → IsOf netlist fields →
+      slice_get fields.loads.lanes lane ≡ Some (Some loaded) →
+      LaneHolds fields.stage netlist loaded fields.values.items lane
+  pub faults : (netlist : Netlist) (lane : ℕ) (loaded : Loaded) → IsOf netlist fields →
+      slice_get fields.loads.lanes lane ≡ Some (Some loaded) → fields.stage ≢ Loading →
+      IsLaneFault netlist loaded.listed (fault_at fields.faults.items lane)
+  pub unsettled : fields.stage ≡ Settled →
+      AreUnknownLanes fields.values.items (length fields.values.items) fields.unsettled

@@ -36,7 +36,9 @@ lane_input inputs lane = map (λ set. has_lane set lane) inputs
 -- what was loaded into a lane
 abbrev pub lane_load : List ℕ → List (List ℕ) → List Listing → ℕ → Option Loaded
 lane_load loaded inputs listings lane =
-    if has_lane loaded lane then Some (record { input = lane_input inputs lane; listed = lane_listed listings lane }) else None
+    if has_lane loaded lane
+    then Some (record { input = lane_input inputs lane; listed = lane_listed listings lane })
+    else None
 
 -- what was loaded into each of the 512 lanes
 abbrev pub lane_loads : List ℕ → List (List ℕ) → List Listing → List (Option Loaded)
@@ -48,7 +50,8 @@ held_at held listed = fold (λ list node. slice_set list node.0 (Some node.1)) l
 
 -- the listed start of so many nodes that lists the first bits of the inputs, and the held gates
 abbrev pub listed_with : ℕ → List Bool → List (ℕ × Bool) → List (Option Bool)
-listed_with nodes first held = held_at held (map Some first ++ replicate (nodes - length first) None)
+listed_with nodes first held =
+    held_at held (map Some first ++ replicate (nodes - length first) None)
 
 -- what a lane was loaded with, if its start lists the held gates too
 abbrev pub held_load : List (ℕ × Bool) → Option Loaded → Option Loaded
@@ -57,13 +60,20 @@ held_load held (Some loaded) = Some (record loaded { listed = held_at held loade
 
 -- what a lane is loaded with from a list of bits: the bits that its start lists for the inputs, and then its new input
 abbrev pub loaded_from : (nodes inputs : ℕ) → List (ℕ × Bool) → List Bool → Loaded
-loaded_from nodes inputs held bits = record { input = take inputs (drop inputs bits); listed = listed_with nodes (take inputs bits) held }
+loaded_from nodes inputs held bits =
+    record {
+      input = take inputs (drop inputs bits);
+      listed = listed_with nodes (take inputs bits) held;
+    }
 
 -- what so many lanes are loaded with, from a list of the bits of one lane after the other
 abbrev pub loads_in : (nodes inputs : ℕ) → List (ℕ × Bool) → ℕ → List Bool → List (Option Loaded)
 loads_in nodes inputs held zero bits = []
-loads_in nodes inputs held (suc lanes) bits = Some (loaded_from nodes inputs held bits) ∷ loads_in nodes inputs held lanes (drop (2 * inputs) bits)
+loads_in nodes inputs held (suc lanes) bits =
+    Some (loaded_from nodes inputs held bits)
+    ∷ loads_in nodes inputs held lanes (drop (2 * inputs) bits)
 
 -- the 512 lanes, of which the first ones are loaded so
 abbrev pub block_loads : (nodes inputs : ℕ) → List (ℕ × Bool) → ℕ → List Bool → List (Option Loaded)
-block_loads nodes inputs held lanes bits = loads_in nodes inputs held lanes bits ++ replicate (512 - lanes) None
+block_loads nodes inputs held lanes bits =
+    loads_in nodes inputs held lanes bits ++ replicate (512 - lanes) None

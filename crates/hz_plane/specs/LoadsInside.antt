@@ -14,5 +14,8 @@ loads_of fields = record {
 
 -- a lane that was not loaded lists nothing, and no lane lists a gate where this is said
 pub record HoldsLoads (fields : Inside) : Type 0 where
-  pub fresh : (lane : ℕ) → lane < 512 → has_lane fields.loaded lane ≡ false → lane_listed fields.listings.items lane ≡ replicate (length fields.listings.items) None
-  pub no_gates : fields.no_gates ≡ true → (lane gate : ℕ) → lane < 512 → length fields.inputs.items ≤ gate → gate < length fields.listings.items → slice_index_or (lane_listed fields.listings.items lane) gate None ≡ None
+  pub fresh : (lane : ℕ) → lane < 512 → has_lane fields.loaded lane ≡ false →
+      lane_listed fields.listings.items lane ≡ replicate (length fields.listings.items) None
+  pub no_gates : fields.no_gates ≡ true → (lane gate : ℕ) → lane < 512 →
+      length fields.inputs.items ≤ gate → gate < length fields.listings.items →
+      slice_index_or (lane_listed fields.listings.items lane) gate None ≡ None

@@ -34,7 +34,8 @@ AreOf netlist planes = (planes.inputs ≡ netlist.inputs) × (planes.gates ≡ n
 
 -- how many variables the network has that planes were made for
 abbrev pub variables_of : Seen → ℕ
-variables_of planes = planes.inputs + length planes.gates + sum_by (λ gate. length gate.sources) planes.gates
+variables_of planes =
+    planes.inputs + length planes.gates + sum_by (λ gate. length gate.sources) planes.gates
 
 -- the value that can be 0, or 1, or both
 abbrev pub value_by : Bool → Bool → Tri
@@ -57,7 +58,8 @@ IsLaneFault netlist listed (Some (Unstable gate)) = IsLeastUnstable netlist list
 abbrev pub IsLaneValue : Stage → Netlist → Loaded → ℕ → Tri → Type 0
 IsLaneValue Loading netlist loaded var value = value ≡ Unknown
 IsLaneValue Completed netlist loaded var value =
-    (start : List Bool) → IsAcceptedStart netlist loaded.listed start → value ≡ tri_of (bit_at start var)
+    (start : List Bool) → IsAcceptedStart netlist loaded.listed start →
+    value ≡ tri_of (bit_at start var)
 IsLaneValue Spread netlist loaded var value =
     (start : List Bool) (rounds : ℕ) → IsAcceptedStart netlist loaded.listed start →
     AreRounds (algorithm_a (network_of netlist) loaded.input start) rounds →
@@ -65,8 +67,15 @@ IsLaneValue Spread netlist loaded var value =
 IsLaneValue Settled netlist loaded var value =
     (start : List Bool) (rounds rest : ℕ) → IsAcceptedStart netlist loaded.listed start →
     AreRounds (algorithm_a (network_of netlist) loaded.input start) rounds →
-    AreRounds (algorithm_b (network_of netlist) loaded.input (algorithm_a (network_of netlist) loaded.input start rounds)) rest →
-    value ≡ value_at (algorithm_b (network_of netlist) loaded.input (algorithm_a (network_of netlist) loaded.input start rounds) rest) var
+    AreRounds
+    (algorithm_b (network_of netlist) loaded.input
+    (algorithm_a (network_of netlist) loaded.input start rounds))
+    rest →
+    value
+    ≡ value_at
+    (algorithm_b (network_of netlist) loaded.input
+    (algorithm_a (network_of netlist) loaded.input start rounds) rest)
+    var
 
 -- what `get` says of a lane, whatever its listed values give: its value in the filled start, in what Algorithm A makes of it, and
 -- in what it settles to under the new input
@@ -76,7 +85,8 @@ IsFilledValue Completed netlist loaded var value =
     (first : List Tri) → IsFilledStart netlist loaded.listed first → value ≡ value_at first var
 IsFilledValue Spread netlist loaded var value =
     (first spread : List Tri) → IsFilledStart netlist loaded.listed first →
-    IsResult (algorithm_a_from (network_of netlist) loaded.input first) spread → value ≡ value_at spread var
+    IsResult (algorithm_a_from (network_of netlist) loaded.input first) spread →
+    value ≡ value_at spread var
 IsFilledValue Settled netlist loaded var value =
     (first settled : List Tri) → IsFilledStart netlist loaded.listed first →
     SettlesTo (network_of netlist) loaded.input first settled → value ≡ value_at settled var
@@ -91,8 +101,14 @@ abbrev pub IsUnsettled : Netlist → Loaded → Bool → Type 0
 IsUnsettled netlist loaded answer =
     (start : List Bool) (rounds rest : ℕ) → IsAcceptedStart netlist loaded.listed start →
     AreRounds (algorithm_a (network_of netlist) loaded.input start) rounds →
-    AreRounds (algorithm_b (network_of netlist) loaded.input (algorithm_a (network_of netlist) loaded.input start rounds)) rest →
-    HasUnknown (algorithm_b (network_of netlist) loaded.input (algorithm_a (network_of netlist) loaded.input start rounds) rest) answer
+    AreRounds
+    (algorithm_b (network_of netlist) loaded.input
+    (algorithm_a (network_of netlist) loaded.input start rounds))
+    rest →
+    HasUnknown
+    (algorithm_b (network_of netlist) loaded.input
+    (algorithm_a (network_of netlist) loaded.input start rounds) rest)
+    answer
 
 -- what `is_unsettled` says of a lane, whatever its listed values give
 abbrev pub LeavesUnknown : Netlist → Loaded → Bool → Type 0
@@ -108,16 +124,27 @@ LaneHolds Completed netlist loaded values lane =
 LaneHolds Spread netlist loaded values lane =
     (first : List Tri) (rounds : ℕ) → IsFilledStart netlist loaded.listed first →
     AreRounds (algorithm_a_from (network_of netlist) loaded.input first) rounds →
-    (last : List Tri) × HasLane values lane last × AreAllOf netlist (algorithm_a_from (network_of netlist) loaded.input first rounds) last
+    (last : List Tri) × HasLane values lane last
+    × AreAllOf netlist (algorithm_a_from (network_of netlist) loaded.input first rounds) last
 LaneHolds Settled netlist loaded values lane =
     (first : List Tri) (rounds rest : ℕ) → IsFilledStart netlist loaded.listed first →
     AreRounds (algorithm_a_from (network_of netlist) loaded.input first) rounds →
-    AreRounds (algorithm_b (network_of netlist) loaded.input (algorithm_a_from (network_of netlist) loaded.input first rounds)) rest →
-    (last : List Tri) × HasLane values lane last × AreAllOf netlist (algorithm_b (network_of netlist) loaded.input (algorithm_a_from (network_of netlist) loaded.input first rounds) rest) last
+    AreRounds
+    (algorithm_b (network_of netlist) loaded.input
+    (algorithm_a_from (network_of netlist) loaded.input first rounds))
+    rest →
+    (last : List Tri) × HasLane values lane last
+    × AreAllOf netlist
+    (algorithm_b (network_of netlist) loaded.input
+    (algorithm_a_from (network_of netlist) loaded.input first rounds) rest)
+    last
 
 -- Where the inputs are listed and no gate is, the filled start is what Algorithm B makes of a state that is X everywhere.
 abbrev pub ListedInputsFill : Type 0
 ListedInputsFill =
-    (netlist : Netlist) (bits : List Bool) (state : List Tri) → IsCircuit netlist → length bits ≡ netlist.inputs →
-    IsResult (algorithm_b (network_of netlist) bits (replicate (length (network_of netlist)) Unknown)) state →
+    (netlist : Netlist) (bits : List Bool) (state : List Tri) → IsCircuit netlist →
+    length bits ≡ netlist.inputs →
+    IsResult
+    (algorithm_b (network_of netlist) bits (replicate (length (network_of netlist)) Unknown))
+    state →
     IsFilledStart netlist (listed_with (length netlist.names) bits []) state

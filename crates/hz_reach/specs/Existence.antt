@@ -12,9 +12,12 @@ use Rattle.hz_reach.specs.Spread.{IsSpreadRun, IsSparingRun}
 -- of the values that the variable has in the reachable states.
 abbrev pub AIsExact : Type 0
 AIsExact =
-    (netlist : Netlist) (input own start : List Bool) (rounds i : ℕ) → IsCircuit netlist → IsState netlist start →
-    IsStable (network_of netlist) own start → AreRounds (algorithm_a (network_of netlist) input start) rounds →
-    JoinsTo (IsReachable (network_of netlist) input start) i (value_at (algorithm_a (network_of netlist) input start rounds) i)
+    (netlist : Netlist) (input own start : List Bool) (rounds i : ℕ) → IsCircuit netlist →
+    IsState netlist start →
+    IsStable (network_of netlist) own start →
+    AreRounds (algorithm_a (network_of netlist) input start) rounds →
+    JoinsTo (IsReachable (network_of netlist) input start) i
+    (value_at (algorithm_a (network_of netlist) input start rounds) i)
 
 -- Algorithm A comes to rest
 abbrev pub ResultOfAExists : Type 0
@@ -36,8 +39,10 @@ RoundsOfAAreFew =
 
 abbrev pub RoundsOfBAreFew : Type 0
 RoundsOfBAreFew =
-    (net : List Driver) (input start : List Bool) (a : List Tri) (rounds : ℕ) → length start ≡ length net →
-    IsResult (algorithm_a net input start) a → AreRounds (algorithm_b net input a) rounds → rounds ≤ length net + 1
+    (net : List Driver) (input start : List Bool) (a : List Tri) (rounds : ℕ) →
+    length start ≡ length net →
+    IsResult (algorithm_a net input start) a → AreRounds (algorithm_b net input a) rounds →
+    rounds ≤ length net + 1
 
 -- a sequence that comes to rest has ranks
 abbrev pub RanksExist : Type 0
@@ -54,14 +59,16 @@ SettlingRoundsExist =
 -- From every stable start of a circuit, under every input, there is a spread run
 abbrev pub SpreadRunExists : Type 0
 SpreadRunExists =
-    (netlist : Netlist) (input start : List Bool) (a : List Tri) → IsCircuit netlist → IsStableStart netlist start →
+    (netlist : Netlist) (input start : List Bool) (a : List Tri) → IsCircuit netlist →
+    IsStableStart netlist start →
     IsResult (algorithm_a (network_of netlist) input start) a →
     (steps : List (List ℕ)) × IsSpreadRun (network_of netlist) input start a steps
 
 -- and one in which the wires stay that it does not need
 abbrev pub SparingRunExists : Type 0
 SparingRunExists =
-    (netlist : Netlist) (input start : List Bool) (a : List Tri) (ranks : List ℕ) → IsCircuit netlist →
+    (netlist : Netlist) (input start : List Bool) (a : List Tri) (ranks : List ℕ) →
+    IsCircuit netlist →
     IsStableStart netlist start → IsResult (algorithm_a (network_of netlist) input start) a →
     AreRanks (algorithm_a (network_of netlist) input start) a ranks →
     (steps : List (List ℕ)) × IsSparingRun (network_of netlist) input start a ranks steps

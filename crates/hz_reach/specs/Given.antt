@@ -10,7 +10,8 @@ use Rattle.hz_reach.specs.ScratchState.{ScratchState}
 
 -- A change goes from a start that is stable under its own inputs to an input with a bit for each input of the circuit. Algorithm A
 -- gives its result and the ranks for it.
-pub record AreResultsOfA (netlist : Netlist) (start input : List Bool) (a : List Tri) (ranks : List ℕ) : Type 0 where
+pub record AreResultsOfA (netlist : Netlist) (start input : List Bool) (a : List Tri)
+    (ranks : List ℕ) : Type 0 where
   pub begins : IsStableStart netlist start
   pub input_long : IsInput netlist input
   pub a_result : IsResult (algorithm_a (network_of netlist) input start) a

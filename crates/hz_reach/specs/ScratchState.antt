@@ -9,4 +9,5 @@ pub record ScratchState : Type 0 where
 
 -- every variable is 0 and the lists are empty
 abbrev pub blank_scratch : ℕ → ScratchState
-blank_scratch variables = record { state = replicate variables false; sorted = []; by_round = []; marked = [] }
+blank_scratch variables =
+    record { state = replicate variables false; sorted = []; by_round = []; marked = [] }

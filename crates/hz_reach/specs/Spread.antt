@@ -14,7 +14,8 @@ abbrev pub changes_in : List (List ℕ) → ℕ → ℕ
 changes_in steps i = count_by (λ flips. is_listed flips i) steps
 
 -- The spread run: it changes each variable that is X in the result of Algorithm A once, and no other variable.
-pub record IsSpreadRun (net : List Driver) (input start : List Bool) (a : List Tri) (steps : List (List ℕ)) : Type 0 where
+pub record IsSpreadRun (net : List Driver) (input start : List Bool) (a : List Tri)
+    (steps : List (List ℕ)) : Type 0 where
   pub run : IsRun net input start steps
   pub known : (i : ℕ) → IsKnown (value_at a i) → changes_in steps i ≡ 0
   pub unknown : (i : ℕ) → IsUnknown (value_at a i) → changes_in steps i ≡ 1
@@ -22,7 +23,8 @@ pub record IsSpreadRun (net : List Driver) (input start : List Bool) (a : List T
 -- A spread run in which wires may stay: each node that is X in the result of Algorithm A changes once, each wire that is
 -- X there at most once, and no other variable. A wire changes only where its source is earlier than its gate, by rank and
 -- then by number.
-pub record IsSparingRun (net : List Driver) (input start : List Bool) (a : List Tri) (ranks : List ℕ) (steps : List (List ℕ)) : Type 0 where
+pub record IsSparingRun (net : List Driver) (input start : List Bool) (a : List Tri)
+    (ranks : List ℕ) (steps : List (List ℕ)) : Type 0 where
   pub run : IsRun net input start steps
   pub known : (i : ℕ) → IsKnown (value_at a i) → changes_in steps i ≡ 0
   pub nodes : (i : ℕ) → IsUnknown (value_at a i) → IsNode net i → changes_in steps i ≡ 1

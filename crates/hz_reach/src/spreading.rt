@@ -176,7 +176,8 @@ fn turn_by_rank(net: &Net, rank: &[u32], gate: u32, scratch: &mut Scratch, run: 
     requires circuit { IsCircuit net.now }
     requires rank { AreByVariable net.now rank.now }
     requires gate { IsGateNumber net.now gate }
-    requires possible { CanTurn net.now gate (earlier_pins net.now rank.now gate) scratch.old.state }
+    requires possible { CanTurn net.now gate (earlier_pins net.now rank.now gate)
+        scratch.old.state }
     requires scratch { IsScratchFor net.now scratch.old }
     requires room { HasRoomForTurn net.now gate (earlier_pins net.now rank.now gate) false
         scratch.old.state run.old }

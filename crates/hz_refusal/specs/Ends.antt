@@ -10,19 +10,24 @@ abbrev pub written_of : {S : Type 0} → (S → Output) → S → Option (List �
 written_of output now = (output now).written
 
 -- the sink took the text that comes with the status, all of it
-abbrev pub TookWhole : {S : Type 0} → (S → Output) → (S → ℕ) → (Status → List ℕ → Type 0) → S → S → Status → Type 0
+abbrev pub TookWhole : {S : Type 0} → (S → Output) → (S → ℕ) → (Status → List ℕ → Type 0) → S → S →
+    Status → Type 0
 TookWhole output faults comes was now status =
-    (text : List ℕ) × comes status text × Took (output was) text (output now) × (faults was ≤ faults now)
+    (text : List ℕ) × comes status text × Took (output was) text (output now)
+    × (faults was ≤ faults now)
 
 -- nothing was put, or the sink took a prefix of a text that comes with some status
-abbrev pub TookFront : {S : Type 0} → (S → Output) → (S → ℕ) → (Status → List ℕ → Type 0) → S → S → Type 0
+abbrev pub TookFront : {S : Type 0} → (S → Output) → (S → ℕ) → (Status → List ℕ → Type 0) → S → S →
+    Type 0
 TookFront output faults comes was now =
     (now ≡ was)
-    ⊎ ((status : Status) × (text : List ℕ) × comes status text × TookPrefix (output was) text (output now) × (faults was ≤ faults now))
+    ⊎ ((status : Status) × (text : List ℕ) × comes status text
+    × TookPrefix (output was) text (output now) × (faults was ≤ faults now))
 
 -- The status is one whose text was put, where `comes` says which text comes with which status. Otherwise a prefix of such a text
 -- was put, and a put failed, which the sink's count shows, or memory ran out.
-abbrev pub Ends : {S : Type 0} → (S → Output) → (S → ℕ) → (Status → List ℕ → Type 0) → S → S → Status → Type 0
+abbrev pub Ends : {S : Type 0} → (S → Output) → (S → ℕ) → (Status → List ℕ → Type 0) → S → S →
+    Status → Type 0
 Ends output faults comes was now Done = TookWhole output faults comes was now Done
 Ends output faults comes was now No = TookWhole output faults comes was now No
 Ends output faults comes was now Words = TookWhole output faults comes was now Words
@@ -31,5 +36,6 @@ Ends output faults comes was now Text = TookWhole output faults comes was now Te
 Ends output faults comes was now Start = TookWhole output faults comes was now Start
 Ends output faults comes was now File = TookWhole output faults comes was now File
 Ends output faults comes was now TooLong = TookWhole output faults comes was now TooLong
-Ends output faults comes was now Sink = Rose (faults was) (faults now) × TookFront output faults comes was now
+Ends output faults comes was now Sink =
+    Rose (faults was) (faults now) × TookFront output faults comes was now
 Ends output faults comes was now Memory = TookFront output faults comes was now

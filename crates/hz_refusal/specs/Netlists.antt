@@ -18,22 +18,29 @@ has_blif_name name = is_keyword (drop (length name - 5) name) (codes ".blif")
 
 -- the answer among the faults of a text, which is in the format of its file's name
 abbrev pub IsLeastNetlistFault : (name bytes : List ℕ) → NetlistFault → Type 0
-IsLeastNetlistFault name bytes (Bench fault) = (has_blif_name name ≡ false) × bench.IsLeastFault bytes fault
-IsLeastNetlistFault name bytes (Blif fault) = (has_blif_name name ≡ true) × blif.IsLeastFault bytes fault
+IsLeastNetlistFault name bytes (Bench fault) =
+    (has_blif_name name ≡ false) × bench.IsLeastFault bytes fault
+IsLeastNetlistFault name bytes (Blif fault) =
+    (has_blif_name name ≡ true) × blif.IsLeastFault bytes fault
 
 -- the first text is refused with this line
 abbrev pub NetlistRefused : (name bytes line : List ℕ) → Type 0
-NetlistRefused name bytes line = (fault : NetlistFault) × IsLeastNetlistFault name bytes fault × (line ≡ netlist_fault_line fault)
+NetlistRefused name bytes line =
+    (fault : NetlistFault) × IsLeastNetlistFault name bytes fault
+    × (line ≡ netlist_fault_line fault)
 
 -- what is answered in place of a circuit: the least fault, or that memory ran out
 abbrev pub IsNetlistRefusal : (name bytes : List ℕ) → NetlistFault → Type 0
-IsNetlistRefusal name bytes (Bench fault) = (has_blif_name name ≡ false) × bench.IsNetlistRefusal bytes fault
-IsNetlistRefusal name bytes (Blif fault) = (has_blif_name name ≡ true) × blif.IsBlifRefusal bytes fault
+IsNetlistRefusal name bytes (Bench fault) =
+    (has_blif_name name ≡ false) × bench.IsNetlistRefusal bytes fault
+IsNetlistRefusal name bytes (Blif fault) =
+    (has_blif_name name ≡ true) × blif.IsBlifRefusal bytes fault
 
 -- a text is that of this circuit, where it is read as BLIF or else in the .bench format
 abbrev pub IsTextIn : (is_blif : Bool) → (bytes : List ℕ) → Netlist → Type 0
 IsTextIn true bytes netlist = blif.IsFaultless bytes × (netlist ≡ blif_circuit bytes)
-IsTextIn false bytes netlist = bench.IsFaultless bytes × (netlist ≡ circuit_of_statements (statements_of bytes))
+IsTextIn false bytes netlist =
+    bench.IsFaultless bytes × (netlist ≡ circuit_of_statements (statements_of bytes))
 
 -- the first text is that of this circuit
 abbrev pub IsNetlistText : (name bytes : List ℕ) → Netlist → Type 0
@@ -46,4 +53,6 @@ KeepsItsCovers name bytes = has_blif_name name ≡ true → KeepsCovers bytes
 
 -- each text of a circuit is that of a whole one, and keeps its covers
 abbrev pub TextsAreCircuits : Type 0
-TextsAreCircuits = (name bytes : List ℕ) (netlist : Netlist) → IsNetlistText name bytes netlist → IsCircuit netlist × IsWhole netlist × KeepsItsCovers name bytes
+TextsAreCircuits =
+    (name bytes : List ℕ) (netlist : Netlist) → IsNetlistText name bytes netlist →
+    IsCircuit netlist × IsWhole netlist × KeepsItsCovers name bytes

@@ -15,7 +15,9 @@ use Rattle.hz_text.specs.declared.fault.TextFault.TheVariants as fault
 
 -- words that name no job
 unfoldable pub words_line : List ℕ
-words_line = line_of (codes "refused: words; usage: hazard JOB FIRST [SECOND] [--cap N] [--show nodes|all]" ∷ [])
+words_line =
+    line_of
+    (codes "refused: words; usage: hazard JOB FIRST [SECOND] [--cap N] [--show nodes|all]" ∷ [])
 
 -- a file by its place
 abbrev pub place_word : Place → List ℕ
@@ -32,7 +34,8 @@ long_line place = line_of (codes "refused: " ∷ place_word place ∷ codes " fi
 
 -- a fault at a line of a text, by what the text is called
 unfoldable pub fault_line : List ℕ → ℕ → List ℕ → List ℕ
-fault_line called line fault = line_of (codes "refused: " ∷ called ∷ codes " line " ∷ decimal line ∷ fault ∷ [])
+fault_line called line fault =
+    line_of (codes "refused: " ∷ called ∷ codes " line " ∷ decimal line ∷ fault ∷ [])
 
 -- a fault at a line of a netlist, with a number
 unfoldable pub counted_line : ℕ → List ℕ → ℕ → List ℕ
@@ -46,21 +49,27 @@ variables_line variables = line_of (codes "refused: netlist: variables " ∷ dec
 -- a node for which a text has no value
 unfoldable pub missing_line : List ℕ → Netlist → ℕ → List ℕ
 missing_line called netlist node =
-    line_of (codes "refused: " ∷ called ∷ codes ": no value for " ∷ node_name netlist.names node ∷ [])
+    line_of
+    (codes "refused: " ∷ called ∷ codes ": no value for " ∷ node_name netlist.names node ∷ [])
 
 -- a count of the network's size that a text tells wrongly
 unfoldable pub mismatch_line : List ℕ → ℕ → ℕ → ℕ → List ℕ
 mismatch_line called line told real =
-    line_of (codes "refused: " ∷ called ∷ codes " line " ∷ decimal line ∷ codes ": net " ∷ decimal told ∷ codes ", not " ∷ decimal real ∷ [])
+    line_of
+    (codes "refused: " ∷ called ∷ codes " line " ∷ decimal line ∷ codes ": net " ∷ decimal told
+    ∷ codes ", not " ∷ decimal real ∷ [])
 
 -- a fault of a netlist in the .bench format; if memory ran out there is no line
 abbrev pub bench_fault_line : BenchFault → List ℕ
 bench_fault_line (bench.Form line) = fault_line (codes "netlist") line (codes ": form")
 bench_fault_line (bench.Name line) = fault_line (codes "netlist") line (codes ": name too long")
-bench_fault_line (bench.KindUnknown line) = fault_line (codes "netlist") line (codes ": unknown kind")
-bench_fault_line (bench.Twice line first) = counted_line line (codes ": defined twice, first on line ") first
+bench_fault_line (bench.KindUnknown line) =
+    fault_line (codes "netlist") line (codes ": unknown kind")
+bench_fault_line (bench.Twice line first) =
+    counted_line line (codes ": defined twice, first on line ") first
 bench_fault_line (bench.Pins line count) = counted_line line (codes ": pins ") count
-bench_fault_line (bench.Undefined line) = fault_line (codes "netlist") line (codes ": undefined name")
+bench_fault_line (bench.Undefined line) =
+    fault_line (codes "netlist") line (codes ": undefined name")
 bench_fault_line (bench.TooMany variables) = variables_line variables
 bench_fault_line bench.Memory = []
 
@@ -69,7 +78,8 @@ abbrev pub blif_fault_line : BlifFault → List ℕ
 blif_fault_line (blif.Form line) = fault_line (codes "netlist") line (codes ": form")
 blif_fault_line (blif.Name line) = fault_line (codes "netlist") line (codes ": name too long")
 blif_fault_line (blif.Construct line) = fault_line (codes "netlist") line (codes ": construct")
-blif_fault_line (blif.Twice line first) = counted_line line (codes ": defined twice, first on line ") first
+blif_fault_line (blif.Twice line first) =
+    counted_line line (codes ": defined twice, first on line ") first
 blif_fault_line (blif.Cover line) = fault_line (codes "netlist") line (codes ": cover")
 blif_fault_line (blif.Pins line count) = counted_line line (codes ": pins ") count
 blif_fault_line (blif.Constant line) = fault_line (codes "netlist") line (codes ": constant")
@@ -85,8 +95,10 @@ netlist_fault_line (Blif fault) = blif_fault_line fault
 -- a fault of a text that is called so, on a circuit; if memory ran out there is no line
 abbrev pub text_fault_line : List ℕ → Netlist → TextFault → List ℕ
 text_fault_line called netlist (fault.Form line) = fault_line called line (codes ": form")
-text_fault_line called netlist (fault.Unknown line) = fault_line called line (codes ": unknown name")
-text_fault_line called netlist (fault.Twice line) = fault_line called line (codes ": assigned twice")
+text_fault_line called netlist (fault.Unknown line) =
+    fault_line called line (codes ": unknown name")
+text_fault_line called netlist (fault.Twice line) =
+    fault_line called line (codes ": assigned twice")
 text_fault_line called netlist (fault.Missing node) = missing_line called netlist node
 text_fault_line called netlist (fault.Bit line) = fault_line called line (codes ": bit")
 text_fault_line called netlist (fault.Order line) = fault_line called line (codes ": order")
@@ -100,4 +112,5 @@ open_line netlist gate = line_of (codes "refused: start: open " ∷ node_name ne
 
 -- a gate that is unstable at the start
 unfoldable pub unstable_line : Netlist → ℕ → List ℕ
-unstable_line netlist gate = line_of (codes "refused: start: unstable " ∷ node_name netlist.names gate ∷ [])
+unstable_line netlist gate =
+    line_of (codes "refused: start: unstable " ∷ node_name netlist.names gate ∷ [])

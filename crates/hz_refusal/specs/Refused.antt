@@ -27,11 +27,13 @@ LoadPrints place load.Memory own written = ⊥
 
 -- what is written of a fault of a netlist in the .bench format: nothing if memory ran out
 abbrev pub BenchPrints : BenchFault → Status → List ℕ → Type 0
-BenchPrints fault own written = (fault ≢ bench.Memory) × Prints status.Netlist (bench_fault_line fault) own written
+BenchPrints fault own written =
+    (fault ≢ bench.Memory) × Prints status.Netlist (bench_fault_line fault) own written
 
 -- what is written of a fault of a netlist in BLIF: nothing if memory ran out
 abbrev pub BlifPrints : BlifFault → Status → List ℕ → Type 0
-BlifPrints fault own written = (fault ≢ blif.Memory) × Prints status.Netlist (blif_fault_line fault) own written
+BlifPrints fault own written =
+    (fault ≢ blif.Memory) × Prints status.Netlist (blif_fault_line fault) own written
 
 -- what is written of a fault of a netlist's text
 abbrev pub NetlistPrints : NetlistFault → Status → List ℕ → Type 0
@@ -40,12 +42,15 @@ NetlistPrints (Blif fault) own written = BlifPrints fault own written
 
 -- what is written of a fault of a text that is called so: nothing if memory ran out
 abbrev pub TextPrints : List ℕ → Netlist → TextFault → Status → List ℕ → Type 0
-TextPrints called netlist fault own written = (fault ≢ text.Memory) × Prints status.Text (text_fault_line called netlist fault) own written
+TextPrints called netlist fault own written =
+    (fault ≢ text.Memory) × Prints status.Text (text_fault_line called netlist fault) own written
 
 -- what is written of a start that can't be completed: nothing if memory ran out
 abbrev pub StartPrints : Netlist → StartFault → Status → List ℕ → Type 0
-StartPrints netlist (start.Open gate) own written = Prints status.Start (open_line netlist gate) own written
-StartPrints netlist (start.Unstable gate) own written = Prints status.Start (unstable_line netlist gate) own written
+StartPrints netlist (start.Open gate) own written =
+    Prints status.Start (open_line netlist gate) own written
+StartPrints netlist (start.Unstable gate) own written =
+    Prints status.Start (unstable_line netlist gate) own written
 StartPrints netlist start.Memory own written = ⊥
 
 -- the node that a fault of a text names, if it names one

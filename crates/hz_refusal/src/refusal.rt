@@ -75,7 +75,8 @@ fn put_at<'p, K: Sink>(
     line: u32,
     fault: &'p [u8],
 ) -> Result<(), PutFault>
-    ensures { Wrote K.output K.faults (fault_line called.now line fault.now) out.old out.new result }
+    ensures { Wrote K.output K.faults (fault_line called.now line fault.now) out.old out.new
+        result }
 {
     put_line(
         out,
@@ -163,7 +164,8 @@ fn put_missing<'p, K: Sink>(
     node: u32,
 ) -> Result<(), PutFault>
     requires { node < length circuit.now.names }
-    ensures { Wrote K.output K.faults (missing_line called.now circuit.now node) out.old out.new result }
+    ensures { Wrote K.output K.faults (missing_line called.now circuit.now node) out.old out.new
+        result }
 {
     put_line(
         out,
@@ -185,7 +187,8 @@ fn put_mismatch<K: Sink>(
     told: u32,
     real: u32,
 ) -> Result<(), PutFault>
-    ensures { Wrote K.output K.faults (mismatch_line called.now line told real) out.old out.new result }
+    ensures { Wrote K.output K.faults (mismatch_line called.now line told real) out.old out.new
+        result }
 {
     put_line(
         out,
@@ -210,7 +213,8 @@ fn put_text_fault<K: Sink>(
     fault: TextFault,
 ) -> Result<(), PutFault>
     requires { NamesNode circuit.now (named_node fault) }
-    ensures { Wrote K.output K.faults (text_fault_line called.now circuit.now fault) out.old out.new result }
+    ensures { Wrote K.output K.faults (text_fault_line called.now circuit.now fault) out.old out.new
+        result }
 {
     match fault {
         TextFault::Form { line } => put_at(out, called, line, b": form"),
@@ -298,7 +302,8 @@ pub fn refuse_text<K: Sink>(
     fault: TextFault,
 ) -> Status
     requires { NamesNode circuit.now (named_node fault) }
-    ensures { Ends K.output K.faults (TextPrints called.now circuit.now fault) out.old out.new result }
+    ensures { Ends K.output K.faults (TextPrints called.now circuit.now fault) out.old out.new
+        result }
 {
     match fault {
         TextFault::Memory => Status::Memory,

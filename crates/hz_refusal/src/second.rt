@@ -29,7 +29,8 @@ pub trait OnScript {
     fn with_script<K: Sink>(&self, alloc: Global, net: &Net, script: &Script, out: &mut K) -> Status
         requires circuit { IsCircuit net.now }
         requires script { IsScriptFor net.now script.now }
-        ensures { Ends K.output K.faults (judges self.now net.now script.now) out.old out.new result };
+        ensures { Ends K.output K.faults (judges self.now net.now script.now) out.old out.new
+            result };
 }
 
 /// What a job does with a run text. `judges` says which text comes with which status.
@@ -39,7 +40,8 @@ pub trait OnRuns {
     /// Does the job's part with a run text that is read.
     fn with_runs<K: Sink>(&self, alloc: Global, net: &Net, runs: &RunText, out: &mut K) -> Status
         requires { IsRunTextFor net.now runs.now }
-        ensures { Ends K.output K.faults (judges self.now net.now runs.now) out.old out.new result };
+        ensures { Ends K.output K.faults (judges self.now net.now runs.now) out.old out.new
+            result };
 }
 
 /// What a job does with patterns. `judges` says which text comes with which status.
@@ -55,7 +57,8 @@ pub trait OnPatterns {
         out: &mut K,
     ) -> Status
         requires { ArePatternsFor net.now patterns.now }
-        ensures { Ends K.output K.faults (judges self.now net.now patterns.now) out.old out.new result };
+        ensures { Ends K.output K.faults (judges self.now net.now patterns.now) out.old out.new
+            result };
 }
 
 // Reads a script, and does a job with it.
@@ -67,7 +70,8 @@ pub fn on_script<J: OnScript, K: Sink>(
     out: &mut K,
 ) -> Status
     requires { length text.now ≤ most_text_bytes }
-    ensures { Ends K.output K.faults (OfScript (J.judges job.now) net.now text.now) out.old out.new result }
+    ensures { Ends K.output K.faults (OfScript (J.judges job.now) net.now text.now) out.old out.new
+        result }
 {
     let circuit = net.circuit();
     match read_script(alloc, circuit, text) {
@@ -85,7 +89,8 @@ pub fn on_runs<J: OnRuns, K: Sink>(
     out: &mut K,
 ) -> Status
     requires { length text.now ≤ most_text_bytes }
-    ensures { Ends K.output K.faults (OfRuns (J.judges job.now) net.now text.now) out.old out.new result }
+    ensures { Ends K.output K.faults (OfRuns (J.judges job.now) net.now text.now) out.old out.new
+        result }
 {
     match read_run(alloc, net, text) {
         Ok(runs) => job.with_runs(alloc, net, &runs, out),
@@ -102,7 +107,8 @@ pub fn on_patterns<J: OnPatterns, K: Sink>(
     out: &mut K,
 ) -> Status
     requires { vec_len text ≤ most_text_bytes }
-    ensures { Ends K.output K.faults (OfPatterns (J.judges job.now) net.now text.items) out.old out.new result }
+    ensures { Ends K.output K.faults (OfPatterns (J.judges job.now) net.now text.items) out.old
+        out.new result }
 {
     let circuit = net.circuit();
     match read_and_free(alloc, circuit, text) {

@@ -21,7 +21,8 @@ last_dump netlist runs = dump_text netlist (start_of netlist runs) (steps_of (la
 
 -- the words are those of a dump that means this state and the steps of the last run
 abbrev pub MeansLast : Netlist → RunTextOf → List (List ℕ) → Type 0
-MeansLast netlist runs words = IsDump netlist words (start_of netlist runs) (steps_of (last_run runs.runs))
+MeansLast netlist runs words =
+    IsDump netlist words (start_of netlist runs) (steps_of (last_run runs.runs))
 
 -- the last run is written, and what is written means it
 abbrev pub IsLastWritten : Netlist → RunTextOf → Status → List ℕ → Type 0

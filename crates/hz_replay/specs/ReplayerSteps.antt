@@ -34,7 +34,8 @@ pub record MakesSteps (was now : Replayer) (steps : List (List ℕ)) : Type 0 wh
   pub stands : (earlier : List (List ℕ)) → StandsFor was earlier → StandsFor now (earlier ++ steps)
 
 -- why a cycle behind so many steps is refused: one of its steps is, or they are no nontransient cycle
-abbrev pub IsRefusedFrom : ℕ → List Driver → List Bool → List Bool → List (List ℕ) → RunRefusal → Type 0
+abbrev pub IsRefusedFrom : ℕ → List Driver → List Bool → List Bool → List (List ℕ) → RunRefusal →
+    Type 0
 IsRefusedFrom before net input start steps (Step number fault) =
     (own : ℕ) × (number ≡ before + own) × IsRefusedStep net input start steps own fault
 IsRefusedFrom before net input start steps (Cycle fault) =

@@ -32,7 +32,8 @@ pub record IsAcceptedRun (net : List Driver) (input start : List Bool) (run : Ru
 
 -- A step is refused, by its number from 1: the steps before it are a run from the start, and it is no step from the state
 -- in which they end.
-pub record IsRefusedStep (net : List Driver) (input start : List Bool) (steps : List (List ℕ)) (number : ℕ) (fault : StepFault) : Type 0 where
+pub record IsRefusedStep (net : List Driver) (input start : List Bool) (steps : List (List ℕ))
+    (number : ℕ) (fault : StepFault) : Type 0 where
   pub before : List (List ℕ)
   pub flips : List ℕ
   pub after : List (List ℕ)
@@ -43,7 +44,8 @@ pub record IsRefusedStep (net : List Driver) (input start : List Bool) (steps : 
 
 -- The cycle of a run is refused: all steps of the run are steps, and those of the cycle are no nontransient cycle from the
 -- state in which the lead ends.
-pub record IsRefusedCycle (net : List Driver) (input start : List Bool) (run : RunOf) (fault : CycleFault) : Type 0 where
+pub record IsRefusedCycle (net : List Driver) (input start : List Bool) (run : RunOf)
+    (fault : CycleFault) : Type 0 where
   pub steps : List (List ℕ)
   pub is_cycle : run.cycle ≡ Some steps
   pub all_steps : IsRun net input start (run.lead ++ steps)
@@ -51,11 +53,13 @@ pub record IsRefusedCycle (net : List Driver) (input start : List Bool) (run : R
 
 -- why a run is refused: for a step, numbered through lead and cycle, or for its cycle
 abbrev pub IsRefusedRun : List Driver → List Bool → List Bool → RunOf → RunRefusal → Type 0
-IsRefusedRun net input start run (Step number fault) = IsRefusedStep net input start (steps_of run) number fault
+IsRefusedRun net input start run (Step number fault) =
+    IsRefusedStep net input start (steps_of run) number fault
 IsRefusedRun net input start run (Cycle fault) = IsRefusedCycle net input start run fault
 
 -- The first refusal, of the run with this number, counted from 1: all runs before it are accepted.
-pub record IsFirstRefusal (net : List Driver) (input start : List Bool) (runs : List RunOf) (number : ℕ) (refused : RunRefusal) : Type 0 where
+pub record IsFirstRefusal (net : List Driver) (input start : List Bool) (runs : List RunOf)
+    (number : ℕ) (refused : RunRefusal) : Type 0 where
   pub before : List RunOf
   pub run : RunOf
   pub after : List RunOf
@@ -70,7 +74,8 @@ start_of netlist text = expansion_of netlist text.nodes
 
 -- each run of a text is accepted
 abbrev pub AreAccepted : Netlist → RunTextOf → Type 0
-AreAccepted netlist text = All (IsAcceptedRun (network_of netlist) text.input (start_of netlist text)) text.runs
+AreAccepted netlist text =
+    All (IsAcceptedRun (network_of netlist) text.input (start_of netlist text)) text.runs
 
 -- this is the first refusal of a text
 abbrev pub IsRefusalOfText : Netlist → RunTextOf → ℕ → RunRefusal → Type 0

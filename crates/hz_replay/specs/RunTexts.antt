@@ -15,7 +15,8 @@ use Rattle.hz_replay.specs.Verdict.{IsReplayOutcome, accepted_line}
 abbrev pub EndsReplay : Netlist → RunTextOf → Status → Type 0
 EndsReplay netlist runs own =
     (AreAccepted netlist runs × (own ≡ status.Done))
-    ⊎ ((number : ℕ) × (why : RunRefusal) × IsRefusalOfText netlist runs number why × (own ≡ status.No))
+    ⊎ ((number : ℕ) × (why : RunRefusal) × IsRefusalOfText netlist runs number why
+    × (own ≡ status.No))
 
 -- what the conversion of a run text comes to: the same runs, printed
 abbrev pub IsConvertOutcome : Netlist → RunTextOf → Status → List ℕ → Type 0

@@ -15,7 +15,11 @@ use hz_text::printed_runs_are_read;
 /// are printed as a run text to which the job `replay` answers `yes`, with the counts of these runs. There may be no more
 /// than 2,000,000 steps in all, and no more than 2,000,000 variables in steps.
 pub fn accepted_runs_replay()
-    ensures { (netlist : Netlist) (value : RunTextOf) → IsCircuit netlist → length value.nodes ≡ length netlist.names → IsInput netlist value.input → length (all_steps value.runs) ≤ most_steps → flip_count (all_steps value.runs) ≤ most_steps → AreAccepted netlist value → ReplaysAs netlist (run_text_printed netlist value) value.runs }
+    ensures { (netlist : Netlist) (value : RunTextOf) → IsCircuit netlist →
+        length value.nodes ≡ length netlist.names → IsInput netlist value.input →
+        length (all_steps value.runs) ≤ most_steps →
+        flip_count (all_steps value.runs) ≤ most_steps → AreAccepted netlist value →
+        ReplaysAs netlist (run_text_printed netlist value) value.runs }
 {
     printed_runs_are_read();
 }

@@ -71,7 +71,8 @@ pub(crate) fn first_refusal(
     requires { IsRunTextFor net.now runs.now }
     ensures outcome { IfOk result (λ first. MatchOption first (AreAccepted net.now runs.now)
         (λ refused. IsRefusalOfText net.now runs.now refused.run refused.why)) }
-    ensures named { IfOk result (λ first. IfSome first (λ refused. NamesVariable net.now (named_variable refused.why))) }
+    ensures named { IfOk result
+        (λ first. IfSome first (λ refused. NamesVariable net.now (named_variable refused.why))) }
 {
     let start = expand_start(alloc, net, runs.nodes())?;
     let mut replay = Replay::new(alloc, net)?;
@@ -98,8 +99,10 @@ fn replay_runs(replay: &mut Replay, text: &RunText, start: &[bool]) -> Result<()
     requires text { IsRunTextFor replay.old.circuit text.now }
     requires start { IsState replay.old.circuit start.now }
     ensures { MatchResult result
-        (λ _. All (IsAcceptedRun (network_of replay.old.circuit) text.now.input start.now) text.now.runs)
-        (λ refused. IsFirstRefusal (network_of replay.old.circuit) text.now.input start.now text.now.runs refused.run refused.why) }
+        (λ _. All (IsAcceptedRun (network_of replay.old.circuit) text.now.input start.now)
+        text.now.runs)
+        (λ refused. IsFirstRefusal (network_of replay.old.circuit) text.now.input start.now
+        text.now.runs refused.run refused.why) }
 {
     replay.begin(text.input(), start);
     for number in 0..text.runs() {
@@ -119,12 +122,16 @@ fn replay_runs(replay: &mut Replay, text: &RunText, start: &[bool]) -> Result<()
 
 // Replays a run from the present state.
 fn replay_run(replay: &mut Replay, lead: &Run, cycle: Option<&Run>) -> Result<(), RunRefusal>
-    requires variables { AreVariables replay.old.circuit (steps_of (run_of lead.now.steps (option_map (λ run. run.now.steps) cycle))) }
-    requires few { length (steps_of (run_of lead.now.steps (option_map (λ run. run.now.steps) cycle))) ≤ most_steps }
+    requires variables { AreVariables replay.old.circuit
+        (steps_of (run_of lead.now.steps (option_map (λ run. run.now.steps) cycle))) }
+    requires few { length
+        (steps_of (run_of lead.now.steps (option_map (λ run. run.now.steps) cycle))) ≤ most_steps }
     ensures begin { KeepsInitialState replay.old replay.new }
     ensures outcome { MatchResult result
-        (λ _. IsAcceptedRun (network_of replay.old.circuit) replay.old.input replay.old.state (run_of lead.now.steps (option_map (λ run. run.now.steps) cycle.entry)))
-        (λ why. IsRefusedRun (network_of replay.old.circuit) replay.old.input replay.old.state (run_of lead.now.steps (option_map (λ run. run.now.steps) cycle.entry)) why) }
+        (λ _. IsAcceptedRun (network_of replay.old.circuit) replay.old.input replay.old.state
+        (run_of lead.now.steps (option_map (λ run. run.now.steps) cycle.entry)))
+        (λ why. IsRefusedRun (network_of replay.old.circuit) replay.old.input replay.old.state
+        (run_of lead.now.steps (option_map (λ run. run.now.steps) cycle.entry)) why) }
 {
     match make_steps(replay, lead) {
         Ok(()) => {}
@@ -147,8 +154,10 @@ fn replay_cycle(replay: &mut Replay, cycle: &Run, before: usize) -> Result<(), R
     requires few { before + length cycle.now.steps ≤ most_steps }
     ensures begin { KeepsInitialState replay.old replay.new }
     ensures outcome { MatchResult result
-        (λ _. IsNontransient (network_of replay.old.circuit) replay.old.input replay.old.state cycle.now.steps)
-        (λ why. IsRefusedFrom before (network_of replay.old.circuit) replay.old.input replay.old.state cycle.now.steps why) }
+        (λ _. IsNontransient (network_of replay.old.circuit) replay.old.input replay.old.state
+        cycle.now.steps)
+        (λ why. IsRefusedFrom before (network_of replay.old.circuit) replay.old.input
+        replay.old.state cycle.now.steps why) }
 {
     replay.mark();
     match make_steps(replay, cycle) {
@@ -172,7 +181,8 @@ fn make_steps(replay: &mut Replay, run: &Run) -> Result<(), RefusedStep>
     ensures begin { KeepsInitialState replay.old replay.new }
     ensures outcome { MatchResult result
         (λ _. MakesSteps replay.old replay.new run.now.steps)
-        (λ refused. IsRefusedStep (network_of replay.old.circuit) replay.old.input replay.old.state run.now.steps refused.number refused.fault) }
+        (λ refused. IsRefusedStep (network_of replay.old.circuit) replay.old.input replay.old.state
+        run.now.steps refused.number refused.fault) }
 {
     for index in 0..run.steps() {
         match replay.step(run.step(index)) {

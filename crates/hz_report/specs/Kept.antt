@@ -9,7 +9,8 @@ use Rattle.hz_report.specs.declared.kept.Kept.{Kept}
 -- parts, the first of which is that of a node: each has a stem, which is the node's own, a middle and an end
 abbrev pub parts_text : (ℕ → List ℕ) → List ℕ → ℕ → List (List ℕ) → List ℕ
 parts_text stem tail node [] = []
-parts_text stem tail node (middle ∷ middles) = (stem node ++ (middle ++ tail)) ++ parts_text stem tail (node + 1) middles
+parts_text stem tail node (middle ∷ middles) =
+    (stem node ++ (middle ++ tail)) ++ parts_text stem tail (node + 1) middles
 
 -- where the part of a node begins, if each has so many bytes behind its stem
 abbrev pub part_place : (ℕ → List ℕ) → ℕ → ℕ → ℕ
@@ -22,14 +23,17 @@ AreWide width [] = Unit {0}
 AreWide width (middle ∷ middles) = (length middle ≡ width) × AreWide width middles
 
 -- a text has these middles, and it is told where each part begins, and where the last one ends
-pub record ArePartsOf (stem : ℕ → List ℕ) (tail : List ℕ) (width count : ℕ) (middles : List (List ℕ)) (text begins : List ℕ) : Type 0 where
+pub record ArePartsOf (stem : ℕ → List ℕ) (tail : List ℕ) (width count : ℕ)
+    (middles : List (List ℕ)) (text begins : List ℕ) : Type 0 where
   pub long : length middles ≡ count
   pub wide : AreWide width middles
   pub text_is : text ≡ parts_text stem tail 0 middles
-  pub begins_are : begins ≡ map (part_place stem (width + length tail)) (range_with_len 0 (count + 1))
+  pub begins_are : begins
+      ≡ map (part_place stem (width + length tail)) (range_with_len 0 (count + 1))
 
 -- it has some middles
-pub record AreParts (stem : ℕ → List ℕ) (tail : List ℕ) (width count : ℕ) (text begins : List ℕ) : Type 0 where
+pub record AreParts (stem : ℕ → List ℕ) (tail : List ℕ) (width count : ℕ)
+    (text begins : List ℕ) : Type 0 where
   pub middles : List (List ℕ)
   pub are : ArePartsOf stem tail width count middles text begins
 
@@ -39,7 +43,8 @@ bit_stem netlist node = 32 ∷ node_name netlist.names node ++ 61 ∷ []
 
 -- lines of so many nodes, each with its name and a common row
 abbrev pub AreRowParts : Netlist → ℕ → List ℕ → List ℕ → Type 0
-AreRowParts netlist count text begins = AreParts (node_name netlist.names) newline 33 count text begins
+AreRowParts netlist count text begins =
+    AreParts (node_name netlist.names) newline 33 count text begins
 
 -- words of so many nodes, each with its name and a bit
 abbrev pub AreBitParts : Netlist → ℕ → List ℕ → List ℕ → Type 0
@@ -48,12 +53,14 @@ AreBitParts netlist count text begins = AreParts (bit_stem netlist) [] 1 count t
 -- words of all nodes with these bits
 abbrev pub AreBits : Netlist → List Bool → List ℕ → List ℕ → Type 0
 AreBits netlist bits text begins =
-    ArePartsOf (bit_stem netlist) [] 1 (length netlist.names) (map (λ bit. letter_of bit ∷ []) bits) text begins
+    ArePartsOf (bit_stem netlist) [] 1 (length netlist.names) (map (λ bit. letter_of bit ∷ []) bits)
+    text begins
 
 -- a line and a word for each node
 pub record IsKept (netlist : Netlist) (kept : Kept) : Type 0 where
   pub rows : AreRowParts netlist (length netlist.names) kept.rows.text.items kept.rows.begins.items
-  pub bits : AreBitParts netlist (length netlist.names) kept.start.text.items kept.start.begins.items
+  pub bits : AreBitParts netlist (length netlist.names) kept.start.text.items
+      kept.start.begins.items
 
 -- whole lines: if there are any, the last one has its end
 abbrev pub AreLines : List ℕ → Type 0

@@ -8,19 +8,33 @@ use Rattle.hz_report.specs.Words.{letter_value}
 
 -- the two values that the letters at each place say
 abbrev pub values_at : List ℕ → List ℕ → List (Tri × Tri)
-values_at text places = map (λ place. (letter_value (slice_index text place), letter_value (slice_index text (place + 1)))) places
+values_at text places =
+    map
+    (λ place. (
+      letter_value (slice_index text place),
+      letter_value
+          (slice_index text (place + 1)),
+    ))
+    places
 
 abbrev pub line_of_fields : Inside → LineOf
-line_of_fields fields = record { netlist = fields.circuit.now; values = values_at fields.text.items fields.places.items }
+line_of_fields fields =
+    record {
+      netlist = fields.circuit.now;
+      values = values_at fields.text.items fields.places.items;
+    }
 
 -- where the letters of each output stand in the text, if the text of the first one begins at a start
 abbrev pub letter_places : Netlist → ℕ → List ℕ → List ℕ
 letter_places netlist start [] = []
 letter_places netlist start (node ∷ nodes) =
-    let place = start + length (output_stem netlist node) in place ∷ letter_places netlist (place + 2) nodes
+    let place = start + length (output_stem netlist node) in
+    place ∷ letter_places netlist (place + 2) nodes
 
 -- the words of all outputs, and where the letters of each stand
 pub record HoldsLine (fields : Inside) : Type 0 where
   pub circuit : IsCircuit fields.circuit.now
-  pub text : fields.text.items ≡ output_words fields.circuit.now fields.circuit.now.outputs (values_at fields.text.items fields.places.items)
+  pub text : fields.text.items
+      ≡ output_words fields.circuit.now fields.circuit.now.outputs
+      (values_at fields.text.items fields.places.items)
   pub places : fields.places.items ≡ letter_places fields.circuit.now 0 fields.circuit.now.outputs

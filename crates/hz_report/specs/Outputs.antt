@@ -12,21 +12,25 @@ output_stem netlist node = (32 ∷ node_name netlist.names node) ++ 61 ∷ []
 
 -- an output with its two values: that, and both letters
 abbrev pub output_word : Netlist → ℕ → Tri × Tri → List ℕ
-output_word netlist node values = output_stem netlist node ++ (tri_letter values.0 ++ tri_letter values.1)
+output_word netlist node values =
+    output_stem netlist node ++ (tri_letter values.0 ++ tri_letter values.1)
 
 -- outputs, each with its two values
 abbrev pub output_words : Netlist → List ℕ → List (Tri × Tri) → List ℕ
 output_words netlist [] values = []
 output_words netlist (node ∷ nodes) [] = []
-output_words netlist (node ∷ nodes) (pair ∷ values) = output_word netlist node pair ++ output_words netlist nodes values
+output_words netlist (node ∷ nodes) (pair ∷ values) =
+    output_word netlist node pair ++ output_words netlist nodes values
 
 -- the line of a number: each output of the circuit, in order, with its two values
 unfoldable pub outputs_line : Netlist → ℕ → List (Tri × Tri) → List ℕ
-outputs_line netlist number values = decimal number ++ output_words netlist netlist.outputs values ++ newline
+outputs_line netlist number values =
+    decimal number ++ output_words netlist netlist.outputs values ++ newline
 
 -- the values of the outputs in two ternary states
 abbrev pub output_values : Netlist → List Tri → List Tri → List (Tri × Tri)
-output_values netlist first second = map (λ node. (value_at first node, value_at second node)) netlist.outputs
+output_values netlist first second =
+    map (λ node. (value_at first node, value_at second node)) netlist.outputs
 
 -- what contracts see of a line: the circuit, and two values for each output
 pub record LineOf : Type 0 where

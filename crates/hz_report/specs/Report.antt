@@ -33,19 +33,24 @@ feedback_line netlist cycle = codes "feedback" ++ flat_map (spaced_word netlist)
 
 -- the value of each node at the start
 unfoldable pub start_line : Netlist → List Bool → List ℕ
-start_line netlist start = statement_text netlist (codes "start") (all_listed (take (length netlist.names) start))
+start_line netlist start =
+    statement_text netlist (codes "start") (all_listed (take (length netlist.names) start))
 
 -- the lines that come once: the size of the network, its feedback cycles, and the start
 unfoldable pub head_text : Netlist → List (List ℕ) → List Bool → List ℕ
-head_text netlist cycles start = netlist_line netlist ++ flat_map (feedback_line netlist) cycles ++ start_line netlist start
+head_text netlist cycles start =
+    netlist_line netlist ++ flat_map (feedback_line netlist) cycles ++ start_line netlist start
 
 -- what a change assigns, in the order of the script; changes are counted from 1
 unfoldable pub change_line : Netlist → ℕ → List (ℕ × Bool) → List ℕ
-change_line netlist number change = statement_text netlist (codes "change " ++ decimal number) change
+change_line netlist number change =
+    statement_text netlist (codes "change " ++ decimal number) change
 
 -- the rounds of Algorithms A and B
 unfoldable pub rounds_line : FindingOf → List ℕ
-rounds_line finding = codes "rounds A " ++ decimal finding.rounds_a ++ codes " B " ++ decimal finding.rounds_b ++ newline
+rounds_line finding =
+    codes "rounds A " ++ decimal finding.rounds_a ++ codes " B " ++ decimal finding.rounds_b
+    ++ newline
 
 -- the word of a number of changes: a variable that is not feedback-free has none
 abbrev pub changes_word : Option Count → List ℕ
@@ -111,7 +116,9 @@ runs_of_finding netlist finding =
     record {
       nodes = take (length netlist.names) (map (λ row. row.start) finding.rows);
       input = finding.input;
-      runs = record { lead = finding.spread; cycle = None } ∷ record { lead = finding.settle; cycle = Some finding.cycle } ∷ [];
+      runs =
+          record { lead = finding.spread; cycle = None }
+          ∷ record { lead = finding.settle; cycle = Some finding.cycle } ∷ [];
     }
 
 -- The lines of a change that was made: what it assigns, the rounds, the rows, the race states and the run text.
@@ -125,7 +132,8 @@ change_text netlist show number change finding =
 
 -- the lines of a change that a variable stopped: what it assigns, and the variable
 unfoldable pub stopped_text : Netlist → ℕ → List (ℕ × Bool) → ℕ → List ℕ
-stopped_text netlist number change var = change_line netlist number change ++ codes "stopped" ++ spaced_word netlist var ++ newline
+stopped_text netlist number change var =
+    change_line netlist number change ++ codes "stopped" ++ spaced_word netlist var ++ newline
 
 -- the place of a class in the line of classes
 abbrev pub class_place : Class → ℕ
@@ -143,16 +151,22 @@ count_at rows place = count_by (λ row. nat_eq (class_place row.class) place) ro
 -- a class, and how many rows have it
 abbrev pub class_total : List Row → Class → List ℕ
 class_total rows class =
-    32 ∷ class_word class ++ 32 ∷ decimal (count_by (λ row. nat_eq (class_place row.class) (class_place class)) rows)
+    32 ∷ class_word class
+    ++ 32 ∷ decimal (count_by (λ row. nat_eq (class_place row.class) (class_place class)) rows)
 
 -- how many variables have each class
 unfoldable pub classes_line : List Row → List ℕ
 classes_line rows =
-    codes "classes" ++ flat_map (class_total rows) (Steady ∷ Single ∷ Static ∷ MaybeDynamic ∷ Change ∷ Unsettled ∷ []) ++ newline
+    codes "classes"
+    ++ flat_map (class_total rows)
+    (Steady ∷ Single ∷ Static ∷ MaybeDynamic ∷ Change ∷ Unsettled ∷ [])
+    ++ newline
 
 -- how many steps and flips a run has
 unfoldable pub run_line : List ℕ → List (List ℕ) → List ℕ
-run_line name steps = name ++ codes " steps " ++ decimal (length steps) ++ codes " flips " ++ decimal (flip_count steps) ++ newline
+run_line name steps =
+    name ++ codes " steps " ++ decimal (length steps) ++ codes " flips "
+    ++ decimal (flip_count steps) ++ newline
 
 -- The summary of a change over all variables: the size of the network, the rounds, the classes, and the size of the runs.
 unfoldable pub summary_text : Netlist → FindingOf → List ℕ

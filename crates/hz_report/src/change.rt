@@ -34,7 +34,8 @@ pub fn write_change<K: Sink>(
     requires settle { All (All (IsVariable plate.old.netlist)) finding.now.settle.steps }
     requires cycle { All (All (IsVariable plate.old.netlist)) finding.now.cycle.steps }
     ensures gave { Writes K.output K.faults
-        (change_text plate.old.netlist plate.old.show number change.now (finding_of finding.now)) writer.old writer.new }
+        (change_text plate.old.netlist plate.old.show number change.now (finding_of finding.now))
+        writer.old writer.new }
     ensures none_waits { NoneWaits writer.new }
     ensures plate { plate.new ≡ plate.old }
 {
@@ -59,7 +60,8 @@ pub fn write_stopped<K: Sink>(
 )
     requires change { All (λ pair. pair.0 < length net.now.names) change.now }
     requires var { IsVariable net.now var }
-    ensures gave { Writes K.output K.faults (stopped_text net.now number change.now var) writer.old writer.new }
+    ensures gave { Writes K.output K.faults (stopped_text net.now number change.now var) writer.old
+        writer.new }
     ensures none_waits { NoneWaits writer.new }
 {
     write_assigned(writer, net, number, change);
@@ -75,7 +77,8 @@ fn write_assigned<K: Sink>(
     change: &[(u32, bool)],
 )
     requires { All (λ pair. pair.0 < length net.now.names) change.now }
-    ensures gave { Writes K.output K.faults (change_line net.now number change.now) writer.old writer.new }
+    ensures gave { Writes K.output K.faults (change_line net.now number change.now) writer.old
+        writer.new }
     ensures none_waits { NoneWaits writer.new }
 {
     writer.add(&[Text(b"change "), Number(number)]);
@@ -86,7 +89,8 @@ fn write_assigned<K: Sink>(
 // Gives the variable that stops a change.
 fn write_stop<K: Sink>(writer: &mut Writer<'_, K>, net: &Net, var: u32)
     requires { IsVariable net.now var }
-    ensures gave { Writes K.output K.faults (codes "stopped" ++ spaced_word net.now var ++ newline) writer.old writer.new }
+    ensures gave { Writes K.output K.faults (codes "stopped" ++ spaced_word net.now var ++ newline)
+        writer.old writer.new }
     ensures none_waits { NoneWaits writer.new }
 {
     writer.text(b"stopped ");
@@ -97,7 +101,8 @@ fn write_stop<K: Sink>(writer: &mut Writer<'_, K>, net: &Net, var: u32)
 // Gives the rounds of A and of B.
 #[tactic(auto, using(hz_write::proofs::Writers::writes_same), unfolding(crate::specs::Report::rounds_line))]
 pub(crate) fn write_rounds<K: Sink>(writer: &mut Writer<'_, K>, finding: &Finding)
-    ensures gave { Writes K.output K.faults (rounds_line (finding_of finding.now)) writer.old writer.new }
+    ensures gave { Writes K.output K.faults (rounds_line (finding_of finding.now)) writer.old
+        writer.new }
     ensures none_waits { NoneWaits writer.new }
 {
     writer.line(&[
@@ -111,7 +116,8 @@ pub(crate) fn write_rounds<K: Sink>(writer: &mut Writer<'_, K>, finding: &Findin
 // Gives how many race states each run has.
 #[tactic(auto, using(hz_write::proofs::Writers::writes_same), unfolding(crate::specs::Report::races_line))]
 fn write_races<K: Sink>(writer: &mut Writer<'_, K>, finding: &Finding)
-    ensures gave { Writes K.output K.faults (races_line (finding_of finding.now)) writer.old writer.new }
+    ensures gave { Writes K.output K.faults (races_line (finding_of finding.now)) writer.old
+        writer.new }
     ensures none_waits { NoneWaits writer.new }
 {
     writer.line(&[
@@ -132,7 +138,9 @@ fn write_runs<K: Sink>(writer: &mut Writer<'_, K>, plate: &mut Plate<'_>, findin
     requires settle { All (All (IsVariable plate.old.netlist)) finding.now.settle.steps }
     requires cycle { All (All (IsVariable plate.old.netlist)) finding.now.cycle.steps }
     ensures gave { Writes K.output K.faults
-        (run_text_printed plate.old.netlist (runs_of_finding plate.old.netlist (finding_of finding.now))) writer.old writer.new }
+        (run_text_printed plate.old.netlist
+        (runs_of_finding plate.old.netlist (finding_of finding.now)))
+        writer.old writer.new }
     ensures none_waits { NoneWaits writer.new }
     ensures plate { plate.new ≡ plate.old }
 {

@@ -21,7 +21,8 @@ use hz_write::Writer;
 pub fn write_head<K: Sink>(writer: &mut Writer<'_, K>, net: &Net, free: &Free, start: &[bool])
     requires part { IsFreePart net.now free.now }
     requires start { IsState net.now start.now }
-    ensures gave { Writes K.output K.faults (head_text net.now free.now.cycles start.now) writer.old writer.new }
+    ensures gave { Writes K.output K.faults (head_text net.now free.now.cycles start.now) writer.old
+        writer.new }
     ensures none_waits { NoneWaits writer.new }
 {
     write_netlist(writer, net);
@@ -54,7 +55,8 @@ pub(crate) fn write_netlist<K: Sink>(writer: &mut Writer<'_, K>, net: &Net)
 fn write_feedback<K: Sink>(writer: &mut Writer<'_, K>, net: &Net, free: &Free)
     requires part { IsFreePart net.now free.now }
     requires none_waits { NoneWaits writer.old }
-    ensures gave { Writes K.output K.faults (flat_map (feedback_line net.now) free.now.cycles) writer.old writer.new }
+    ensures gave { Writes K.output K.faults (flat_map (feedback_line net.now) free.now.cycles)
+        writer.old writer.new }
     ensures none_waits { NoneWaits writer.new }
 {
     for number in 0..free.cycles() {
@@ -66,7 +68,8 @@ fn write_feedback<K: Sink>(writer: &mut Writer<'_, K>, net: &Net, free: &Free)
 #[tactic(auto, using(hz_write::proofs::Writers::writes_then), unfolding(crate::specs::Report::feedback_line))]
 fn write_cycle<K: Sink>(writer: &mut Writer<'_, K>, net: &Net, cycle: &[u32])
     requires { All (IsVariable net.now) cycle.now }
-    ensures gave { Writes K.output K.faults (feedback_line net.now cycle.now) writer.old writer.new }
+    ensures gave { Writes K.output K.faults (feedback_line net.now cycle.now) writer.old
+        writer.new }
     ensures none_waits { NoneWaits writer.new }
 {
     writer.text(b"feedback");
@@ -77,7 +80,8 @@ fn write_cycle<K: Sink>(writer: &mut Writer<'_, K>, net: &Net, cycle: &[u32])
 // Gives the words of variables, each after a space.
 fn write_variables<K: Sink>(writer: &mut Writer<'_, K>, net: &Net, variables: &[u32])
     requires { All (IsVariable net.now) variables.now }
-    ensures { Writes K.output K.faults (flat_map (spaced_word net.now) variables.now) writer.old writer.new }
+    ensures { Writes K.output K.faults (flat_map (spaced_word net.now) variables.now) writer.old
+        writer.new }
 {
     for var in variables {
         writer.text(b" ");

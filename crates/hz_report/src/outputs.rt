@@ -39,7 +39,12 @@ impl<'c> Model for OutputLine<'c> {
 impl<'c> OutputLine<'c> {
     /// The line of a circuit's outputs, with X for each value. Only this call takes memory.
     pub fn new(alloc: Global, circuit: &'c Circuit) -> Result<OutputLine<'c>, Memory>
-        ensures { IfOk result (λ line. line ≡ record { netlist = circuit.now; values = map (λ _. (Unknown, Unknown)) circuit.now.outputs }) }
+        ensures { IfOk result
+            (λ line. line
+            ≡ record {
+              netlist = circuit.now;
+              values = map (λ _. (Unknown, Unknown)) circuit.now.outputs;
+            }) }
     {
         let _nodes = circuit.nodes();
         let mut text = Vec::new(alloc);
@@ -59,7 +64,8 @@ impl<'c> OutputLine<'c> {
     #[inline(always)]
     pub fn set(&mut self, output: usize, first: Letter, second: Letter)
         requires { output < length self.old.values }
-        ensures { self.new ≡ record self.old { values = slice_set self.old.values output (first, second) } }
+        ensures { self.new
+            ≡ record self.old { values = slice_set self.old.values output (first, second) } }
     {
         let place = self.places[output];
         self.text[place] = first.byte();
@@ -70,7 +76,9 @@ impl<'c> OutputLine<'c> {
     #[tactic(auto, using(hz_write::proofs::Writers::writes_then), unfolding(crate::specs::Outputs::outputs_line))]
     pub fn write<K: Sink>(&mut self, writer: &mut Writer<'_, K>, number: u32)
         ensures same { self.new ≡ self.old }
-        ensures gave { Writes K.output K.faults (outputs_line self.old.netlist number self.old.values) writer.old writer.new }
+        ensures gave { Writes K.output K.faults
+            (outputs_line self.old.netlist number self.old.values) writer.old
+            writer.new }
         ensures none_waits { NoneWaits writer.new }
     {
         self.digits.count_to(number);
@@ -82,8 +90,12 @@ impl<'c> OutputLine<'c> {
 
 // Adds the word of an output to a text, with X for both values, and the place of their letters.
 fn add_word(name: &[u8], text: &mut Vec<u8>, places: &mut Vec<usize>) -> Result<(), Memory>
-    ensures text { OnOk result (text.new.items ≡ text.old.items ++ (((32 ∷ name.now) ++ 61 ∷ []) ++ 88 ∷ 88 ∷ [])) }
-    ensures place { OnOk result (places.new.items ≡ places.old.items ++ (length text.old.items + length ((32 ∷ name.now) ++ 61 ∷ [])) ∷ []) }
+    ensures text { OnOk result
+        (text.new.items ≡ text.old.items ++ (((32 ∷ name.now) ++ 61 ∷ []) ++ 88 ∷ 88 ∷ [])) }
+    ensures place { OnOk result
+        (places.new.items
+        ≡ places.old.items
+        ++ (length text.old.items + length ((32 ∷ name.now) ++ 61 ∷ [])) ∷ []) }
 {
     let Ok(()) = text.push(b' ') else {
         return Err(Memory);

@@ -62,7 +62,8 @@ impl<'n> Plate<'n> {
         requires rows { AreByVariable self.old.netlist rows.now }
         requires none_waits { NoneWaits writer.old }
         ensures gave { Writes K.output K.faults
-            (row_lines self.old.netlist 0 (shown_rows self.old.netlist self.old.show rows.now)) writer.old writer.new }
+            (row_lines self.old.netlist 0 (shown_rows self.old.netlist self.old.show rows.now))
+            writer.old writer.new }
         ensures none_waits { NoneWaits writer.new }
         ensures same { self.new ≡ self.old }
     {

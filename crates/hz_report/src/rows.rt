@@ -89,7 +89,8 @@ fn set_row(net: &Net, text: &mut [u8], begins: &[usize], var: usize, common: &[u
 fn set_before(text: &mut [u8], end: usize, common: &[u8; COMMON])
     requires room { COMMON < end }
     requires within { end ≤ length text.old }
-    ensures { text.new ≡ take (end - 1 - COMMON) text.old ++ (common.now ++ drop (end - 1) text.old) }
+    ensures { text.new
+        ≡ take (end - 1 - COMMON) text.old ++ (common.now ++ drop (end - 1) text.old) }
 {
     text[end - 1 - COMMON..end - 1].copy_from_slice(common);
 }
@@ -99,7 +100,8 @@ fn kept_lines<'t>(net: &Net, text: &'t [u8], begins: &[usize], from: usize, to: 
     requires kept { AreRowParts net.now (length net.now.names) text.now begins.now }
     requires ordered { from ≤ to }
     requires within { to ≤ length net.now.names }
-    ensures { result.now ≡ slice_range text.now (slice_index begins.now from) (slice_index begins.now to) }
+    ensures { result.now
+        ≡ slice_range text.now (slice_index begins.now from) (slice_index begins.now to) }
 {
     bytes_between(text, begins[from], begins[to])
 }
@@ -225,7 +227,9 @@ fn write_pieces<K: Sink>(writer: &mut Writer<'_, K>, row: Row)
 
 // What stands between a variable and its number of changes: its values at the start, in A and in B.
 fn values_text(start: bool, a: Tri, b: Tri) -> &'static [u8]
-    ensures { result.now ≡ codes " start " ++ letter_of start ∷ codes " A " ++ tri_letter a ++ codes " B " ++ tri_letter b ++ codes " changes " }
+    ensures { result.now
+        ≡ codes " start " ++ letter_of start ∷ codes " A " ++ tri_letter a ++ codes " B "
+        ++ tri_letter b ++ codes " changes " }
 {
     match (start, a, b) {
         (false, Zero, Zero) => b" start 0 A 0 B 0 changes ",

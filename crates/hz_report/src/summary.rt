@@ -16,7 +16,8 @@ use hz_write::Writer;
 /// Gives the size of the network, the rounds of Algorithms A and B, how many variables have each class, and the number of steps
 /// and of flips of each run.
 pub fn write_summary<K: Sink>(writer: &mut Writer<'_, K>, net: &Net, finding: &Finding)
-    ensures gave { Writes K.output K.faults (summary_text net.now (finding_of finding.now)) writer.old writer.new }
+    ensures gave { Writes K.output K.faults (summary_text net.now (finding_of finding.now))
+        writer.old writer.new }
     ensures none_waits { NoneWaits writer.new }
 {
     write_netlist(writer, net);
@@ -85,7 +86,8 @@ fn class_place(class: Class) -> usize
 // Gives how many steps and flips a run has.
 #[tactic(auto, using(hz_write::proofs::Writers::writes_same), unfolding(crate::specs::Report::run_line))]
 pub(crate) fn write_size<K: Sink>(writer: &mut Writer<'_, K>, name: &[u8], run: &Run)
-    ensures gave { Writes K.output K.faults (run_line name.now run.now.steps) writer.old writer.new }
+    ensures gave { Writes K.output K.faults (run_line name.now run.now.steps) writer.old
+        writer.new }
     ensures none_waits { NoneWaits writer.new }
 {
     writer.line(&[

@@ -31,15 +31,18 @@ OutcomesExist =
 -- and so there is one under all inputs, one after the other
 abbrev pub OutcomesExistAlong : Type 0
 OutcomesExistAlong =
-    (net : List Driver) (inputs : List (List Bool)) (start : List Bool) → length start ≡ length net →
+    (net : List Driver) (inputs : List (List Bool)) (start : List Bool) →
+    length start ≡ length net →
     (state : List Bool) × IsOutcomeAlong net start inputs state
 
 -- where a value is 0 or 1, every state has it in which the circuit may be, whatever state it came up in
 abbrev pub ValuesCover : Type 0
 ValuesCover =
-    (net : List Driver) (held : List (Option Bool)) (inputs : List (List Bool)) (values : List Tri) (start state : List Bool)
+    (net : List Driver) (held : List (Option Bool)) (inputs : List (List Bool)) (values : List Tri)
+    (start state : List Bool)
     (i : ℕ) (bit : Bool) → SettlesAlong net (unknown_start net held) inputs values →
-    Refines start (unknown_start net held) → IsOutcomeAlong net start inputs state → value_at values i ≡ tri_of bit →
+    Refines start (unknown_start net held) → IsOutcomeAlong net start inputs state →
+    value_at values i ≡ tri_of bit →
     bit_at state i ≡ bit
 
 -- there are values from each unknown start under all inputs
@@ -51,25 +54,33 @@ ValuesExist =
 -- and they are determined
 abbrev pub ValuesAreOne : Type 0
 ValuesAreOne =
-    (net : List Driver) (held : List (Option Bool)) (inputs : List (List Bool)) (values other : List Tri) →
-    SettlesAlong net (unknown_start net held) inputs values → SettlesAlong net (unknown_start net held) inputs other →
+    (net : List Driver) (held : List (Option Bool)) (inputs : List (List Bool))
+    (values other : List Tri) →
+    SettlesAlong net (unknown_start net held) inputs values →
+    SettlesAlong net (unknown_start net held) inputs other →
     values ≡ other
 
 -- no node is held but gates
 abbrev pub HoldsGates : Netlist → List (Option Bool) → Type 0
-HoldsGates netlist held = (node : ℕ) → slice_index_or held node None ≢ None → IsGateNumber netlist node
+HoldsGates netlist held =
+    (node : ℕ) → slice_index_or held node None ≢ None → IsGateNumber netlist node
 
 -- the first input finds every variable X: Algorithm B begins with such a state
 abbrev pub BeginsAllUnknown : Type 0
 BeginsAllUnknown =
-    (netlist : Netlist) (held : List (Option Bool)) (input : List Bool) (settled : List Tri) → IsCircuit netlist → IsWhole netlist →
-    HoldsGates netlist held → SettlesTo (network_of netlist) input (unknown_start (network_of netlist) held) settled →
-    IsResult (algorithm_b (network_of netlist) input (replicate (length (network_of netlist)) Unknown)) settled
+    (netlist : Netlist) (held : List (Option Bool)) (input : List Bool) (settled : List Tri) →
+    IsCircuit netlist → IsWhole netlist →
+    HoldsGates netlist held →
+    SettlesTo (network_of netlist) input (unknown_start (network_of netlist) held) settled →
+    IsResult
+    (algorithm_b (network_of netlist) input (replicate (length (network_of netlist)) Unknown))
+    settled
 
 -- so it makes no difference to what the unknown start settles which gates were held
 abbrev pub HeldIsForgotten : Type 0
 HeldIsForgotten =
-    (netlist : Netlist) (held other : List (Option Bool)) (input : List Bool) (settled : List Tri) → IsCircuit netlist →
+    (netlist : Netlist) (held other : List (Option Bool)) (input : List Bool) (settled : List Tri) →
+    IsCircuit netlist →
     IsWhole netlist → HoldsGates netlist held → HoldsGates netlist other →
     SettlesTo (network_of netlist) input (unknown_start (network_of netlist) held) settled →
     SettlesTo (network_of netlist) input (unknown_start (network_of netlist) other) settled

@@ -22,11 +22,14 @@ AreAnalyses netlist cap start (change ∷ changes) [] = ⊥
 AreAnalyses netlist cap start (change ∷ changes) (Stopped var ∷ analyses) = ⊥
 AreAnalyses netlist cap start (change ∷ changes) (Found finding ∷ analyses) =
     IsFindingOfChange netlist cap start change finding
-    × (((next : List Bool) × IsSettledAt (values_b finding.rows) next × AreAnalyses netlist cap next changes analyses)
-    ⊎ ((var : ℕ) × IsFirstUnknown (values_b finding.rows) var × (analyses ≡ all_stopped var changes)))
+    × (((next : List Bool) × IsSettledAt (values_b finding.rows) next
+    × AreAnalyses netlist cap next changes analyses)
+    ⊎ ((var : ℕ) × IsFirstUnknown (values_b finding.rows) var
+    × (analyses ≡ all_stopped var changes)))
 
 -- A sequence goes on by a change: the change is made, or the variable that stops it leaves all as it is.
 abbrev pub GoesOn : ℕ → List (ℕ × Bool) → Analysis → SequenceState → SequenceState → Type 0
 GoesOn cap change (Found finding) was now =
-    (was.stopped ≡ None) × IsFindingOfChange was.desk.netlist cap was.start change finding × IsLeftBy finding was now
+    (was.stopped ≡ None) × IsFindingOfChange was.desk.netlist cap was.start change finding
+    × IsLeftBy finding was now
 GoesOn cap change (Stopped var) was now = (was.stopped ≡ Some var) × (now ≡ was)

@@ -18,12 +18,14 @@ pub record SequenceState : Type 0 where
 
 -- the new input: the present input with the assignments of a change, made one after the other
 abbrev pub changed_input : List Bool → List (ℕ × Bool) → List Bool
-changed_input input change = fold (λ bits assignment. slice_set bits assignment.0 assignment.1) input change
+changed_input input change =
+    fold (λ bits assignment. slice_set bits assignment.0 assignment.1) input change
 
 -- A finding is right for a change from a start. The present input is that of the start.
 abbrev pub IsFindingOfChange : Netlist → ℕ → List Bool → List (ℕ × Bool) → FindingOf → Type 0
 IsFindingOfChange netlist cap start change finding =
-    IsRightFinding (network_of netlist) (changed_input (take netlist.inputs start) change) start cap finding
+    IsRightFinding (network_of netlist) (changed_input (take netlist.inputs start) change) start cap
+    finding
 
 -- the first variable that is X
 abbrev pub IsFirstUnknown : List Tri → ℕ → Type 0

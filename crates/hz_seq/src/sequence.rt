@@ -40,7 +40,11 @@ impl<'n> Model for Sequence<'n> {
 
     ghost Value = { SequenceState };
 
-    ghost view = { λ fields. record { desk = fields.desk; start = fields.start.items; stopped = fields.stopped } };
+    ghost view = { λ fields. record {
+      desk = fields.desk;
+      start = fields.start.items;
+      stopped = fields.stopped;
+    } };
 
     ghost invariant = { HoldsSequence };
 }
@@ -52,7 +56,9 @@ impl<'n> Sequence<'n> {
     /// A sequence that begins at a start, which is stable under its own inputs. If memory runs out, the desk is dropped.
     pub fn new(alloc: Global, desk: Desk<'n>, start: &[bool]) -> Result<Sequence<'n>, Memory>
         requires { IsStableStart desk.netlist start.now }
-        ensures { IfOk result (λ sequence. sequence ≡ record { desk = desk.entry; start = start.now; stopped = None }) }
+        ensures { IfOk result
+            (λ sequence. sequence
+            ≡ record { desk = desk.entry; start = start.now; stopped = None }) }
     {
         let Ok(start) = Vec::from_slice(alloc, start) else {
             return Err(Memory);
@@ -85,10 +91,13 @@ impl<'n> Sequence<'n> {
         requires cap_low { 1 ≤ cap }
         requires cap_high { cap ≤ greatest_cap }
         ensures finding { MatchResult result
-            (λ finding. (self.old.stopped ≡ None) × IsFindingOfChange self.old.desk.netlist cap self.old.start change.now (finding_of finding.now))
+            (λ finding. (self.old.stopped ≡ None)
+            × IsFindingOfChange self.old.desk.netlist cap self.old.start change.now
+            (finding_of finding.now))
             (λ fault. self.old.stopped ≡ Some fault.var) }
         ensures* after { sem 𝓛 (LeavesSequence self.entry (λ last.
-            MatchResult result (λ finding. IsLeftBy (finding_of finding.now) self.old last) (λ fault. last ≡ self.old))) }
+            MatchResult result (λ finding. IsLeftBy (finding_of finding.now) self.old last)
+            (λ fault. last ≡ self.old))) }
     {
         self.make(change, cap)?;
         Ok(self.desk.finding())
@@ -100,9 +109,12 @@ impl<'n> Sequence<'n> {
         requires cap_low { 1 ≤ cap }
         requires cap_high { cap ≤ greatest_cap }
         ensures finding { MatchResult result
-            (λ _. (self.old.stopped ≡ None) × IsFindingOfChange self.old.desk.netlist cap self.old.start change.now self.new.desk.finding)
+            (λ _. (self.old.stopped ≡ None)
+            × IsFindingOfChange self.old.desk.netlist cap self.old.start change.now
+            self.new.desk.finding)
             (λ fault. self.old.stopped ≡ Some fault.var) }
-        ensures after { MatchResult result (λ _. IsLeftBy self.new.desk.finding self.old self.new) (λ fault. self.new ≡ self.old) }
+        ensures after { MatchResult result (λ _. IsLeftBy self.new.desk.finding self.old self.new)
+            (λ fault. self.new ≡ self.old) }
     {
         if let Some(var) = self.stopped {
             return Err(Stopped { var });

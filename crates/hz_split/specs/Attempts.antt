@@ -28,7 +28,8 @@ turn_then (Some var) after = var ∷ after var
 abbrev pub turns_from : List Driver → List Bool → Pick → ℕ → List Bool → List ℕ
 turns_from net input pick zero state = []
 turns_from net input pick (suc most) state =
-    turn_then (picked pick (unstable_variables net input state)) (λ var. turns_from net input pick most (state_after (var ∷ []) state))
+    turn_then (picked pick (unstable_variables net input state))
+    (λ var. turns_from net input pick most (state_after (var ∷ []) state))
 
 -- the steps of turns, in each of which one variable flips alone
 abbrev pub flips_alone : List ℕ → List (List ℕ)
@@ -36,7 +37,8 @@ flips_alone turns = map (λ var. var ∷ []) turns
 
 -- the run of an attempt: it begins with some steps, and then has at most twice as many turns as there are variables
 abbrev pub attempt : List Driver → List Bool → List Bool → Pick → List (List ℕ) → List (List ℕ)
-attempt net input start pick front = front ++ flips_alone (turns_from net input pick (2 * length net) (end_of start front))
+attempt net input start pick front =
+    front ++ flips_alone (turns_from net input pick (2 * length net) (end_of start front))
 
 -- the most states of a cycle from which attempts go
 abbrev pub most_fronts : ℕ
@@ -46,12 +48,16 @@ most_fronts = 64
 -- cycle is its first one again, and is left out.
 abbrev pub fronts : FindingOf → List (List (List ℕ))
 fronts finding =
-    map (λ steps. finding.settle ++ take steps finding.cycle) (range_with_len 0 (min (length finding.cycle) most_fronts))
+    map (λ steps. finding.settle ++ take steps finding.cycle)
+    (range_with_len 0 (min (length finding.cycle) most_fronts))
 
 -- all attempts: from each of these states two, first with the least and then with the greatest unstable variable
 abbrev pub attempts : List Driver → List Bool → FindingOf → List (List (List ℕ))
 attempts net start finding =
-    flat_map (λ front. attempt net finding.input start Least front ∷ attempt net finding.input start Greatest front ∷ []) (fronts finding)
+    flat_map
+    (λ front. attempt net finding.input start Least front
+    ∷ attempt net finding.input start Greatest front ∷ [])
+    (fronts finding)
 
 -- whether a state is stable
 abbrev pub is_settled : List Driver → List Bool → List Bool → Bool
@@ -64,13 +70,16 @@ is_other state other = not (pointwise beq state other)
 -- of runs the first, and the first later one that ends in another state
 abbrev pub first_and_other : List Bool → List (List (List ℕ)) → List (List (List ℕ))
 first_and_other start [] = []
-first_and_other start (run ∷ runs) = run ∷ take 1 (filter (λ later. is_other (end_of start run) (end_of start later)) runs)
+first_and_other start (run ∷ runs) =
+    run ∷ take 1 (filter (λ later. is_other (end_of start run) (end_of start later)) runs)
 
 -- The runs that are found: that of the first attempt that stops at a stable state, and that of the first later attempt that stops at
 -- another stable state.
 abbrev pub runs_found : List Driver → List Bool → FindingOf → List (List (List ℕ))
 runs_found net start finding =
-    first_and_other start (filter (λ run. is_settled net finding.input (end_of start run)) (attempts net start finding))
+    first_and_other start
+    (filter (λ run. is_settled net finding.input (end_of start run))
+    (attempts net start finding))
 
 -- what a search comes to, by the runs that are found
 abbrev pub outcome_of : List (List (List ℕ)) → Outcome

@@ -15,7 +15,11 @@ found_of fields = record {
 -- at most two runs, and room for each
 pub record HoldsFound (fields : Inside) : Type 0 where
   pub few : fields.count ≤ 2
-  pub first_flips : 8 * length fields.ending.items ≤ fields.first.spare_flips + flip_count fields.first.steps
-  pub first_steps : 4 * length fields.ending.items + 64 ≤ fields.first.spare_steps + length fields.first.steps
-  pub second_flips : 8 * length fields.ending.items ≤ fields.second.spare_flips + flip_count fields.second.steps
-  pub second_steps : 4 * length fields.ending.items + 64 ≤ fields.second.spare_steps + length fields.second.steps
+  pub first_flips : 8 * length fields.ending.items
+      ≤ fields.first.spare_flips + flip_count fields.first.steps
+  pub first_steps : 4 * length fields.ending.items + 64
+      ≤ fields.first.spare_steps + length fields.first.steps
+  pub second_flips : 8 * length fields.ending.items
+      ≤ fields.second.spare_flips + flip_count fields.second.steps
+  pub second_steps : 4 * length fields.ending.items + 64
+      ≤ fields.second.spare_steps + length fields.second.steps

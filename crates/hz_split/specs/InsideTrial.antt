@@ -7,7 +7,8 @@ use Rattle.hz_split.specs.declared.trial.Trial.TheInside.{Inside}
 
 -- the last attempt
 abbrev pub trial_of : Inside → TrialOf
-trial_of fields = record { circuit = fields.net.now; turns = fields.turns.items; state = fields.walk.state }
+trial_of fields =
+    record { circuit = fields.net.now; turns = fields.turns.items; state = fields.walk.state }
 
 -- there is room for two turns for each variable
 pub record HoldsTrial (fields : Inside) : Type 0 where

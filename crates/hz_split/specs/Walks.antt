@@ -5,4 +5,5 @@ use Rattle.hz_gmw.specs.Instability.{is_unstable}
 
 -- marks in which each of the listed variables has a mark if it is unstable, and none otherwise
 abbrev pub with_looks : List Driver → List Bool → List Bool → List Bool → List ℕ → List Bool
-with_looks net input state marks list = fold (λ marks var. slice_set marks var (is_unstable net input state var)) marks list
+with_looks net input state marks list =
+    fold (λ marks var. slice_set marks var (is_unstable net input state var)) marks list

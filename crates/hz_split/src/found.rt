@@ -83,9 +83,13 @@ impl Found {
         turns: &[u32],
         state: &[bool],
     )
-        requires room { HasRoomFor self.old.variables settle.now.steps cycle.now.steps front turns.now }
+        requires room { HasRoomFor self.old.variables settle.now.steps cycle.now.steps front
+            turns.now }
         requires state { length state.now ≡ self.old.variables }
-        ensures runs { self.new ≡ with_run self.old (settle.now.steps ++ take front cycle.now.steps ++ flips_alone turns.now) state.now }
+        ensures runs { self.new
+            ≡ with_run self.old
+            (settle.now.steps ++ take front cycle.now.steps ++ flips_alone turns.now)
+            state.now }
     {
         if self.count == 0 {
             write_run(&mut self.first, settle, cycle, front, turns);
@@ -101,11 +105,16 @@ impl Found {
 // Writes a run in place of the one that was there.
 fn write_run(run: &mut Run, settle: &Run, cycle: &Run, front: usize, turns: &[u32])
     requires front { front ≤ length cycle.now.steps }
-    requires flips { flip_count settle.now.steps + flip_count cycle.now.steps + length turns.now ≤ run.old.spare_flips + flip_count run.old.steps }
-    requires steps { length settle.now.steps + front + length turns.now ≤ run.old.spare_steps + length run.old.steps }
-    ensures steps { run.new.steps ≡ settle.now.steps ++ take front cycle.now.steps ++ flips_alone turns.now }
-    ensures spare_flips { run.new.spare_flips + flip_count run.new.steps ≡ run.old.spare_flips + flip_count run.old.steps }
-    ensures spare_steps { run.new.spare_steps + length run.new.steps ≡ run.old.spare_steps + length run.old.steps }
+    requires flips { flip_count settle.now.steps + flip_count cycle.now.steps + length turns.now
+        ≤ run.old.spare_flips + flip_count run.old.steps }
+    requires steps { length settle.now.steps + front + length turns.now
+        ≤ run.old.spare_steps + length run.old.steps }
+    ensures steps { run.new.steps
+        ≡ settle.now.steps ++ take front cycle.now.steps ++ flips_alone turns.now }
+    ensures spare_flips { run.new.spare_flips + flip_count run.new.steps
+        ≡ run.old.spare_flips + flip_count run.old.steps }
+    ensures spare_steps { run.new.spare_steps + length run.new.steps
+        ≡ run.old.spare_steps + length run.old.steps }
 {
     run.copy_from(settle);
     add_front(run, cycle, front);
@@ -118,7 +127,8 @@ fn add_front(run: &mut Run, cycle: &Run, front: usize)
     requires flips { flip_count (take front cycle.now.steps) ≤ run.old.spare_flips }
     requires room { front ≤ run.old.spare_steps }
     ensures steps { run.new.steps ≡ run.old.steps ++ take front cycle.now.steps }
-    ensures spare_flips { run.new.spare_flips + flip_count (take front cycle.now.steps) ≡ run.old.spare_flips }
+    ensures spare_flips { run.new.spare_flips + flip_count (take front cycle.now.steps)
+        ≡ run.old.spare_flips }
     ensures spare_steps { run.new.spare_steps + front ≡ run.old.spare_steps }
 {
     for number in 0..front {

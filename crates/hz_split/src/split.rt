@@ -71,12 +71,16 @@ impl<'n> Split<'n> {
     pub fn search(&mut self, start: &[bool], finding: &Finding) -> Outcome
         requires start { IsStableStart self.old.netlist start.now }
         requires input { IsInput self.old.netlist finding.now.input }
-        requires right { (cap : ℕ) × IsRightFinding (network_of self.old.netlist) finding.now.input start.now cap (finding_of finding.now) }
+        requires right { (cap : ℕ)
+            × IsRightFinding (network_of self.old.netlist) finding.now.input start.now cap
+            (finding_of finding.now) }
         requires unsettled { Contains (values_b finding.now.rows) Unknown }
         ensures netlist { self.new.netlist ≡ self.old.netlist }
-        ensures found { self.new.found ≡ runs_found (network_of self.old.netlist) start.now (finding_of finding.now) }
+        ensures found { self.new.found
+            ≡ runs_found (network_of self.old.netlist) start.now (finding_of finding.now) }
         ensures outcome { result ≡ outcome_of self.new.found }
-        ensures runs { AreSettledRuns (network_of self.old.netlist) finding.now.input start.now self.new.found }
+        ensures runs { AreSettledRuns (network_of self.old.netlist) finding.now.input start.now
+            self.new.found }
     {
         // The law says that a run has no more steps than flips.
         run_counts();
@@ -132,9 +136,12 @@ fn attempt(
     requires input { IsInput trial.old.circuit finding.now.input }
     requires here { IsState trial.old.circuit here.now }
     requires variables { found.old.variables ≡ length (network_of trial.old.circuit) }
-    requires room { HasRoomFor (length (network_of trial.old.circuit)) finding.now.settle.steps finding.now.cycle.steps front [] }
+    requires room { HasRoomFor (length (network_of trial.old.circuit)) finding.now.settle.steps
+        finding.now.cycle.steps front [] }
     ensures circuit { trial.new.circuit ≡ trial.old.circuit }
-    ensures found { found.new ≡ with_attempt (network_of trial.old.circuit) finding.now.input pick (finding.now.settle.steps ++ take front finding.now.cycle.steps) here.now found.old }
+    ensures found { found.new
+        ≡ with_attempt (network_of trial.old.circuit) finding.now.input pick
+        (finding.now.settle.steps ++ take front finding.now.cycle.steps) here.now found.old }
 {
     if trial.make(finding.input.as_slice(), here, pick) {
         found.add(
@@ -152,11 +159,16 @@ fn attempt_all(trial: &mut Trial<'_>, finding: &Finding, here: &mut [bool], foun
     requires input { IsInput trial.old.circuit finding.now.input }
     requires here { IsState trial.old.circuit here.old }
     requires variables { found.old.variables ≡ length (network_of trial.old.circuit) }
-    requires room { HasRoomFor (length (network_of trial.old.circuit)) finding.now.settle.steps finding.now.cycle.steps 0 [] }
+    requires room { HasRoomFor (length (network_of trial.old.circuit)) finding.now.settle.steps
+        finding.now.cycle.steps 0 [] }
     requires inside { All (All (IsVariable trial.old.circuit)) finding.now.cycle.steps }
     requires once { All IsRepeatFree finding.now.cycle.steps }
     ensures circuit { trial.new.circuit ≡ trial.old.circuit }
-    ensures found { found.new ≡ with_attempts (network_of trial.old.circuit) finding.now.input finding.now.settle.steps finding.now.cycle.steps (range_with_len 0 (min (length finding.now.cycle.steps) most_fronts)) here.old found.old }
+    ensures found { found.new
+        ≡ with_attempts (network_of trial.old.circuit) finding.now.input finding.now.settle.steps
+        finding.now.cycle.steps
+        (range_with_len 0 (min (length finding.now.cycle.steps) most_fronts)) here.old
+        found.old }
 {
     let fronts = finding.cycle.steps().min(MAX_FRONTS);
     for front in 0..fronts {

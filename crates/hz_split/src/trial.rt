@@ -48,9 +48,12 @@ impl<'n> Trial<'n> {
         requires input { IsInput self.old.circuit input.now }
         requires state { IsState self.old.circuit state.now }
         ensures circuit { self.new.circuit ≡ self.old.circuit }
-        ensures turns { self.new.turns ≡ turns_from (network_of self.old.circuit) input.now pick (2 * length (network_of self.old.circuit)) state.now }
+        ensures turns { self.new.turns
+            ≡ turns_from (network_of self.old.circuit) input.now pick
+            (2 * length (network_of self.old.circuit)) state.now }
         ensures ends { self.new.state ≡ end_of state.now (flips_alone self.new.turns) }
-        ensures settled { result ≡ is_settled (network_of self.old.circuit) input.now self.new.state }
+        ensures settled { result
+            ≡ is_settled (network_of self.old.circuit) input.now self.new.state }
     {
         let most = 2 * self.net.len();
         self.walk.begin(input, state);

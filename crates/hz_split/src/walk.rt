@@ -38,7 +38,10 @@ impl<'n> Model for Walk<'n> {
 impl<'n> Walk<'n> {
     /// It begins where every input and every variable is 0.
     pub(crate) fn new(alloc: Global, net: &'n Net) -> Result<Walk<'n>, Memory>
-        ensures { IfOk result (λ walk. walk ≡ follower_at net.now (replicate net.now.inputs false) (replicate (length (network_of net.now)) false)) }
+        ensures { IfOk result
+            (λ walk. walk
+            ≡ follower_at net.now (replicate net.now.inputs false)
+            (replicate (length (network_of net.now)) false)) }
     {
         let input = vec![in alloc; false; net.circuit().inputs() as usize]?;
         let state = vec![in alloc; false; net.len() as usize]?;
@@ -89,7 +92,9 @@ impl<'n> Walk<'n> {
 
     /// The unstable variable that is picked.
     pub(crate) fn picked(&self, pick: Pick) -> Option<u32>
-        ensures { result ≡ picked pick (unstable_variables (network_of self.now.circuit) self.now.input self.now.state) }
+        ensures { result
+            ≡ picked pick
+            (unstable_variables (network_of self.now.circuit) self.now.input self.now.state) }
     {
         match pick {
             Pick::Least => self.unstable.least(),
@@ -111,7 +116,8 @@ fn look_at(net: &Net, input: &[bool], state: &[bool], var: u32, unstable: &mut N
     requires state { IsState net.now state.now }
     requires var { IsVariable net.now var }
     requires set { AreByVariable net.now unstable.old }
-    ensures { unstable.new ≡ slice_set unstable.old var (is_unstable (network_of net.now) input.now state.now var) }
+    ensures { unstable.new
+        ≡ slice_set unstable.old var (is_unstable (network_of net.now) input.now state.now var) }
 {
     if net.excite(input, state, var) != state[var as usize] {
         unstable.insert(var);
@@ -126,7 +132,8 @@ fn look_at_each(net: &Net, input: &[bool], state: &[bool], list: &[u32], unstabl
     requires state { IsState net.now state.now }
     requires list { All (IsVariable net.now) list.now }
     requires set { AreByVariable net.now unstable.old }
-    ensures { unstable.new ≡ with_looks (network_of net.now) input.now state.now unstable.old list.now }
+    ensures { unstable.new
+        ≡ with_looks (network_of net.now) input.now state.now unstable.old list.now }
 {
     for var in list {
         look_at(net, input, state, *var, unstable);

@@ -16,12 +16,15 @@ pub record Assignment : Type 0 where
 abbrev pub assignments_of : List TokenOf → Option (List Assignment)
 assignments_of [] = Some []
 assignments_of (WordOf name ∷ PunctuationOf Equals ∷ WordOf word ∷ rest) =
-    option_map (λ assignments. record { name = name; word = word } ∷ assignments) (assignments_of rest)
+    option_map (λ assignments. record { name = name; word = word } ∷ assignments)
+    (assignments_of rest)
 assignments_of _ = None
 
 -- the bit that a word is
 abbrev pub bit_of : List ℕ → Option Bool
-bit_of word = if bytes_eq word (codes "0") then Some false else (if bytes_eq word (codes "1") then Some true else None)
+bit_of word =
+    if bytes_eq word (codes "0") then Some false
+    else (if bytes_eq word (codes "1") then Some true else None)
 
 -- what is assigned, in a circuit: the node that has the name and the bit that the word is, if there are such
 pub record Assigned : Type 0 where
@@ -30,7 +33,8 @@ pub record Assigned : Type 0 where
 
 -- the node and the bit of an assignment
 abbrev pub assigned_of : Netlist → Assignment → Assigned
-assigned_of netlist assignment = record { node = node_named netlist assignment.name; bit = bit_of assignment.word }
+assigned_of netlist assignment =
+    record { node = node_named netlist assignment.name; bit = bit_of assignment.word }
 
 -- the nodes and bits of the assignments that tokens are
 abbrev pub assigned_by : Netlist → List TokenOf → Option (List Assigned)
@@ -78,7 +82,8 @@ assigns all node = list_any (λ assigned. is_same_node node assigned.node) all
 -- the bit that is assigned to a node, if one is
 abbrev pub assigned_bit : List Assigned → ℕ → Option Bool
 assigned_bit [] node = None
-assigned_bit (first ∷ later) node = if is_same_node node first.node then first.bit else assigned_bit later node
+assigned_bit (first ∷ later) node =
+    if is_same_node node first.node then first.bit else assigned_bit later node
 
 -- the assignment of a bit to a node
 abbrev pub assignment_to : ℕ × Bool → Assigned

@@ -31,7 +31,8 @@ place_of (Mismatch line told real) = line
 -- the fault has a lesser number than the other, or the same number and no later line or node
 abbrev pub ComesFirst : TextFault → TextFault → Type 0
 ComesFirst fault other =
-    (fault_number fault < fault_number other) ⊎ ((fault_number fault ≡ fault_number other) × (place_of fault ≤ place_of other))
+    (fault_number fault < fault_number other)
+    ⊎ ((fault_number fault ≡ fault_number other) × (place_of fault ≤ place_of other))
 
 -- of the faults that hold, this one comes before each other
 pub record IsLeastFaultOf (holds : TextFault → Type 0) (fault : TextFault) : Type 0 where

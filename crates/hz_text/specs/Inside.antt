@@ -6,7 +6,11 @@ use Rattle.hz_text.specs.ScriptValue.{ScriptOf, IsScript}
 
 -- the start, and the changes as parts of the one list
 abbrev pub script_of : Inside → ScriptOf
-script_of inside = record { start = inside.start.items; changes = parts_from 0 inside.ends.items inside.assignments.items }
+script_of inside =
+    record {
+      start = inside.start.items;
+      changes = parts_from 0 inside.ends.items inside.assignments.items;
+    }
 
 -- what holds of the fields
 pub record HoldsScript (inside : Inside) : Type 0 where

@@ -49,16 +49,21 @@ abbrev pub runs_out_of_order : Place → List (Numbered ResolvedRunStatement) �
 runs_out_of_order here [] = Some 0
 runs_out_of_order here (first ∷ later) =
     if is_end first.statement then end_out_of_order later
-    else option_map_or (λ next. runs_out_of_order next later) (place_after here first.statement) (Some first.line)
+    else option_map_or (λ next. runs_out_of_order next later) (place_after here first.statement)
+    (Some first.line)
 
 -- the line that breaks the order first, where a statement that passes the test stands before others; 0 where it is missing
-abbrev pub out_of_order_with : (ResolvedRunStatement → Bool) → (List (Numbered ResolvedRunStatement) → Option ℕ) → List (Numbered ResolvedRunStatement) → Option ℕ
+abbrev pub out_of_order_with : (ResolvedRunStatement → Bool) →
+    (List (Numbered ResolvedRunStatement) → Option ℕ) → List (Numbered ResolvedRunStatement) →
+    Option ℕ
 out_of_order_with test after [] = Some 0
-out_of_order_with test after (first ∷ later) = if test first.statement then after later else Some first.line
+out_of_order_with test after (first ∷ later) =
+    if test first.statement then after later else Some first.line
 
 -- the order from the input line on, from the start on, from the size of the network on, and behind the header of a version
 abbrev pub input_out_of_order : List (Numbered ResolvedRunStatement) → Option ℕ
-input_out_of_order statements = out_of_order_with is_input_line (runs_out_of_order place.Between) statements
+input_out_of_order statements =
+    out_of_order_with is_input_line (runs_out_of_order place.Between) statements
 
 abbrev pub start_out_of_order : List (Numbered ResolvedRunStatement) → Option ℕ
 start_out_of_order statements = out_of_order_with is_start_line input_out_of_order statements
@@ -73,4 +78,6 @@ version_out_of_order Two statements = net_out_of_order statements
 -- the order of a whole text
 abbrev pub first_misplaced : List (Numbered ResolvedRunStatement) → Option ℕ
 first_misplaced [] = Some 0
-first_misplaced (first ∷ later) = option_map_or (λ version. version_out_of_order version later) (version_in first.statement) (Some first.line)
+first_misplaced (first ∷ later) =
+    option_map_or (λ version. version_out_of_order version later) (version_in first.statement)
+    (Some first.line)

@@ -14,7 +14,8 @@ use Rattle.hz_text.specs.Limits.{most_patterns}
 
 -- the statements of a text of patterns, looked up in a circuit
 abbrev pub resolved_pattern_statements : Netlist → List ℕ → List (Numbered ResolvedPatternStatement)
-resolved_pattern_statements netlist text = map (resolve_numbered_pattern netlist) (pattern_statements_of text)
+resolved_pattern_statements netlist text =
+    map (resolve_numbered_pattern netlist) (pattern_statements_of text)
 
 -- what a statement assigns
 abbrev pub assignments_in : {A : Type 0} → PatternStatementOf A → List A
@@ -46,17 +47,24 @@ HoldsLate statements line = PassesOn is_hold (drop 1 statements) line
 -- the line of the pattern 65,537, if there are so many
 abbrev pub line_beyond : List (Numbered ResolvedPatternStatement) → Option ℕ
 line_beyond statements =
-    option_map (λ numbered. numbered.line) (slice_get (filter (λ numbered. not (is_hold numbered.statement)) statements) most_patterns)
+    option_map (λ numbered. numbered.line)
+    (slice_get (filter (λ numbered. not (is_hold numbered.statement)) statements) most_patterns)
 
 -- the fault stands in the text
 abbrev pub HasPatternFault : Netlist → List ℕ → TextFault → Type 0
-HasPatternFault netlist text (fault.Form line) = meaning_at pattern_statement_of text line ≡ Malformed
-HasPatternFault netlist text (fault.Unknown line) = PassesOn (holds_unknown netlist.inputs) (resolved_pattern_statements netlist text) line
-HasPatternFault netlist text (fault.Twice line) = PassesOn holds_twice (pattern_statements_of text) line
+HasPatternFault netlist text (fault.Form line) =
+    meaning_at pattern_statement_of text line ≡ Malformed
+HasPatternFault netlist text (fault.Unknown line) =
+    PassesOn (holds_unknown netlist.inputs) (resolved_pattern_statements netlist text) line
+HasPatternFault netlist text (fault.Twice line) =
+    PassesOn holds_twice (pattern_statements_of text) line
 HasPatternFault netlist text (fault.Missing node) = ⊥
-HasPatternFault netlist text (fault.Bit line) = PassesOn (lacks_bit netlist.inputs) (resolved_pattern_statements netlist text) line
-HasPatternFault netlist text (fault.Order line) = HoldsLate (resolved_pattern_statements netlist text) line
-HasPatternFault netlist text (fault.TooMany line) = line_beyond (resolved_pattern_statements netlist text) ≡ Some line
+HasPatternFault netlist text (fault.Bit line) =
+    PassesOn (lacks_bit netlist.inputs) (resolved_pattern_statements netlist text) line
+HasPatternFault netlist text (fault.Order line) =
+    HoldsLate (resolved_pattern_statements netlist text) line
+HasPatternFault netlist text (fault.TooMany line) =
+    line_beyond (resolved_pattern_statements netlist text) ≡ Some line
 HasPatternFault netlist text fault.Memory = ⊥
 HasPatternFault netlist text (fault.Mismatch line told real) = ⊥
 

@@ -9,11 +9,16 @@ use Rattle.hz_text.specs.PatternValue.{PatternOf, PatternsOf}
 abbrev pub patterns_in : ℕ → ℕ → List Bool → List PatternOf
 patterns_in zero inputs bits = []
 patterns_in (suc count) inputs bits =
-    record { from = take inputs bits; to = take inputs (drop inputs bits) } ∷ patterns_in count inputs (drop (2 * inputs) bits)
+    record { from = take inputs bits; to = take inputs (drop inputs bits) }
+    ∷ patterns_in count inputs (drop (2 * inputs) bits)
 
 -- what the fields stand for
 abbrev pub patterns_of : Inside → PatternsOf
-patterns_of inside = record { held = inside.held.items; patterns = patterns_in inside.count inside.inputs inside.bits.items }
+patterns_of inside =
+    record {
+      held = inside.held.items;
+      patterns = patterns_in inside.count inside.inputs inside.bits.items;
+    }
 
 -- what holds of the fields
 abbrev pub HoldsPatterns : Inside → Type 0

@@ -20,7 +20,8 @@ AgreesWith (byte ∷ bytes) (first ∷ model) = (agrees byte first ≡ true) × 
 
 -- the line of a pattern whose bits are all 0, and what stands behind it
 abbrev pub model_line : ℕ → List ℕ → List ℕ
-model_line inputs behind = codes "from " ++ (replicate inputs 48 ++ (codes " to " ++ (replicate inputs 48 ++ 10 ∷ behind)))
+model_line inputs behind =
+    codes "from " ++ (replicate inputs 48 ++ (codes " to " ++ (replicate inputs 48 ++ 10 ∷ behind)))
 
 -- so many such lines
 abbrev pub model_lines : ℕ → ℕ → List ℕ
@@ -31,7 +32,8 @@ model_lines inputs (suc lines) = model_line inputs (model_lines inputs lines)
 abbrev pub bits_at : {X : Type 0} → ℕ → ℕ → List X → List X
 bits_at inputs zero places = []
 bits_at inputs (suc lines) places =
-    (take inputs (drop 5 places) ++ take inputs (drop (inputs + 9) places)) ++ bits_at inputs lines (drop (10 + 2 * inputs) places)
+    (take inputs (drop 5 places) ++ take inputs (drop (inputs + 9) places))
+    ++ bits_at inputs lines (drop (10 + 2 * inputs) places)
 
 -- the bits of so many patterns whose printed lines are a text
 pub record ArePrintedBits (inputs count : ℕ) (bits : List Bool) (text : List ℕ) : Type 0 where

@@ -23,12 +23,18 @@ resolve_pattern_statement netlist (Hold assignments) = Hold (map (assigned_of ne
 resolve_pattern_statement netlist (Pattern from to) = Pattern from to
 
 -- the same with its line
-abbrev pub resolve_numbered_pattern : Netlist → Numbered PatternStatement → Numbered ResolvedPatternStatement
-resolve_numbered_pattern netlist numbered = record { line = numbered.line; statement = resolve_pattern_statement netlist numbered.statement }
+abbrev pub resolve_numbered_pattern : Netlist → Numbered PatternStatement →
+    Numbered ResolvedPatternStatement
+resolve_numbered_pattern netlist numbered =
+    record {
+      line = numbered.line;
+      statement = resolve_pattern_statement netlist numbered.statement;
+    }
 
 -- the statement of a token list, looked up, if it is one
 abbrev pub resolve_pattern_tokens : Netlist → List TokenOf → Option ResolvedPatternStatement
-resolve_pattern_tokens netlist tokens = option_map (resolve_pattern_statement netlist) (pattern_statement_of tokens)
+resolve_pattern_tokens netlist tokens =
+    option_map (resolve_pattern_statement netlist) (pattern_statement_of tokens)
 
 -- what a keyword is
 abbrev pub pattern_keyword_by : KeywordHere → PatternKeyword
@@ -36,8 +42,10 @@ pattern_keyword_by here.Hold = HoldWord
 pattern_keyword_by here.From = FromWord
 
 -- the statement of a keyword and the tokens after it, looked up
-abbrev pub resolve_pattern_keyword : Netlist → Option PatternKeyword → List TokenOf → Option ResolvedPatternStatement
-resolve_pattern_keyword netlist keyword rest = option_map (resolve_pattern_statement netlist) (pattern_statement_with keyword rest)
+abbrev pub resolve_pattern_keyword : Netlist → Option PatternKeyword → List TokenOf →
+    Option ResolvedPatternStatement
+resolve_pattern_keyword netlist keyword rest =
+    option_map (resolve_pattern_statement netlist) (pattern_statement_with keyword rest)
 
 -- what a statement that was read holds
 abbrev pub pattern_resolution_of : Held → ResolvedPatternStatement
@@ -54,5 +62,6 @@ abbrev pub numbered_pattern_resolution : PatternEntry → Numbered ResolvedPatte
 numbered_pattern_resolution entry = numbered_by pattern_resolution_of entry
 
 -- the statements of entries
-abbrev pub numbered_pattern_resolutions : List PatternEntry → List (Numbered ResolvedPatternStatement)
+abbrev pub numbered_pattern_resolutions : List PatternEntry →
+    List (Numbered ResolvedPatternStatement)
 numbered_pattern_resolutions entries = map numbered_pattern_resolution entries

@@ -20,7 +20,8 @@ first_late_hold statements = first_passing_line is_hold (drop 1 statements)
 
 -- the line of the statement past what is held and 65,536 patterns
 abbrev pub last_beyond : List (Numbered ResolvedPatternStatement) → Option ℕ
-last_beyond statements = option_map (λ numbered. numbered.line) (slice_get (behind_hold statements) most_patterns)
+last_beyond statements =
+    option_map (λ numbered. numbered.line) (slice_get (behind_hold statements) most_patterns)
 
 -- the passes over a text of patterns of a circuit with so many inputs
 abbrev pub pattern_rules : ℕ → Rules ResolvedPatternStatement
@@ -43,7 +44,8 @@ abbrev pub AssignsBelow : ℕ → PatternEntry → Type 0
 AssignsBelow nodes entry = AreBelow nodes (assignments_in (pattern_resolution_of entry.held))
 
 -- the statements of a text in which no fault stands
-pub record IsAcceptedPatternText (netlist : Netlist) (text : List ℕ) (entries : List PatternEntry) : Type 0 where
+pub record IsAcceptedPatternText (netlist : Netlist) (text : List ℕ)
+    (entries : List PatternEntry) : Type 0 where
   pub below : All (AssignsBelow (length netlist.names)) entries
   pub statements : numbered_pattern_resolutions entries ≡ resolved_pattern_statements netlist text
   pub clear : first_pattern_fault netlist.inputs (numbered_pattern_resolutions entries) ≡ None

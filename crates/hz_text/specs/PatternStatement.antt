@@ -22,7 +22,9 @@ pub data PatternKeyword : Type 0 where
 
 -- the keyword that a word is, in any letter case
 unfoldable pub pattern_keyword_of : List ℕ → Option PatternKeyword
-pattern_keyword_of word = if is_keyword word (codes "hold") then Some HoldWord else (if is_keyword word (codes "from") then Some FromWord else None)
+pattern_keyword_of word =
+    if is_keyword word (codes "hold") then Some HoldWord
+    else (if is_keyword word (codes "from") then Some FromWord else None)
 
 -- the word is the keyword between the two words of a pattern, in any letter case
 unfoldable pub is_to : List ℕ → Bool
@@ -30,7 +32,8 @@ is_to word = is_keyword word (codes "to")
 
 -- the pattern that the tokens after `from` are: a word, the word `to`, a word
 abbrev pub pattern_by : List TokenOf → Option PatternStatement
-pattern_by (WordOf from ∷ WordOf middle ∷ WordOf to ∷ []) = if is_to middle then Some (Pattern from to) else None
+pattern_by (WordOf from ∷ WordOf middle ∷ WordOf to ∷ []) =
+    if is_to middle then Some (Pattern from to) else None
 pattern_by _ = None
 
 -- the statement of a keyword and the tokens after it

@@ -17,7 +17,8 @@ held_first [] = []
 held_first (first ∷ later) = assignments_in first.statement
 
 -- the statements behind the first one, if that holds gates, else all
-abbrev pub behind_hold : List (Numbered ResolvedPatternStatement) → List (Numbered ResolvedPatternStatement)
+abbrev pub behind_hold : List (Numbered ResolvedPatternStatement) →
+    List (Numbered ResolvedPatternStatement)
 behind_hold [] = []
 behind_hold (first ∷ later) = if is_hold first.statement then later else first ∷ later
 
@@ -27,13 +28,16 @@ pattern_statement pattern = Pattern (bits_word pattern.from) (bits_word pattern.
 
 -- the value of statements of a circuit with so many nodes: at each node the bit that the first statement assigns to it, and
 -- for each statement behind it a pattern
-pub record ArePatternsBy (nodes : ℕ) (statements : List (Numbered ResolvedPatternStatement)) (value : PatternsOf) : Type 0 where
+pub record ArePatternsBy (nodes : ℕ) (statements : List (Numbered ResolvedPatternStatement))
+    (value : PatternsOf) : Type 0 where
   pub held : value.held ≡ map (assigned_bit (held_first statements)) (range_with_len 0 nodes)
-  pub patterns : map pattern_statement value.patterns ≡ map (λ numbered. numbered.statement) (behind_hold statements)
+  pub patterns : map pattern_statement value.patterns
+      ≡ map (λ numbered. numbered.statement) (behind_hold statements)
 
 -- the patterns are what the text stands for
 abbrev pub IsPatternsValue : Netlist → List ℕ → PatternsOf → Type 0
-IsPatternsValue netlist text value = ArePatternsBy (length netlist.names) (resolved_pattern_statements netlist text) value
+IsPatternsValue netlist text value =
+    ArePatternsBy (length netlist.names) (resolved_pattern_statements netlist text) value
 
 -- a pattern of so many inputs: two bits for each of them
 pub record IsPatternOf (inputs : ℕ) (pattern : PatternOf) : Type 0 where

@@ -15,7 +15,8 @@ assignment_text netlist pair = 32 ∷ node_name netlist.names pair.0 ++ 61 ∷ l
 
 -- a statement on a line of its own: its keyword and its assignments
 unfoldable pub statement_text : Netlist → List ℕ → List (ℕ × Bool) → List ℕ
-statement_text netlist keyword pairs = keyword ++ flat_map (assignment_text netlist) pairs ++ 10 ∷ []
+statement_text netlist keyword pairs =
+    keyword ++ flat_map (assignment_text netlist) pairs ++ 10 ∷ []
 
 -- the nodes that a start lists, with their bits; the first of these entries is for the node with this number
 abbrev pub listed_from : ℕ → List (Option Bool) → List (ℕ × Bool)
@@ -26,4 +27,5 @@ listed_from node (Some bit ∷ later) = (node, bit) ∷ listed_from (suc node) l
 -- a line for the start, in the order of the nodes, and one for each change, in its own order
 abbrev pub script_text : Netlist → ScriptOf → List ℕ
 script_text netlist script =
-    statement_text netlist (codes "start") (listed_from 0 script.start) ++ flat_map (statement_text netlist (codes "change")) script.changes
+    statement_text netlist (codes "start") (listed_from 0 script.start)
+    ++ flat_map (statement_text netlist (codes "change")) script.changes

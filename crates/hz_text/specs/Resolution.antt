@@ -19,11 +19,16 @@ pub record ResolvedStatement : Type 0 where
 
 -- a statement by the nodes of its names and the bits of its words
 abbrev pub resolve_statement : Netlist → ScriptStatement → ResolvedStatement
-resolve_statement netlist statement = record { keyword = statement.keyword; assigned = map (assigned_of netlist) statement.assignments }
+resolve_statement netlist statement =
+    record {
+      keyword = statement.keyword;
+      assigned = map (assigned_of netlist) statement.assignments;
+    }
 
 -- the same with its line
 abbrev pub resolve_numbered : Netlist → Numbered ScriptStatement → Numbered ResolvedStatement
-resolve_numbered netlist numbered = record { line = numbered.line; statement = resolve_statement netlist numbered.statement }
+resolve_numbered netlist numbered =
+    record { line = numbered.line; statement = resolve_statement netlist numbered.statement }
 
 -- the statement of a token list by its nodes and bits, if it is one
 abbrev pub resolve_tokens : Netlist → List TokenOf → Option ResolvedStatement

@@ -53,7 +53,9 @@ mismatch_at wrong = Mismatch wrong.line wrong.told wrong.real
 abbrev pub first_fault_in : {S : Type 0} → Rules S → List (Numbered S) → Option TextFault
 first_fault_in rules statements =
     option_or (option_map Unknown (first_passing_line rules.unknown statements))
-    (option_or (option_map Twice (first_passing_line (λ statement. repeats_node (rules.assigned statement)) statements))
+    (option_or
+    (option_map Twice
+    (first_passing_line (λ statement. repeats_node (rules.assigned statement)) statements))
     (option_or (option_map Missing (rules.missing statements))
     (option_or (option_map Bit (first_passing_line rules.bitless statements))
     (option_or (option_map Order (rules.order statements))
@@ -61,16 +63,19 @@ first_fault_in rules statements =
     (option_map mismatch_at (rules.mismatch statements)))))))
 
 -- what a text has first: a malformed line, or what the passes answer
-abbrev pub first_fault_of : {S : Type 0} → (List TokenOf → Option S) → Rules S → List ℕ → Option TextFault
+abbrev pub first_fault_of : {S : Type 0} → (List TokenOf → Option S) → Rules S → List ℕ →
+    Option TextFault
 first_fault_of grammar rules text =
-    option_or (option_map Form (first_malformed grammar 1 (lines_of text))) (first_fault_in rules (numbered_statements grammar text))
+    option_or (option_map Form (first_malformed grammar 1 (lines_of text)))
+    (first_fault_in rules (numbered_statements grammar text))
 
 -- the fault is the answer; memory may always run out
 abbrev pub IsFaultOrMemory : Option TextFault → TextFault → Type 0
 IsFaultOrMemory answer fault = OrThat Memory (λ found. answer ≡ Some found) fault
 
 -- the statements of a text that has no fault first
-pub record IsChecked {S : Type 0} (grammar : List TokenOf → Option S) (rules : Rules S) (text : List ℕ) (statements : List (Numbered S)) : Type 0 where
+pub record IsChecked {S : Type 0} (grammar : List TokenOf → Option S) (rules : Rules S)
+    (text : List ℕ) (statements : List (Numbered S)) : Type 0 where
   pub read : AreStatementsOf grammar text statements
   pub clear : first_fault_in rules statements ≡ None
 

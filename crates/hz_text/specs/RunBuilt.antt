@@ -34,6 +34,7 @@ last_place (run ∷ []) = place_in run.cycle
 last_place (run ∷ next ∷ later) = last_place (next ∷ later)
 
 -- a statement was added to runs
-pub record IsRunAdded (old : List RunOf) (statement : ResolvedRunStatement) (new : List RunOf) : Type 0 where
+pub record IsRunAdded (old : List RunOf) (statement : ResolvedRunStatement)
+    (new : List RunOf) : Type 0 where
   pub statements : flat_map run_statements new ≡ flat_map run_statements old ++ statement ∷ []
   pub place : place_after (last_place old) statement ≡ Some (last_place new)

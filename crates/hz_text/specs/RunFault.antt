@@ -58,9 +58,12 @@ is_input_line (Input assignments) = true
 is_input_line _ = false
 
 -- what the first statement that passes the test assigns, if there is one
-abbrev pub first_assigned : (ResolvedRunStatement → Bool) → List (Numbered ResolvedRunStatement) → Option (List Assigned)
+abbrev pub first_assigned : (ResolvedRunStatement → Bool) → List (Numbered ResolvedRunStatement) →
+    Option (List Assigned)
 first_assigned test [] = None
-first_assigned test (first ∷ later) = if test first.statement then Some (assignments_in first.statement) else first_assigned test later
+first_assigned test (first ∷ later) =
+    if test first.statement then Some (assignments_in first.statement)
+    else first_assigned test later
 
 -- what the first start assigns, and what the first input line does
 abbrev pub first_start : List (Numbered ResolvedRunStatement) → Option (List Assigned)
@@ -77,7 +80,8 @@ LeavesOut (Some assigned) nodes node = (node < nodes) × (assigns assigned node 
 -- the first start leaves this node out, or the first input line leaves this input out
 abbrev pub IsUnassigned : Netlist → List (Numbered ResolvedRunStatement) → ℕ → Type 0
 IsUnassigned netlist statements node =
-    LeavesOut (first_start statements) (length netlist.names) node ⊎ LeavesOut (first_input statements) netlist.inputs node
+    LeavesOut (first_start statements) (length netlist.names) node
+    ⊎ LeavesOut (first_input statements) netlist.inputs node
 
 -- how many steps a statement is
 abbrev pub steps_in : {A V : Type 0} → StatementOf A V → ℕ
@@ -94,7 +98,8 @@ named_count statements = sum_by (λ numbered. length (variables_in numbered.stat
 
 -- there are more than 2,000,000 steps, or more than 2,000,000 variables in steps
 abbrev pub AreTooMany : List (Numbered ResolvedRunStatement) → Type 0
-AreTooMany statements = (most_steps < statement_step_count statements) ⊎ (most_steps < named_count statements)
+AreTooMany statements =
+    (most_steps < statement_step_count statements) ⊎ (most_steps < named_count statements)
 
 -- up to the statement on this line there are too many, and before it there are not
 pub record IsBeyond (statements : List (Numbered ResolvedRunStatement)) (line : ℕ) : Type 0 where
@@ -129,10 +134,12 @@ size_in _ = None
 -- the line of the first statement that tells the size of a network, and that size
 abbrev pub first_size : List (Numbered ResolvedRunStatement) → Option (ℕ × Size)
 first_size [] = None
-first_size (first ∷ later) = option_map_or (λ size. Some (first.line, size)) (size_in first.statement) (first_size later)
+first_size (first ∷ later) =
+    option_map_or (λ size. Some (first.line, size)) (size_in first.statement) (first_size later)
 
 -- a text of version 2 tells a size, first on this line, in which this count is the first that is not the network's
-pub record IsMismatch (netlist : Netlist) (statements : List (Numbered ResolvedRunStatement)) (line told real : ℕ) : Type 0 where
+pub record IsMismatch (netlist : Netlist) (statements : List (Numbered ResolvedRunStatement))
+    (line told real : ℕ) : Type 0 where
   pub version : IsOfVersionTwo statements
   pub size : Size
   pub tells : first_size statements ≡ Some (line, size)
@@ -141,14 +148,19 @@ pub record IsMismatch (netlist : Netlist) (statements : List (Numbered ResolvedR
 -- the fault stands in the text
 abbrev pub HasRunFault : Netlist → List ℕ → TextFault → Type 0
 HasRunFault netlist text (fault.Form line) = meaning_at run_statement_of text line ≡ Malformed
-HasRunFault netlist text (fault.Unknown line) = PassesOn (names_unknown netlist.inputs) (resolved_run_statements netlist text) line
+HasRunFault netlist text (fault.Unknown line) =
+    PassesOn (names_unknown netlist.inputs) (resolved_run_statements netlist text) line
 HasRunFault netlist text (fault.Twice line) = PassesOn names_twice (run_statements_of text) line
-HasRunFault netlist text (fault.Missing node) = IsUnassigned netlist (resolved_run_statements netlist text) node
-HasRunFault netlist text (fault.Bit line) = PassesOn lacks_bit (resolved_run_statements netlist text) line
-HasRunFault netlist text (fault.Order line) = BreaksOrder (resolved_run_statements netlist text) line
+HasRunFault netlist text (fault.Missing node) =
+    IsUnassigned netlist (resolved_run_statements netlist text) node
+HasRunFault netlist text (fault.Bit line) =
+    PassesOn lacks_bit (resolved_run_statements netlist text) line
+HasRunFault netlist text (fault.Order line) =
+    BreaksOrder (resolved_run_statements netlist text) line
 HasRunFault netlist text (fault.TooMany line) = IsBeyond (resolved_run_statements netlist text) line
 HasRunFault netlist text fault.Memory = ⊥
-HasRunFault netlist text (fault.Mismatch line told real) = IsMismatch netlist (resolved_run_statements netlist text) line told real
+HasRunFault netlist text (fault.Mismatch line told real) =
+    IsMismatch netlist (resolved_run_statements netlist text) line told real
 
 -- the fault stands in the text and comes before each other that does
 abbrev pub IsLeastRunFault : Netlist → List ℕ → TextFault → Type 0

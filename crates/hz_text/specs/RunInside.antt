@@ -42,7 +42,8 @@ HasMore {X} old new = (more : List X) × (new ≡ old ++ more)
 
 -- the run of the fields
 abbrev pub run_of_fields : OpenInside → RunOf
-run_of_fields inside = record { lead = inside.lead.steps; cycle = option_map (λ run. run.steps) inside.cycle }
+run_of_fields inside =
+    record { lead = inside.lead.steps; cycle = option_map (λ run. run.steps) inside.cycle }
 
 -- the runs of the fields: those that are over, and the one that goes on
 abbrev pub built_of_fields : BuilderInside → List RunOf

@@ -7,12 +7,14 @@ use Rattle.hz_text.specs.declared.run.version.Version.TheVariants.{One, Two}
 use Rattle.hz_text.specs.RunStatement.{StatementOf, Header, Net, Start, Input, Run, Step, Cycle, End}
 
 -- the statements of a cycle, if there is one: its first line and its steps
-abbrev pub cycle_lines : {F A V : Type 0} → (F → StatementOf A V) → Option (List F) → List (StatementOf A V)
+abbrev pub cycle_lines : {F A V : Type 0} → (F → StatementOf A V) → Option (List F) →
+    List (StatementOf A V)
 cycle_lines step None = []
 cycle_lines step (Some steps) = Cycle ∷ map step steps
 
 -- the statements of a run: its first line, its steps, and its cycle
-abbrev pub run_lines : {F A V : Type 0} → (F → StatementOf A V) → List F → Option (List F) → List (StatementOf A V)
+abbrev pub run_lines : {F A V : Type 0} → (F → StatementOf A V) → List F → Option (List F) →
+    List (StatementOf A V)
 run_lines step lead cycle = Run ∷ map step lead ++ cycle_lines step cycle
 
 -- a run by the variables of its steps: those of its lead, and those of its cycle, if it has one
@@ -36,7 +38,8 @@ pub record IsOrdered {A V : Type 0} (statements : List (StatementOf A V)) : Type
   pub start : List A
   pub input : List A
   pub runs : List (RunShape V)
-  pub are : statements ≡ header_lines size ++ (Start start ∷ Input input ∷ flat_map shape_lines runs ++ End ∷ [])
+  pub are : statements
+      ≡ header_lines size ++ (Start start ∷ Input input ∷ flat_map shape_lines runs ++ End ∷ [])
 
 -- some more statements would make an order of them
 abbrev pub MayGoOn : {A V : Type 0} → List (StatementOf A V) → Type 0
@@ -47,7 +50,8 @@ abbrev pub statements_without_lines : {S : Type 0} → List (Numbered S) → Lis
 statements_without_lines statements = map (λ numbered. numbered.statement) statements
 
 -- the statements before this line may go on, and with it no longer
-pub record IsOutOfPlace {A V : Type 0} (statements : List (Numbered (StatementOf A V))) (line : ℕ) : Type 0 where
+pub record IsOutOfPlace {A V : Type 0} (statements : List (Numbered (StatementOf A V)))
+    (line : ℕ) : Type 0 where
   pub before : List (Numbered (StatementOf A V))
   pub last : Numbered (StatementOf A V)
   pub after : List (Numbered (StatementOf A V))
@@ -59,4 +63,6 @@ pub record IsOutOfPlace {A V : Type 0} (statements : List (Numbered (StatementOf
 -- this line breaks the order; it is 0 where the statements may go on and are not whole
 abbrev pub BreaksOrder : {A V : Type 0} → List (Numbered (StatementOf A V)) → ℕ → Type 0
 BreaksOrder statements line =
-    IsOutOfPlace statements line ⊎ ((line ≡ 0) × MayGoOn (statements_without_lines statements) × (¬ IsOrdered (statements_without_lines statements)))
+    IsOutOfPlace statements line
+    ⊎ ((line ≡ 0) × MayGoOn (statements_without_lines statements)
+    × (¬ IsOrdered (statements_without_lines statements)))

@@ -36,7 +36,8 @@ cycle_text netlist (Some steps) = codes "cycle\n" ++ flat_map (step_text netlist
 
 -- the lines of a run
 unfoldable pub run_text : Netlist → RunOf → List ℕ
-run_text netlist run = codes "run\n" ++ flat_map (step_text netlist) run.lead ++ cycle_text netlist run.cycle
+run_text netlist run =
+    codes "run\n" ++ flat_map (step_text netlist) run.lead ++ cycle_text netlist run.cycle
 
 -- bits, each with its number, as a start lists them
 abbrev pub all_listed : List Bool → List (ℕ × Bool)
@@ -44,7 +45,10 @@ all_listed bits = listed_from 0 (map Some bits)
 
 -- the size of a network on a line of its own: the numbers of the inputs, of the gates and of the wires
 unfoldable pub net_line : Size → List ℕ
-net_line size = line_of (codes "net " ∷ decimal size.inputs ∷ codes " " ∷ decimal size.gates ∷ codes " " ∷ decimal size.wires ∷ [])
+net_line size =
+    line_of
+    (codes "net " ∷ decimal size.inputs ∷ codes " " ∷ decimal size.gates ∷ codes " "
+    ∷ decimal size.wires ∷ [])
 
 -- the first lines: the version, and the size of the network
 unfoldable pub version_text : Netlist → List ℕ
@@ -53,7 +57,8 @@ version_text netlist = codes "runs 2\n" ++ net_line (size_of netlist)
 -- the lines before the runs: those, the start, which lists all nodes, and the input, which lists all inputs
 unfoldable pub states_text : Netlist → List Bool → List Bool → List ℕ
 states_text netlist nodes input =
-    version_text netlist ++ statement_text netlist (codes "start") (all_listed nodes) ++ statement_text netlist (codes "input") (all_listed input)
+    version_text netlist ++ statement_text netlist (codes "start") (all_listed nodes)
+    ++ statement_text netlist (codes "input") (all_listed input)
 
 -- These lines, those of each run, and a line for the end. The version is the second, whichever the value was read from.
 unfoldable pub run_text_printed : Netlist → RunTextOf → List ℕ

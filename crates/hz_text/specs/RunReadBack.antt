@@ -9,4 +9,5 @@ use Rattle.hz_text.specs.RunValue.{RunTextOf}
 abbrev pub PrintedRunsAreRead : Type 0
 PrintedRunsAreRead =
     (netlist : Netlist) (value : RunTextOf) → IsCircuit netlist → IsRunTextFor netlist value →
-    IsRunFaultless netlist (run_text_printed netlist value) × IsRunValue netlist (run_text_printed netlist value) value
+    IsRunFaultless netlist (run_text_printed netlist value)
+    × IsRunValue netlist (run_text_printed netlist value) value

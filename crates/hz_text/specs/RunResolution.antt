@@ -20,13 +20,15 @@ use Rattle.hz_text.specs.RunStatement.{Variable, Node, Pin, StatementOf, Header,
 abbrev pub wire_into : Netlist → Option ℕ → ℕ → Option ℕ
 wire_into netlist None pin = None
 wire_into netlist (Some node) pin =
-    if nat_le netlist.inputs node && (nat_le 1 pin && nat_le pin (length (gate_at netlist node).sources))
+    if nat_le netlist.inputs node
+    && (nat_le 1 pin && nat_le pin (length (gate_at netlist node).sources))
     then Some (first_wire netlist node + (pin - 1)) else None
 
 -- the variable of the network that is written so, if there is one
 abbrev pub variable_named : Netlist → Variable → Option ℕ
 variable_named netlist (Node name) = node_named netlist name
-variable_named netlist (Pin name number) = wire_into netlist (node_named netlist name) (number_by number)
+variable_named netlist (Pin name number) =
+    wire_into netlist (node_named netlist name) (number_by number)
 
 -- a statement by its nodes and bits, and its variables
 abbrev pub ResolvedRunStatement : Type 0
@@ -45,11 +47,13 @@ resolve_run_statement netlist End = End
 
 -- the same with its line
 abbrev pub resolve_numbered_run : Netlist → Numbered RunStatement → Numbered ResolvedRunStatement
-resolve_numbered_run netlist numbered = record { line = numbered.line; statement = resolve_run_statement netlist numbered.statement }
+resolve_numbered_run netlist numbered =
+    record { line = numbered.line; statement = resolve_run_statement netlist numbered.statement }
 
 -- the statement of a token list, looked up, if it is one
 abbrev pub resolve_run_tokens : Netlist → List TokenOf → Option ResolvedRunStatement
-resolve_run_tokens netlist tokens = option_map (resolve_run_statement netlist) (run_statement_of tokens)
+resolve_run_tokens netlist tokens =
+    option_map (resolve_run_statement netlist) (run_statement_of tokens)
 
 -- what a keyword is
 abbrev pub run_keyword_by : KeywordHere → RunKeyword
@@ -63,8 +67,10 @@ run_keyword_by here.Cycle = keyword.Cycle
 run_keyword_by here.End = keyword.End
 
 -- the statement of a keyword and the tokens after it, looked up
-abbrev pub resolve_run_keyword : Netlist → Option RunKeyword → List TokenOf → Option ResolvedRunStatement
-resolve_run_keyword netlist keyword rest = option_map (resolve_run_statement netlist) (run_statement_with keyword rest)
+abbrev pub resolve_run_keyword : Netlist → Option RunKeyword → List TokenOf →
+    Option ResolvedRunStatement
+resolve_run_keyword netlist keyword rest =
+    option_map (resolve_run_statement netlist) (run_statement_with keyword rest)
 
 -- the variables that tokens are, looked up
 abbrev pub variables_by : Netlist → List TokenOf → Option (List (Option ℕ))

@@ -31,26 +31,32 @@ least_left_out (Some assigned) nodes = least_unassigned nodes assigned
 -- the least node that the first start leaves out or input that the first input line leaves out
 abbrev pub least_missing_node : Netlist → List (Numbered ResolvedRunStatement) → Option ℕ
 least_missing_node netlist statements =
-    option_min (least_left_out (first_start statements) (length netlist.names)) (least_left_out (first_input statements) netlist.inputs)
+    option_min (least_left_out (first_start statements) (length netlist.names))
+    (least_left_out (first_input statements) netlist.inputs)
 
 -- the first line up to which there are more than 2,000,000 steps, or more than 2,000,000 variables in steps, where there
 -- were so many before
 abbrev pub beyond_from : ℕ → ℕ → List (Numbered ResolvedRunStatement) → Option ℕ
 beyond_from steps variables [] = None
 beyond_from steps variables (first ∷ later) =
-    if nat_lt most_steps (steps + steps_in first.statement) || nat_lt most_steps (variables + length (variables_in first.statement))
+    if nat_lt most_steps (steps + steps_in first.statement)
+    || nat_lt most_steps (variables + length (variables_in first.statement))
     then Some first.line
-    else beyond_from (steps + steps_in first.statement) (variables + length (variables_in first.statement)) later
+    else beyond_from (steps + steps_in first.statement)
+    (variables + length (variables_in first.statement)) later
 
 -- the first count of the network's size that is told wrongly, by the size that is told first
 abbrev pub mismatch_with : Size → Option (ℕ × Size) → Option Mismatch
 mismatch_with real None = None
-mismatch_with real (Some told) = option_map (λ counts. record { line = told.0; told = counts.0; real = counts.1 }) (difference told.1 real)
+mismatch_with real (Some told) =
+    option_map (λ counts. record { line = told.0; told = counts.0; real = counts.1 })
+    (difference told.1 real)
 
 -- the same in a text, if it is of version 2
 abbrev pub first_mismatch : Size → List (Numbered ResolvedRunStatement) → Option Mismatch
 first_mismatch real [] = None
-first_mismatch real (first ∷ later) = if is_second first.statement then mismatch_with real (first_size (first ∷ later)) else None
+first_mismatch real (first ∷ later) =
+    if is_second first.statement then mismatch_with real (first_size (first ∷ later)) else None
 
 -- the passes over a run text of a circuit
 abbrev pub run_rules : Netlist → Rules ResolvedRunStatement
@@ -69,7 +75,8 @@ abbrev pub first_run_fault : Netlist → List (Numbered ResolvedRunStatement) �
 first_run_fault netlist statements = first_fault_in (run_rules netlist) statements
 
 -- the statements of a text in which no fault stands
-pub record IsAcceptedRunText (netlist : Netlist) (text : List ℕ) (entries : List RunEntry) : Type 0 where
+pub record IsAcceptedRunText (netlist : Netlist) (text : List ℕ)
+    (entries : List RunEntry) : Type 0 where
   pub below : All (AssignsBelow (length netlist.names)) entries
   pub statements : numbered_run_resolutions entries ≡ resolved_run_statements netlist text
   pub clear : first_run_fault netlist (numbered_run_resolutions entries) ≡ None

@@ -5,7 +5,8 @@ use Rattle.hz_text.specs.declared.run.size.Size.{Size}
 
 -- how many inputs, gates and wires the network of a circuit has
 abbrev pub size_of : Netlist → Size
-size_of netlist = record { inputs = netlist.inputs; gates = length netlist.gates; wires = pin_count netlist }
+size_of netlist =
+    record { inputs = netlist.inputs; gates = length netlist.gates; wires = pin_count netlist }
 
 -- the counts of a size, in their order
 abbrev pub counts_of : Size → List ℕ
@@ -23,5 +24,7 @@ pub record DifferFirst (list other : List ℕ) (told real : ℕ) : Type 0 where
 -- the first count in which two sizes differ, as each has it
 abbrev pub difference : Size → Size → Option (ℕ × ℕ)
 difference told real =
-    if nat_eq told.inputs real.inputs then (if nat_eq told.gates real.gates then (if nat_eq told.wires real.wires then None
-    else Some (told.wires, real.wires)) else Some (told.gates, real.gates)) else Some (told.inputs, real.inputs)
+    if nat_eq told.inputs real.inputs
+    then (if nat_eq told.gates real.gates then (if nat_eq told.wires real.wires then None
+    else Some (told.wires, real.wires)) else Some (told.gates, real.gates))
+    else Some (told.inputs, real.inputs)

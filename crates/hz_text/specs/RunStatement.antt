@@ -26,7 +26,8 @@ is_digit byte = nat_le 48 byte && nat_le byte 57
 -- a decimal number without leading zero: digits, the first of which is 0 only where it stands alone
 abbrev pub is_decimal : List ℕ → Bool
 is_decimal [] = false
-is_decimal (first ∷ later) = list_all is_digit (first ∷ later) && (not (first == 48) || length later == 0)
+is_decimal (first ∷ later) =
+    list_all is_digit (first ∷ later) && (not (first == 48) || length later == 0)
 
 -- the number that digits stand for
 abbrev pub number_by : List ℕ → ℕ
@@ -39,7 +40,8 @@ with_first first later = option_map (λ those. first ∷ those) later
 -- the variables that tokens are: a name, or the four tokens name, '(', number, ')'
 abbrev pub variables_of_tokens : List TokenOf → Option (List Variable)
 variables_of_tokens [] = Some []
-variables_of_tokens (WordOf name ∷ PunctuationOf Open ∷ WordOf number ∷ PunctuationOf Close ∷ rest) =
+variables_of_tokens
+    (WordOf name ∷ PunctuationOf Open ∷ WordOf number ∷ PunctuationOf Close ∷ rest) =
     if is_decimal number then with_first (Pin name number) (variables_of_tokens rest) else None
 variables_of_tokens (WordOf name ∷ rest) = with_first (Node name) (variables_of_tokens rest)
 variables_of_tokens _ = None
@@ -74,21 +76,26 @@ run_keyword_of word =
 
 -- the version that tokens are
 abbrev pub version_of : List TokenOf → Option Version
-version_of (WordOf word ∷ []) = if bytes_eq word (codes "1") then Some One else (if bytes_eq word (codes "2") then Some Two else None)
+version_of (WordOf word ∷ []) =
+    if bytes_eq word (codes "1") then Some One
+    else (if bytes_eq word (codes "2") then Some Two else None)
 version_of _ = None
 
 -- the number that a word is: a decimal one without leading zero, at most 4,294,967,295
 abbrev pub count_of : List ℕ → Option ℕ
-count_of word = if is_decimal word && nat_le (number_by word) 4294967295 then Some (number_by word) else None
+count_of word =
+    if is_decimal word && nat_le (number_by word) 4294967295 then Some (number_by word) else None
 
 -- the size with these counts, if all are there
 abbrev pub size_with : Option ℕ → Option ℕ → Option ℕ → Option Size
-size_with (Some inputs) (Some gates) (Some wires) = Some (record { inputs = inputs; gates = gates; wires = wires })
+size_with (Some inputs) (Some gates) (Some wires) =
+    Some (record { inputs = inputs; gates = gates; wires = wires })
 size_with _ _ _ = None
 
 -- the size that tokens are: the numbers of the inputs, of the gates and of the wires
 abbrev pub size_by : List TokenOf → Option Size
-size_by (WordOf inputs ∷ WordOf gates ∷ WordOf wires ∷ []) = size_with (count_of inputs) (count_of gates) (count_of wires)
+size_by (WordOf inputs ∷ WordOf gates ∷ WordOf wires ∷ []) =
+    size_with (count_of inputs) (count_of gates) (count_of wires)
 size_by _ = None
 
 -- the statement, where no token is left

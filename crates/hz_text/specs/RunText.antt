@@ -27,17 +27,22 @@ run_statements run = run_lines step_of run.lead run.cycle
 
 -- The value of statements: the header, in version 2 with the size of the network, a start that gives each node its bit, an
 -- input line that gives each input its bit, the statements of the runs, one run after the other, and the end.
-pub record IsRunTextBy (netlist : Netlist) (statements : List ResolvedRunStatement) (value : RunTextOf) : Type 0 where
+pub record IsRunTextBy (netlist : Netlist) (statements : List ResolvedRunStatement)
+    (value : RunTextOf) : Type 0 where
   pub size : Option Size
   pub start : List Assigned
   pub input : List Assigned
-  pub are : statements ≡ header_lines size ++ (Start start ∷ Input input ∷ flat_map run_statements value.runs ++ End ∷ [])
-  pub nodes_are : map Some value.nodes ≡ map (assigned_bit start) (range_with_len 0 (length netlist.names))
+  pub are : statements
+      ≡ header_lines size
+      ++ (Start start ∷ Input input ∷ flat_map run_statements value.runs ++ End ∷ [])
+  pub nodes_are : map Some value.nodes
+      ≡ map (assigned_bit start) (range_with_len 0 (length netlist.names))
   pub input_is : map Some value.input ≡ map (assigned_bit input) (range_with_len 0 netlist.inputs)
 
 -- the run text is what the text stands for
 abbrev pub IsRunValue : Netlist → List ℕ → RunTextOf → Type 0
-IsRunValue netlist text value = IsRunTextBy netlist (statements_without_lines (resolved_run_statements netlist text)) value
+IsRunValue netlist text value =
+    IsRunTextBy netlist (statements_without_lines (resolved_run_statements netlist text)) value
 
 -- a run text of a network: a bit for each node and for each input, steps of variables, and the limits kept
 pub record IsRunTextFor (netlist : Netlist) (value : RunTextOf) : Type 0 where

@@ -45,7 +45,8 @@ is_start looked = is_start_word looked.keyword
 abbrev pub IsMissing : ℕ → List (Numbered ResolvedStatement) → ℕ → Type 0
 IsMissing primary [] node = ⊥
 IsMissing primary (first ∷ later) node =
-    (is_start first.statement ≡ true) × (node < primary) × (assigns first.statement.assigned node ≡ false)
+    (is_start first.statement ≡ true) × (node < primary)
+    × (assigns first.statement.assigned node ≡ false)
 
 -- the first statement, on this line, is no start, or a later one, on this line, is; line 0 where there is no statement
 abbrev pub IsOutOfOrder : List (Numbered ResolvedStatement) → ℕ → Type 0
@@ -56,17 +57,21 @@ IsOutOfOrder (first ∷ later) line =
 -- the line of the change 10,001, if there are so many
 abbrev pub line_beyond : List (Numbered ResolvedStatement) → Option ℕ
 line_beyond statements =
-    option_map (λ numbered. numbered.line) (slice_get (filter (λ numbered. not (is_start numbered.statement)) statements) most_changes)
+    option_map (λ numbered. numbered.line)
+    (slice_get (filter (λ numbered. not (is_start numbered.statement)) statements) most_changes)
 
 -- the fault stands in the text
 abbrev pub HasScriptFault : Netlist → List ℕ → TextFault → Type 0
 HasScriptFault netlist text (Form line) = meaning_at script_statement_of text line ≡ Malformed
-HasScriptFault netlist text (Unknown line) = PassesOn (has_unknown netlist.inputs) (resolved_statements netlist text) line
+HasScriptFault netlist text (Unknown line) =
+    PassesOn (has_unknown netlist.inputs) (resolved_statements netlist text) line
 HasScriptFault netlist text (Twice line) = PassesOn has_twice (script_statements_of text) line
-HasScriptFault netlist text (Missing node) = IsMissing (primary_inputs netlist) (resolved_statements netlist text) node
+HasScriptFault netlist text (Missing node) =
+    IsMissing (primary_inputs netlist) (resolved_statements netlist text) node
 HasScriptFault netlist text (Bit line) = PassesOn has_no_bit (resolved_statements netlist text) line
 HasScriptFault netlist text (Order line) = IsOutOfOrder (resolved_statements netlist text) line
-HasScriptFault netlist text (TooMany line) = line_beyond (resolved_statements netlist text) ≡ Some line
+HasScriptFault netlist text (TooMany line) =
+    line_beyond (resolved_statements netlist text) ≡ Some line
 HasScriptFault netlist text Memory = ⊥
 HasScriptFault netlist text (Mismatch line told real) = ⊥
 

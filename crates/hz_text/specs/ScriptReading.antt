@@ -12,10 +12,13 @@ abbrev pub IsSound : ℕ → ResolvedStatement → Type 0
 IsSound nodes looked = ArePairs nodes looked.assigned
 
 -- the statements of a text in which no fault stands
-pub record IsAcceptedScript (netlist : Netlist) (text : List ℕ) (entries : List ScriptEntry) : Type 0 where
+pub record IsAcceptedScript (netlist : Netlist) (text : List ℕ)
+    (entries : List ScriptEntry) : Type 0 where
   pub statements : map numbered_resolution entries ≡ resolved_statements netlist text
   pub some : 0 < length entries
   pub few : length entries ≤ 10001
   pub sound : All (λ entry. IsSound (length netlist.names) (resolution_of entry.held)) entries
   pub faultless : IsScriptFaultless netlist text
-  pub usable : IsCircuit netlist → (script : ScriptOf) → IsScriptOf (length netlist.names) (resolved_statements netlist text) script → IsScriptFor netlist script
+  pub usable : IsCircuit netlist → (script : ScriptOf) →
+      IsScriptOf (length netlist.names) (resolved_statements netlist text) script →
+      IsScriptFor netlist script

@@ -14,12 +14,14 @@ has_node_twice looked = repeats_node looked.assigned
 -- the least of so many primary inputs that a first start does not assign
 abbrev pub least_missing : ℕ → List (Numbered ResolvedStatement) → Option ℕ
 least_missing primary [] = None
-least_missing primary (first ∷ later) = if is_start first.statement then least_unassigned primary first.statement.assigned else None
+least_missing primary (first ∷ later) =
+    if is_start first.statement then least_unassigned primary first.statement.assigned else None
 
 -- the line that breaks the order first
 abbrev pub first_out_of_order : List (Numbered ResolvedStatement) → Option ℕ
 first_out_of_order [] = Some 0
-first_out_of_order (first ∷ later) = if is_start first.statement then first_passing_line is_start later else Some first.line
+first_out_of_order (first ∷ later) =
+    if is_start first.statement then first_passing_line is_start later else Some first.line
 
 -- the line of the first statement past a start and 10,000 changes
 abbrev pub last_beyond : List (Numbered ResolvedStatement) → Option ℕ
@@ -39,4 +41,5 @@ script_rules inputs primary = record {
 
 -- what the passes answer, one after the other
 abbrev pub first_script_fault : ℕ → ℕ → List (Numbered ResolvedStatement) → Option TextFault
-first_script_fault inputs primary statements = first_fault_in (script_rules inputs primary) statements
+first_script_fault inputs primary statements =
+    first_fault_in (script_rules inputs primary) statements

@@ -10,9 +10,11 @@ use Rattle.hz_text.specs.ScriptValue.{ScriptOf, IsChange}
 use Rattle.hz_text.specs.Limits.{most_changes}
 
 -- the script of a start and changes: at each node the start's bit, and the assignments of each change in their order
-pub record IsScriptBy (nodes : ℕ) (first : ResolvedStatement) (later : List (Numbered ResolvedStatement)) (script : ScriptOf) : Type 0 where
+pub record IsScriptBy (nodes : ℕ) (first : ResolvedStatement)
+    (later : List (Numbered ResolvedStatement)) (script : ScriptOf) : Type 0 where
   pub start : script.start ≡ map (assigned_bit first.assigned) (range_with_len 0 nodes)
-  pub changes : map (map assignment_to) script.changes ≡ map (λ numbered. numbered.statement.assigned) later
+  pub changes : map (map assignment_to) script.changes
+      ≡ map (λ numbered. numbered.statement.assigned) later
 
 -- the script of statements: the first is the start, all others are changes
 abbrev pub IsScriptOf : ℕ → List (Numbered ResolvedStatement) → ScriptOf → Type 0
@@ -21,7 +23,8 @@ IsScriptOf nodes (first ∷ later) script = IsScriptBy nodes first.statement lat
 
 -- the script is what the text stands for
 abbrev pub IsValue : Netlist → List ℕ → ScriptOf → Type 0
-IsValue netlist text script = IsScriptOf (length netlist.names) (resolved_statements netlist text) script
+IsValue netlist text script =
+    IsScriptOf (length netlist.names) (resolved_statements netlist text) script
 
 -- a script of a circuit: one entry for each node, each primary input listed, and changes of inputs alone
 pub record IsScriptFor (netlist : Netlist) (script : ScriptOf) : Type 0 where

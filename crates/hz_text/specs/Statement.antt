@@ -18,12 +18,16 @@ pub record ScriptStatement : Type 0 where
 
 -- the keyword that a word is, in any letter case
 unfoldable pub keyword_of : List ℕ → Option Keyword
-keyword_of word = if is_keyword word (codes "start") then Some Start else (if is_keyword word (codes "change") then Some Change else None)
+keyword_of word =
+    if is_keyword word (codes "start") then Some Start
+    else (if is_keyword word (codes "change") then Some Change else None)
 
 -- the statement of a keyword and the tokens after it
 abbrev pub script_statement_with : Option Keyword → List TokenOf → Option ScriptStatement
 script_statement_with None rest = None
-script_statement_with (Some keyword) rest = option_map (λ assignments. record { keyword = keyword; assignments = assignments }) (assignments_of rest)
+script_statement_with (Some keyword) rest =
+    option_map (λ assignments. record { keyword = keyword; assignments = assignments })
+    (assignments_of rest)
 
 -- the one statement of a token list, if it is one: a keyword, then any number of assignments
 abbrev pub script_statement_of : List TokenOf → Option ScriptStatement

@@ -9,7 +9,8 @@ use Rattle.hz_top.specs.Outcome.{Observation, CountsStay}
 
 -- the bytes of the first file are too many, or no netlist
 abbrev pub IsRefusedFirst : (name bytes : List ℕ) → Type 0
-IsRefusedFirst name bytes = (most_text_bytes < length bytes) ⊎ ((line : List ℕ) × NetlistRefused name bytes line)
+IsRefusedFirst name bytes =
+    (most_text_bytes < length bytes) ⊎ ((line : List ℕ) × NetlistRefused name bytes line)
 
 -- No file is asked for without a job, nor for a demo. The second is not asked for where the first one, which is told, is refused.
 abbrev pub LeavesFiles : Observation → Option JobOf → Type 0

@@ -25,51 +25,71 @@ pub record Observation : Type 0 where
 
 -- the counts of a place stay, as where its file is not asked for
 abbrev pub CountsStay : Observation → Place → Type 0
-CountsStay told place = (told.faults_after place ≡ told.faults place) × (told.longs_after place ≡ told.longs place)
+CountsStay told place =
+    (told.faults_after place ≡ told.faults place) × (told.longs_after place ≡ told.longs place)
 
 -- the file at a place was not read, or was too long: its count shows it
 abbrev pub FileRefused : Observation → Place → List ℕ → Status → List ℕ → Type 0
 FileRefused told place name own text =
-    (Rose (told.faults place) (told.faults_after place) × Prints status.File (unread_line place) own text)
+    (Rose (told.faults place) (told.faults_after place)
+    × Prints status.File (unread_line place) own text)
     ⊎ (Rose (told.longs place) (told.longs_after place)
-    × IfSome told.held (λ bytes_of. most_text_bytes < length (bytes_of name)) × Prints status.TooLong (long_line place) own text)
+    × IfSome told.held (λ bytes_of. most_text_bytes < length (bytes_of name))
+    × Prints status.TooLong (long_line place) own text)
 
 -- what the files tell and count before a call and after it
-abbrev pub observation_of : {S : Type 0} → (S → Option (List ℕ → List ℕ)) → (S → Place → ℕ) → (S → Place → ℕ) → S → S → Observation
+abbrev pub observation_of : {S : Type 0} → (S → Option (List ℕ → List ℕ)) → (S → Place → ℕ) →
+    (S → Place → ℕ) → S → S → Observation
 observation_of held faults longs was now =
-    record { held = held was; faults = faults was; faults_after = faults now; longs = longs was; longs_after = longs now }
+    record {
+      held = held was;
+      faults = faults was;
+      faults_after = faults now;
+      longs = longs was;
+      longs_after = longs now;
+    }
 
 -- the bytes are those of the file, where they are told, and not too many
 abbrev pub IsFileContents : Observation → List ℕ → List ℕ → Type 0
-IsFileContents told name bytes = IfSome told.held (λ bytes_of. bytes ≡ bytes_of name) × (length bytes ≤ most_text_bytes)
+IsFileContents told name bytes =
+    IfSome told.held (λ bytes_of. bytes ≡ bytes_of name) × (length bytes ≤ most_text_bytes)
 
 -- what the second file comes to, if this comes of its text
-abbrev pub IsSecondFileOutcome : Observation → (List ℕ → Status → List ℕ → Type 0) → List ℕ → Status → List ℕ → Type 0
+abbrev pub IsSecondFileOutcome : Observation → (List ℕ → Status → List ℕ → Type 0) → List ℕ →
+    Status → List ℕ → Type 0
 IsSecondFileOutcome told comes name own text =
     FileRefused told Second name own text
     ⊎ ((bytes : List ℕ) × IsFileContents told name bytes × comes bytes own text)
 
 -- what the first text comes to, and then the second file, which is not asked for if the first text is refused
-abbrev pub IsFirstTextOutcome : Observation → (Netlist → List ℕ → Status → List ℕ → Type 0) → (first bytes second : List ℕ) → Status → List ℕ → Type 0
+abbrev pub IsFirstTextOutcome : Observation → (Netlist → List ℕ → Status → List ℕ → Type 0) →
+    (first bytes second : List ℕ) → Status → List ℕ → Type 0
 IsFirstTextOutcome told comes first bytes second own text =
-    ((line : List ℕ) × NetlistRefused first bytes line × CountsStay told Second × Prints status.Netlist line own text)
-    ⊎ ((netlist : Netlist) × IsNetlistText first bytes netlist × IsSecondFileOutcome told (comes netlist) second own text)
+    ((line : List ℕ) × NetlistRefused first bytes line × CountsStay told Second
+    × Prints status.Netlist line own text)
+    ⊎ ((netlist : Netlist) × IsNetlistText first bytes netlist
+    × IsSecondFileOutcome told (comes netlist) second own text)
 
 -- what the two files come to: the second is not asked for if the first is not read
-abbrev pub IsFilesOutcome : Observation → (Netlist → List ℕ → Status → List ℕ → Type 0) → List ℕ → List ℕ → Status → List ℕ → Type 0
+abbrev pub IsFilesOutcome : Observation → (Netlist → List ℕ → Status → List ℕ → Type 0) → List ℕ →
+    List ℕ → Status → List ℕ → Type 0
 IsFilesOutcome told comes first second own text =
     (CountsStay told Second × FileRefused told First first own text)
-    ⊎ ((bytes : List ℕ) × IsFileContents told first bytes × IsFirstTextOutcome told comes first bytes second own text)
+    ⊎ ((bytes : List ℕ) × IsFileContents told first bytes
+    × IsFirstTextOutcome told comes first bytes second own text)
 
 -- What a job comes to. Without a job the words are refused. No file is loaded for them, nor for a demo.
 abbrev pub IsJobOutcome : Observation → Option JobOf → Status → List ℕ → Type 0
 IsJobOutcome told None own text =
     ((place : Place) → CountsStay told place) × Prints status.Words words_line own text
-IsJobOutcome told (Some (OnFiles task options first second)) own text = IsFilesOutcome told (comes_of options task) first second own text
-IsJobOutcome told (Some (Demo number options)) own text = ((place : Place) → CountsStay told place) × IsDemoOutcome number options.cap own text
+IsJobOutcome told (Some (OnFiles task options first second)) own text =
+    IsFilesOutcome told (comes_of options task) first second own text
+IsJobOutcome told (Some (Demo number options)) own text =
+    ((place : Place) → CountsStay told place) × IsDemoOutcome number options.cap own text
 
 -- the loads that a job may make: each of its two files at its place, with the limit
 abbrev pub MayLoad : (Place → List ℕ → ℕ → Type 0) → Option JobOf → Type 0
 MayLoad granted None = Unit {0}
-MayLoad granted (Some (OnFiles task options first second)) = granted First first most_text_bytes × granted Second second most_text_bytes
+MayLoad granted (Some (OnFiles task options first second)) =
+    granted First first most_text_bytes × granted Second second most_text_bytes
 MayLoad granted (Some (Demo number options)) = Unit {0}

@@ -34,8 +34,12 @@ comes_of options Reset = OfPatterns IsResetOutcome
 
 -- nothing is to be refused of the second text, and the task ends with this status
 abbrev pub good_of : Task → Netlist → List ℕ → Status → Type 0
-good_of Analyse = IsGoodText HasScriptFault IsValue (λ netlist script own. IsCompletable netlist script.start × (own ≡ Done))
-good_of Split = IsGoodText HasScriptFault IsValue (λ netlist script own. IsCompletable netlist script.start × (own ≡ Done))
+good_of Analyse =
+    IsGoodText HasScriptFault IsValue
+    (λ netlist script own. IsCompletable netlist script.start × (own ≡ Done))
+good_of Split =
+    IsGoodText HasScriptFault IsValue
+    (λ netlist script own. IsCompletable netlist script.start × (own ≡ Done))
 good_of Replay = IsGoodText HasRunFault IsRunValue EndsReplay
 good_of Convert = IsGoodText HasRunFault IsRunValue (λ netlist runs own. own ≡ Done)
 good_of Vcd = IsGoodText HasRunFault IsRunValue EndsReplay

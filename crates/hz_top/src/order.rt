@@ -22,24 +22,31 @@ use hz_replay::{Converts, Dumps, Replays};
 use hz_words::Task;
 use std::alloc::Global;
 
-// Does a task on two files.
+/// What is to be done with two files: a task, by the options that stand beside it.
+#[derive(Clone, Copy)]
+pub(crate) struct FileWork {
+    pub(crate) task: Task,
+    pub(crate) options: Options,
+}
+
+/// Does work on two files.
 pub(crate) fn work_on_files<F: Files, K: Sink>(
     alloc: Global,
-    task: Task,
-    options: Options,
+    work: FileWork,
     first: &str,
     second: &str,
     files: &mut F,
     out: &mut K,
 ) -> Status
-    requires cap { IsCap options.cap }
+    requires cap { IsCap work.options.cap }
     requires first { F.granted files.old First first.now most_text_bytes }
     requires second { F.granted files.old Second second.now most_text_bytes }
     ensures ends { Ends K.output K.faults
-        (IsFilesOutcome (observation_of F.held F.faults F.longs files.old files.new) (comes_of options task) first.now second.now)
+        (IsFilesOutcome (observation_of F.held F.faults F.longs files.old files.new)
+        (comes_of work.options work.task) first.now second.now)
         out.old out.new result }
     ensures files { LeavesFiles (observation_of F.held F.faults F.longs files.old files.new)
-        (Some (OnFiles task options first.now second.now)) }
+        (Some (OnFiles work.task work.options first.now second.now)) }
 {
     // The bytes of the first file are freed before the second is loaded.
     let circuit = {
@@ -55,44 +62,47 @@ pub(crate) fn work_on_files<F: Files, K: Sink>(
     let Ok(net) = Net::build(alloc, circuit) else {
         return Status::Memory;
     };
-    work_on_second(alloc, &net, task, options, second, files, out)
+    work_on_second(alloc, &net, work, second, files, out)
 }
 
-// Does a task on a network and the text of the second file.
+// Does work on a network and the text of the second file.
 fn work_on_second<F: Files, K: Sink>(
     alloc: Global,
     net: &Net,
-    task: Task,
-    options: Options,
+    work: FileWork,
     second: &str,
     files: &mut F,
     out: &mut K,
 ) -> Status
-    requires cap { IsCap options.cap }
+    requires cap { IsCap work.options.cap }
     requires second { F.granted files.old Second second.now most_text_bytes }
     ensures { Ends K.output K.faults
-        (IsSecondFileOutcome (observation_of F.held F.faults F.longs files.old files.new) (comes_of options task net.now) second.now) out.old out.new result }
+        (IsSecondFileOutcome (observation_of F.held F.faults F.longs files.old files.new)
+        (comes_of work.options work.task net.now) second.now)
+        out.old out.new result }
 {
     match files.load(alloc, Place::Second, second, MAX_TEXT) {
-        Ok(text) => work_on_text(alloc, net, task, options, text, out),
+        Ok(text) => work_on_text(alloc, net, work, text, out),
         Err(fault) => refuse_load(out, Place::Second, fault),
     }
 }
 
-// Does a task on a network and the second text.
+// Does work on a network and the second text.
 fn work_on_text<K: Sink>(
     alloc: Global,
     net: &Net,
-    task: Task,
-    options: Options,
+    work: FileWork,
     text: Vec<u8>,
     out: &mut K,
 ) -> Status
-    requires cap { IsCap options.cap }
+    requires cap { IsCap work.options.cap }
     requires text { vec_len text ≤ most_text_bytes }
-    ensures { Ends K.output K.faults (comes_of options task net.now text.items) out.old out.new result }
+    ensures { Ends K.output K.faults (comes_of work.options work.task net.now text.items) out.old
+        out.new
+        result }
 {
-    match task {
+    let options = work.options;
+    match work.task {
         Task::Analyse => on_script(alloc, &Analyses { options }, net, text.as_slice(), out),
         Task::Split => on_script(alloc, &Splits { options }, net, text.as_slice(), out),
         Task::Replay => on_runs(alloc, &Replays, net, text.as_slice(), out),

@@ -10,7 +10,7 @@ ghost use Rattle.hz_top.specs.Headline.{Headline};
 ghost use Rattle.hz_top.specs.LeftFiles.{LeavesFiles};
 ghost use Rattle.hz_top.specs.Outcome.{observation_of, IsJobOutcome, MayLoad};
 
-use crate::order::work_on_files;
+use crate::order::{FileWork, work_on_files};
 use hz_changes::demo;
 use hz_outside::{Files, Sink};
 use hz_refusal::{Status, put_words, status_after, texts_are_circuits};
@@ -25,12 +25,15 @@ pub fn run<F: Files, K: Sink>(alloc: Global, words: &[String], files: &mut F, ou
     requires loads { MayLoad (F.granted files.old) (job_of (map string_bytes words.now)) }
     requires none_waits { (K.output out.old).waiting ≡ [] }
     ensures headline { Headline (written_of K.output) K.faults
-        (observation_of F.held F.faults F.longs files.old files.new) (job_of (map string_bytes words.now))
+        (observation_of F.held F.faults F.longs files.old files.new)
+        (job_of (map string_bytes words.now))
         out.old out.new result }
     ensures answer { Answers (written_of K.output) K.faults
-        (IsJobOutcome (observation_of F.held F.faults F.longs files.old files.new) (job_of (map string_bytes words.now)))
+        (IsJobOutcome (observation_of F.held F.faults F.longs files.old files.new)
+        (job_of (map string_bytes words.now)))
         out.old out.new result }
-    ensures files { LeavesFiles (observation_of F.held F.faults F.longs files.old files.new) (job_of (map string_bytes words.now)) }
+    ensures files { LeavesFiles (observation_of F.held F.faults F.longs files.old files.new)
+        (job_of (map string_bytes words.now)) }
     ensures done { (job : JobOf) (own : Status) → job_of (map string_bytes words.now) ≡ Some job
         → IsFaultlessJob (observation_of F.held F.faults F.longs files.old files.new) job own
         → ¬ Rose (K.faults out.old) (K.faults out.new)
@@ -45,9 +48,11 @@ pub fn run<F: Files, K: Sink>(alloc: Global, words: &[String], files: &mut F, ou
 fn answer<F: Files, K: Sink>(alloc: Global, words: &[String], files: &mut F, out: &mut K) -> Status
     requires { MayLoad (F.granted files.old) (job_of (map string_bytes words.now)) }
     ensures ends { Ends K.output K.faults
-        (IsJobOutcome (observation_of F.held F.faults F.longs files.old files.new) (job_of (map string_bytes words.now)))
+        (IsJobOutcome (observation_of F.held F.faults F.longs files.old files.new)
+        (job_of (map string_bytes words.now)))
         out.old out.new result }
-    ensures files { LeavesFiles (observation_of F.held F.faults F.longs files.old files.new) (job_of (map string_bytes words.now)) }
+    ensures files { LeavesFiles (observation_of F.held F.faults F.longs files.old files.new)
+        (job_of (map string_bytes words.now)) }
 {
     match hz_words::read(alloc, words) {
         Ok(job) => work(alloc, job, files, out),
@@ -61,9 +66,11 @@ fn work<F: Files, K: Sink>(alloc: Global, job: Job<'_>, files: &mut F, out: &mut
     requires range { HasNumbersInRange job }
     requires loads { MayLoad (F.granted files.old) (Some (job_model job)) }
     ensures ends { Ends K.output K.faults
-        (IsJobOutcome (observation_of F.held F.faults F.longs files.old files.new) (Some (job_model job.entry)))
+        (IsJobOutcome (observation_of F.held F.faults F.longs files.old files.new)
+        (Some (job_model job.entry)))
         out.old out.new result }
-    ensures files { LeavesFiles (observation_of F.held F.faults F.longs files.old files.new) (Some (job_model job.entry)) }
+    ensures files { LeavesFiles (observation_of F.held F.faults F.longs files.old files.new)
+        (Some (job_model job.entry)) }
 {
     match job {
         Job::OnFiles {
@@ -71,7 +78,7 @@ fn work<F: Files, K: Sink>(alloc: Global, job: Job<'_>, files: &mut F, out: &mut
             options,
             first,
             second,
-        } => work_on_files(alloc, task, options, first, second, files, out),
+        } => work_on_files(alloc, FileWork { task, options }, first, second, files, out),
         Job::Demo { number, options } => demo(alloc, number, options.cap, out),
     }
 }

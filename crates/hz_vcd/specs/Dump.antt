@@ -85,12 +85,14 @@ time_word time = 35 ∷ decimal time
 -- the words of a state at the time 0: each variable has its bit
 abbrev pub state_words : List Bool → List (List ℕ)
 state_words state =
-    time_word 0 ∷ codes "$dumpvars" ∷ map (λ var. value_word var (bit_at state var)) (range_with_len 0 (length state))
+    time_word 0 ∷ codes "$dumpvars"
+    ∷ map (λ var. value_word var (bit_at state var)) (range_with_len 0 (length state))
     ++ end_word ∷ []
 
 -- the words of a step from a state at a time: each variable that changes has the bit that it did not have
 abbrev pub step_words : ℕ → List Bool → List ℕ → List (List ℕ)
-step_words time state flips = time_word time ∷ map (λ var. value_word var (not (bit_at state var))) flips
+step_words time state flips =
+    time_word time ∷ map (λ var. value_word var (not (bit_at state var))) flips
 
 -- the words of steps, one after the other, from a state at a time on
 abbrev pub steps_words : ℕ → List Bool → List (List ℕ) → List (List ℕ)
@@ -106,7 +108,8 @@ pub record AreFlips (variables : ℕ) (flips : List ℕ) : Type 0 where
 
 -- The words are a dump of the network, which means this state and these steps from there: a head, the state at the time 0, and
 -- each step at the time of its number.
-pub record IsDump (netlist : Netlist) (words : List (List ℕ)) (state : List Bool) (steps : List (List ℕ)) : Type 0 where
+pub record IsDump (netlist : Netlist) (words : List (List ℕ)) (state : List Bool)
+    (steps : List (List ℕ)) : Type 0 where
   pub head : List (List ℕ)
   pub is_head : StandAt (head_places netlist) head
   pub long : length state ≡ variables_of netlist

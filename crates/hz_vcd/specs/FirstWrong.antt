@@ -8,7 +8,8 @@ use Rattle.hz_vcd.specs.Wave.{WaveOf}
 
 -- the words are a dump of the network
 abbrev pub MeansSome : Netlist → List (List ℕ) → Type 0
-MeansSome netlist words = (state : List Bool) × (steps : List (List ℕ)) × IsDump netlist words state steps
+MeansSome netlist words =
+    (state : List Bool) × (steps : List (List ℕ)) × IsDump netlist words state steps
 
 -- some more words would make a dump of them
 abbrev pub MayGoOn : Netlist → List (List ℕ) → Type 0
@@ -36,7 +37,8 @@ HasFormFault netlist words number =
 abbrev pub MeansAlone : Netlist → List (List ℕ) → WaveOf → Type 0
 MeansAlone netlist words wave =
     IsDump netlist words wave.state wave.steps
-    × ((state : List Bool) (steps : List (List ℕ)) → IsDump netlist words state steps → (state ≡ wave.state) × (steps ≡ wave.steps))
+    × ((state : List Bool) (steps : List (List ℕ)) → IsDump netlist words state steps →
+    (state ≡ wave.state) × (steps ≡ wave.steps))
 
 -- why words are not read; memory may always run out
 abbrev pub IsFaultOf : Netlist → List (List ℕ) → VcdFault → Type 0

@@ -21,7 +21,8 @@ pub record WordsLeft : Type 0 where
 -- the first word of a text and the text behind it, if it has a word
 abbrev pub IsFirstWord : List ℕ → Option (Bor (List ℕ) × Bor (List ℕ)) → Type 0
 IsFirstWord text None = words_of text ≡ []
-IsFirstWord text (Some found) = (words_of text ≡ found.0.now ∷ words_of found.1.now) × (length found.1.now < length text)
+IsFirstWord text (Some found) =
+    (words_of text ≡ found.0.now ∷ words_of found.1.now) × (length found.1.now < length text)
 
 -- the next word was read, if there is one
 abbrev pub ReadsNext : WordsLeft → WordsLeft → Option (Bor (List ℕ)) → Type 0
@@ -64,7 +65,8 @@ pub data Ending : Type 0 where
   Changes : (variables : ℕ) (start : List Bool) (done : List (List ℕ)) (flips : List ℕ) → Ending
 
 -- The words after the changes of a step that came so far: more changes, and then more steps.
-pub record StepGoesOn (variables : ℕ) (start : List Bool) (done : List (List ℕ)) (flips : List ℕ) (words : List (List ℕ)) (state : List Bool) (steps : List (List ℕ)) : Type 0 where
+pub record StepGoesOn (variables : ℕ) (start : List Bool) (done : List (List ℕ)) (flips : List ℕ)
+    (words : List (List ℕ)) (state : List Bool) (steps : List (List ℕ)) : Type 0 where
   pub more : List ℕ
   pub later : List (List ℕ)
   pub begins : state ≡ start
@@ -75,7 +77,8 @@ pub record StepGoesOn (variables : ℕ) (start : List Bool) (done : List (List �
 
 -- these words come, and what they end is a dump of this state and these steps
 abbrev pub Comes : Ending → List (List ℕ) → List Bool → List (List ℕ) → Type 0
-Comes (Word word next) words state steps = (later : List (List ℕ)) × (words ≡ word ∷ later) × Comes next later state steps
+Comes (Word word next) words state steps =
+    (later : List (List ℕ)) × (words ≡ word ∷ later) × Comes next later state steps
 Comes (BlockEnd next) words state steps =
     (inside : List (List ℕ)) × (later : List (List ℕ)) × All (λ word. word ≢ end_word) inside
     × (words ≡ inside ++ end_word ∷ later) × Comes next later state steps
@@ -84,28 +87,37 @@ Comes (Blocks word next) words state steps =
     × (words ≡ flat_map (λ block. block) blocks ++ word ∷ later) × Comes next later state steps
 Comes (Values variables place known) words state steps =
     (length state ≡ variables) × All (AreFlips variables) steps × (take place state ≡ known)
-    × (words ≡ map (λ var. value_word var (bit_at state var)) (range_with_len place (variables - place)) ++ end_word ∷ steps_words 1 state steps)
+    × (words
+    ≡ map (λ var. value_word var (bit_at state var)) (range_with_len place (variables - place))
+    ++ end_word ∷ steps_words 1 state steps)
 Comes (Steps variables start) words state steps =
     (state ≡ start) × All (AreFlips variables) steps × (words ≡ steps_words 1 start steps)
-Comes (Changes variables start done flips) words state steps = StepGoesOn variables start done flips words state steps
+Comes (Changes variables start done flips) words state steps =
+    StepGoesOn variables start done flips words state steps
 
 -- some words may come behind these
 abbrev pub Goes : Ending → List (List ℕ) → Type 0
-Goes ending front = (more : List (List ℕ)) × (state : List Bool) × (steps : List (List ℕ)) × Comes ending (front ++ more) state steps
+Goes ending front =
+    (more : List (List ℕ)) × (state : List Bool) × (steps : List (List ℕ))
+    × Comes ending (front ++ more) state steps
 
 -- nothing may come behind these words and the first of those after them, or nothing at all where these are all
 abbrev pub Stops : Ending → List (List ℕ) → List (List ℕ) → Type 0
-Stops ending front [] = (state : List Bool) (steps : List (List ℕ)) → Comes ending (front ++ []) state steps → ⊥
+Stops ending front [] =
+    (state : List Bool) (steps : List (List ℕ)) → Comes ending (front ++ []) state steps → ⊥
 Stops ending front (word ∷ after) =
-    (more : List (List ℕ)) (state : List Bool) (steps : List (List ℕ)) → Comes ending (front ++ word ∷ more) state steps → ⊥
+    (more : List (List ℕ)) (state : List Bool) (steps : List (List ℕ)) →
+    Comes ending (front ++ word ∷ more) state steps → ⊥
 
 -- Words were read, and behind them comes what the next ending says.
 pub record Past (ending : Ending) (was : WordsLeft) (next : Ending) (now : WordsLeft) : Type 0 where
   pub front : List (List ℕ)
   pub are : was.words ≡ front ++ now.words
   pub counts : now.read ≡ was.read + length front
-  pub onward : (more : List (List ℕ)) (state : List Bool) (steps : List (List ℕ)) → Comes ending (front ++ more) state steps → Comes next more state steps
-  pub back : (more : List (List ℕ)) (state : List Bool) (steps : List (List ℕ)) → Comes next more state steps → Comes ending (front ++ more) state steps
+  pub onward : (more : List (List ℕ)) (state : List Bool) (steps : List (List ℕ)) →
+      Comes ending (front ++ more) state steps → Comes next more state steps
+  pub back : (more : List (List ℕ)) (state : List Bool) (steps : List (List ℕ)) →
+      Comes next more state steps → Comes ending (front ++ more) state steps
 
 -- The word with this number is the first that is wrong, or the words end too early.
 pub record Stuck (ending : Ending) (was : WordsLeft) (number : ℕ) : Type 0 where
@@ -143,12 +155,16 @@ all_places (place ∷ places) next = place_word place.after_blocks place.word (a
 
 -- the bit of one more variable was read
 abbrev pub ReadsValue : ℕ → ℕ → List Bool → WordsLeft → WordsLeft → Result Bool VcdFault → Type 0
-ReadsValue variables place known was now (Ok bit) = Past (Values variables place known) was (Values variables (place + 1) (known ++ bit ∷ [])) now
-ReadsValue variables place known was now (Err fault) = Fails (Values variables place known) was fault
+ReadsValue variables place known was now (Ok bit) =
+    Past (Values variables place known) was (Values variables (place + 1) (known ++ bit ∷ [])) now
+ReadsValue variables place known was now (Err fault) =
+    Fails (Values variables place known) was fault
 
 -- the bits of all variables were read
 abbrev pub AllRead : ℕ → WordsLeft → WordsLeft → List Bool → Type 0
-AllRead variables was now state = (length state ≡ variables) × Past (Values variables 0 []) was (Values variables variables state) now
+AllRead variables was now state =
+    (length state ≡ variables)
+    × Past (Values variables 0 []) was (Values variables variables state) now
 
 -- the words before the bits of a state
 abbrev pub state_head : List (List ℕ)
@@ -156,29 +172,40 @@ state_head = time_word 0 ∷ codes "$dumpvars" ∷ []
 
 -- a state was read
 abbrev pub StateRead : ℕ → WordsLeft → WordsLeft → List Bool → Type 0
-StateRead variables was now state = (length state ≡ variables) × Past (all_words state_head (Values variables 0 [])) was (Steps variables state) now
+StateRead variables was now state =
+    (length state ≡ variables)
+    × Past (all_words state_head (Values variables 0 [])) was (Steps variables state) now
 
 -- the words are those of an ending, and mean this state and these steps alone
-pub record Means (ending : Ending) (was : WordsLeft) (state : List Bool) (steps : List (List ℕ)) : Type 0 where
+pub record Means (ending : Ending) (was : WordsLeft) (state : List Bool)
+    (steps : List (List ℕ)) : Type 0 where
   pub is : Comes ending was.words state steps
-  pub alone : (other : List Bool) (others : List (List ℕ)) → Comes ending was.words other others → (other ≡ state) × (others ≡ steps)
+  pub alone : (other : List Bool) (others : List (List ℕ)) → Comes ending was.words other others →
+      (other ≡ state) × (others ≡ steps)
 
 -- the variable that a word changes at a time, if it does, and was not changed at this time
 abbrev pub IsChangeRead : ℕ → List Bool → List ℕ → List ℕ → Option ℕ → Type 0
 IsChangeRead time state times word None =
-    (var : ℕ) → var < length state → slice_index_or times var 0 ≢ time → value_word var (not (bit_at state var)) ≢ word
+    (var : ℕ) → var < length state → slice_index_or times var 0 ≢ time →
+    value_word var (not (bit_at state var)) ≢ word
 IsChangeRead time state times word (Some var) =
-    (var < length state) × (slice_index_or times var 0 ≢ time) × (value_word var (not (bit_at state var)) ≡ word)
+    (var < length state) × (slice_index_or times var 0 ≢ time)
+    × (value_word var (not (bit_at state var)) ≡ word)
 
 -- the variables with this time are the listed ones, and no time is later
 pub record AreAt (time : ℕ) (times flips : List ℕ) : Type 0 where
-  pub listed : (var : ℕ) → var < length times → slice_index_or times var 0 ≡ time → IsTrue (is_listed flips var)
+  pub listed : (var : ℕ) → var < length times → slice_index_or times var 0 ≡ time →
+      IsTrue (is_listed flips var)
   pub here : (var : ℕ) → IsTrue (is_listed flips var) → slice_index_or times var 0 ≡ time
   pub latest : (var : ℕ) → slice_index_or times var 0 ≤ time
 
 -- a step was read, and then the time of the next one, or the end of the words
 abbrev pub StepRead : ℕ → List Bool → List (List ℕ) → List ℕ → WordsLeft → WordsLeft → Bool → Type 0
 StepRead variables start done flips was now true =
-    AreFlips variables flips × Past (Changes variables start done []) was (Changes variables start (done ++ flips ∷ []) []) now
+    AreFlips variables flips
+    × Past (Changes variables start done []) was
+    (Changes variables start (done ++ flips ∷ []) []) now
 StepRead variables start done flips was now false =
-    AreFlips variables flips × Past (Changes variables start done []) was (Changes variables start done flips) now × (now.words ≡ [])
+    AreFlips variables flips
+    × Past (Changes variables start done []) was (Changes variables start done flips) now
+    × (now.words ≡ [])

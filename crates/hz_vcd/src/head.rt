@@ -100,7 +100,8 @@ fn expect_after_blocks(words: &mut Words<'_>, wanted: &[u8]) -> Result<(), VcdFa
 fn expect_command(words: &mut Words<'_>, first: &[u8], later: &[u8]) -> Result<(), VcdFault>
     requires { ¬ OpensBlock first.now }
     ensures { (next : Ending) → Goes next []
-        → Reads (Blocks first.now (all_words (words_of later.now) next)) words.old next words.new result }
+        → Reads (Blocks first.now (all_words (words_of later.now) next)) words.old next words.new
+        result }
 {
     expect_after_blocks(words, first)?;
     expect_all(words, later)
@@ -133,7 +134,10 @@ fn put_declaration<K: Sink>(out: &mut K, net: &Net, var: u32) -> Result<(), PutF
 // Reads the declarations of all variables.
 fn read_declarations(alloc: Global, words: &mut Words<'_>, net: &Net) -> Result<(), VcdFault>
     ensures { (next : Ending) → Goes next []
-        → Reads (all_words (flat_map (declaration_of net.now) (range_with_len 0 (variables_of net.now))) next) words.old next words.new result }
+        → Reads
+        (all_words (flat_map (declaration_of net.now) (range_with_len 0 (variables_of net.now)))
+        next)
+        words.old next words.new result }
 {
     for var in 0..net.len() {
         let line = declaration(alloc, net, var)?;

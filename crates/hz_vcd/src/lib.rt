@@ -31,6 +31,7 @@ pub use writing::write;
 
 /// No word of a dump is wrong, and it doesn't end too early. So [`read`] gives the meaning of what [`write`] wrote.
 pub fn dumps_have_no_fault()
-    ensures { (netlist : Netlist) (words : List (List ℕ)) (state : List Bool) (steps : List (List ℕ)) (number : ℕ)
+    ensures { (netlist : Netlist) (words : List (List ℕ)) (state : List Bool)
+        (steps : List (List ℕ)) (number : ℕ)
         → IsDump netlist words state steps → ¬ HasFormFault netlist words number }
 {}

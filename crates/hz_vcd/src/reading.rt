@@ -23,7 +23,8 @@ use std::alloc::Global;
 /// Time and memory are linear in the text and the network. Values `x` and `z` and vectors are no part of a dump here.
 pub fn read(alloc: Global, net: &Net, text: &[u8]) -> Result<Wave, VcdFault>
     requires { length text.now ≤ most_text_bytes }
-    ensures { MatchResult result (MeansAlone net.now (words_of text.now)) (IsFaultOf net.now (words_of text.now)) }
+    ensures { MatchResult result (MeansAlone net.now (words_of text.now))
+        (IsFaultOf net.now (words_of text.now)) }
 {
     let mut words = Words::new(text);
     read_head(alloc, &mut words, net)?;
@@ -129,7 +130,8 @@ fn is_time_of(word: &[u8], digits: &[u8]) -> bool
 
 // Whether a byte and the bytes behind it are the word of the time with these digits.
 fn is_time_by(first: u8, rest: &[u8], digits: &[u8]) -> bool
-    ensures { MatchBool result (first ∷ rest.now ≡ 35 ∷ digits.now) (first ∷ rest.now ≢ 35 ∷ digits.now) }
+    ensures { MatchBool result (first ∷ rest.now ≡ 35 ∷ digits.now)
+        (first ∷ rest.now ≢ 35 ∷ digits.now) }
 {
     first == b'#' && rest == digits
 }
@@ -137,7 +139,8 @@ fn is_time_by(first: u8, rest: &[u8], digits: &[u8]) -> bool
 // Reads all steps from a state.
 fn read_steps(alloc: Global, words: &mut Words<'_>, start: &[bool]) -> Result<Run, VcdFault>
     requires { length start.now ≤ most_variables }
-    ensures { MatchResult result (λ run. Means (Steps (length start.now) start.now) words.old start.now run.steps)
+    ensures { MatchResult result
+        (λ run. Means (Steps (length start.now) start.now) words.old start.now run.steps)
         (Fails (Steps (length start.now) start.now) words.old) }
 {
     let token = words.number();
@@ -167,7 +170,8 @@ fn read_run(
     requires times { length times.old ≡ length state.old }
     requires early { (var : ℕ) → slice_index_or times.old var 0 ≡ 0 }
     requires read { 1 ≤ words.old.read }
-    ensures { MatchResult result (λ run. Means (Changes (length state.old) state.old [] []) words.old state.old run.steps)
+    ensures { MatchResult result
+        (λ run. Means (Changes (length state.old) state.old [] []) words.old state.old run.steps)
         (Fails (Changes (length state.old) state.old [] []) words.old) }
 {
     let mut flips = Vec::new(alloc);
@@ -199,9 +203,11 @@ fn read_step(
     requires fresh { AreAt time times.old [] }
     requires flips { flips.old.items ≡ [] }
     requires time { time ≤ words.old.read }
-    ensures read { (start : List Bool) (done : List (List ℕ)) → All (AreFlips (length state.old)) done → end_of start done ≡ state.old
+    ensures read { (start : List Bool) (done : List (List ℕ)) →
+        All (AreFlips (length state.old)) done → end_of start done ≡ state.old
         → time ≡ length done + 1
-        → MatchResult result (StepRead (length state.old) start done flips.new.items words.old words.new)
+        → MatchResult result
+        (StepRead (length state.old) start done flips.new.items words.old words.new)
         (Fails (Changes (length state.old) start done []) words.old) }
     ensures state { OnOk result (state.new ≡ state_after flips.new.items state.old) }
     ensures times { OnOk result (AreAt time times.new flips.new.items) }

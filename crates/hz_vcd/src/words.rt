@@ -31,7 +31,8 @@ fn trim_start<'t>(text: &'t [u8]) -> &'t [u8]
 
 // How many bytes stand before the first white one.
 fn word_len(text: &[u8]) -> usize
-    ensures passes { (place : ℕ) → place < result → is_dark (slice_index_or text.now place 0) ≡ true }
+    ensures passes { (place : ℕ) → place < result →
+        is_dark (slice_index_or text.now place 0) ≡ true }
     ensures stops { result < length text.now → is_dark (slice_index_or text.now result 0) ≡ false }
     ensures within { result ≤ length text.now }
 {

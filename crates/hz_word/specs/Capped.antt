@@ -17,7 +17,8 @@ capped_count cap changes = if nat_le changes cap then Exact changes else Many
 
 -- the capped form
 abbrev pub capped_word : ℕ → List Bool → Word
-capped_word cap word = record { first = first_letter word; changes = capped_count cap (change_count word) }
+capped_word cap word =
+    record { first = first_letter word; changes = capped_count cap (change_count word) }
 
 -- the complement of a capped word
 abbrev pub complement : Word → Word

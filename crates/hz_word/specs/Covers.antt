@@ -9,7 +9,8 @@ use Rattle.hz_word.specs.Word.{first_letter, change_count}
 -- the values that follow a value, with equal neighbours reduced to one
 abbrev pub reduction_after : Bool → List Bool → List Bool
 reduction_after value [] = []
-reduction_after value (next ∷ rest) = if beq value next then reduction_after value rest else next ∷ reduction_after next rest
+reduction_after value (next ∷ rest) =
+    if beq value next then reduction_after value rest else next ∷ reduction_after next rest
 
 -- the history of a variable that takes these values one after the other: equal neighbours are reduced to one
 abbrev pub history_of : List Bool → List Bool

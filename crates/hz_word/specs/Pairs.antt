@@ -32,7 +32,11 @@ one_if_both left right = if left && right then 1 else 0
 -- controlling letter, and one less if both end with it
 abbrev pub controlled_count : Bool → ℕ → Bool → Bool → Count → Count → Count
 controlled_count controlling cap left right (Exact m) (Exact n) =
-    capped_count cap (m + n - one_if_both (beq left controlling) (beq right controlling) - one_if_both (beq (last_after left m) controlling) (beq (last_after right n) controlling))
+    capped_count cap
+    (m
+    + n - one_if_both (beq left controlling) (beq right controlling)
+    - one_if_both (beq (last_after left m) controlling)
+    (beq (last_after right n) controlling))
 controlled_count controlling cap left right (Exact m) Many = Many
 controlled_count controlling cap left right Many (Exact n) = Many
 controlled_count controlling cap left right Many Many = Many
@@ -56,7 +60,11 @@ sum_count cap Many Many = Many
 
 -- the word of a parity of two pins
 abbrev pub parity_pair : ℕ → Word → Word → Word
-parity_pair cap left right = record { first = not (beq left.first right.first); changes = sum_count cap left.changes right.changes }
+parity_pair cap left right =
+    record {
+      first = not (beq left.first right.first);
+      changes = sum_count cap left.changes right.changes;
+    }
 
 -- the complement where a flag is set
 abbrev pub complement_word_if : Bool → Word → Word
@@ -71,4 +79,5 @@ connective_word parity cap pins = fold (parity_pair cap) (constant_word false) p
 connective_word copy cap pins = slice_index_or pins 0 (constant_word false)
 
 abbrev pub kind_word : Kind → ℕ → List Word → Word
-kind_word kind cap pins = complement_word_if (inverts kind) (connective_word (connective kind) cap pins)
+kind_word kind cap pins =
+    complement_word_if (inverts kind) (connective_word (connective kind) cap pins)

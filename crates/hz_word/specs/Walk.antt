@@ -15,7 +15,8 @@ abbrev pub MayAdvance : List (List Bool) → List Bool → Type 0
 MayAdvance [] [] = Unit {0}
 MayAdvance [] (advances ∷ move) = ⊥
 MayAdvance (word ∷ words) [] = ⊥
-MayAdvance (word ∷ words) (advances ∷ move) = (IsTrue advances → 1 < length word) × MayAdvance words move
+MayAdvance (word ∷ words) (advances ∷ move) =
+    (IsTrue advances → 1 < length word) × MayAdvance words move
 
 -- in a move one or more words advance
 abbrev pub IsMove : List (List Bool) → List Bool → Type 0
@@ -25,7 +26,8 @@ IsMove words move = MayAdvance words move × IsTrue (some_pin move)
 abbrev pub after_move : List (List Bool) → List Bool → List (List Bool)
 after_move [] move = []
 after_move (word ∷ words) [] = word ∷ words
-after_move (word ∷ words) (advances ∷ move) = (if advances then drop 1 word else word) ∷ after_move words move
+after_move (word ∷ words) (advances ∷ move) =
+    (if advances then drop 1 word else word) ∷ after_move words move
 
 -- each word stands at its last letter
 abbrev pub AreAtTheirEnds : List (List Bool) → Type 0
@@ -58,5 +60,7 @@ walk_changes gate words (move ∷ moves) =
 pub record IsWordOf (kind : Kind) (words : List (List Bool)) (word : List Bool) : Type 0 where
   pub is_word : IsWord word
   pub begins : first_letter word ≡ gate_value kind (current_letters words)
-  pub attained : (moves : List (List Bool)) × IsWalk words moves × (walk_changes (gate_value kind) words moves ≡ change_count word)
-  pub most : (moves : List (List Bool)) → IsWalk words moves → walk_changes (gate_value kind) words moves ≤ change_count word
+  pub attained : (moves : List (List Bool)) × IsWalk words moves
+      × (walk_changes (gate_value kind) words moves ≡ change_count word)
+  pub most : (moves : List (List Bool)) → IsWalk words moves →
+      walk_changes (gate_value kind) words moves ≤ change_count word

@@ -44,7 +44,8 @@ fn pin_by_pin(kind: Kind, pins: &[Word], cap: u64) -> Word
 fn controlled(controlling: bool, pins: &[Word], cap: u64) -> Word
     requires counted { All (λ pin. IsWithinCap cap pin.changes) pins.now }
     requires cap_high { cap ≤ greatest_cap }
-    ensures { result ≡ fold (controlled_pair controlling cap) (constant_word (not controlling)) pins.now }
+    ensures { result
+        ≡ fold (controlled_pair controlling cap) (constant_word (not controlling)) pins.now }
 {
     let mut so_far = Word::constant(!controlling);
     for pin in pins {
@@ -97,7 +98,8 @@ fn controlled_count(left: Word, right: Word, controlling: bool, cap: u64) -> Cou
     requires cap_high { cap ≤ greatest_cap }
     requires free_left { is_constant controlling left ≡ false }
     requires free_right { is_constant controlling right ≡ false }
-    ensures value { result ≡ controlled_count controlling cap left.first right.first left.changes right.changes }
+    ensures value { result
+        ≡ controlled_count controlling cap left.first right.first left.changes right.changes }
     ensures counted { IsWithinCap cap result }
 {
     match (left.changes, right.changes) {

@@ -18,17 +18,24 @@ pub use word::Word;
 /// A kind of gate has one word over the words of its pins.
 #[tactic(auto, using(crate::proofs::Laws::one_word))]
 pub fn word_is_unique()
-    ensures { (kind : Kind) (words : List (List Bool)) (word other : List Bool) → IsTrue (takes kind (length words)) → AreWords words → IsWordOf kind words word → IsWordOf kind words other → word ≡ other }
+    ensures { (kind : Kind) (words : List (List Bool)) (word other : List Bool) →
+        IsTrue (takes kind (length words)) → AreWords words → IsWordOf kind words word →
+        IsWordOf kind words other → word ≡ other }
 {}
 
 /// Along a part of a walk a gate changes at most as often as its word, even if the walk is not finished.
 #[tactic(auto, using(crate::proofs::Laws::part_changes))]
 pub fn word_bounds_parts()
-    ensures { (kind : Kind) (words : List (List Bool)) (word : List Bool) (moves : List (List Bool)) → IsTrue (takes kind (length words)) → AreWords words → IsWordOf kind words word → IsPartOfWalk words moves → walk_changes (gate_value kind) words moves ≤ change_count word }
+    ensures { (kind : Kind) (words : List (List Bool)) (word : List Bool)
+        (moves : List (List Bool)) → IsTrue (takes kind (length words)) → AreWords words →
+        IsWordOf kind words word → IsPartOfWalk words moves →
+        walk_changes (gate_value kind) words moves ≤ change_count word }
 {}
 
 /// A part of a walk can be completed.
 #[tactic(auto, using(crate::proofs::Laws::completed_part))]
 pub fn parts_complete()
-    ensures { (words : List (List Bool)) (moves : List (List Bool)) → AreWords words → IsPartOfWalk words moves → (rest : List (List Bool)) × IsWalk words (moves ++ rest) }
+    ensures { (words : List (List Bool)) (moves : List (List Bool)) → AreWords words →
+        IsPartOfWalk words moves →
+        (rest : List (List Bool)) × IsWalk words (moves ++ rest) }
 {}

@@ -17,7 +17,9 @@ impl Word {
     /// The word of the complemented letters.
     pub fn not(self) -> Word
         ensures value { result ≡ complement self }
-        ensures letters { (cap : ℕ) (letters : List Bool) → IsWord letters → capped_word cap letters ≡ self → capped_word cap (map not letters) ≡ result }
+        ensures letters { (cap : ℕ) (letters : List Bool) → IsWord letters →
+            capped_word cap letters ≡ self →
+            capped_word cap (map not letters) ≡ result }
     {
         Word {
             first: !self.first,
@@ -28,7 +30,9 @@ impl Word {
     /// The last letter, if the number of changes is exact.
     pub fn last(self) -> Option<bool>
         ensures none { IsNone result ↔ (self.changes ≡ Count.Many) }
-        ensures letter { (cap : ℕ) (letters : List Bool) → IsWord letters → capped_word cap letters ≡ self → IfSome result (λ letter. letter ≡ last_letter letters) }
+        ensures letter { (cap : ℕ) (letters : List Bool) → IsWord letters →
+            capped_word cap letters ≡ self →
+            IfSome result (λ letter. letter ≡ last_letter letters) }
     {
         match self.changes {
             Count::Exact(changes) => Some(last_after(self.first, changes)),

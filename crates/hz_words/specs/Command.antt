@@ -60,7 +60,8 @@ arguments_in rows = record {
 -- the arguments that `clap` reads from the words; none if it refuses the words for another cause than memory
 unfoldable pub arguments_of : List Text → Option Texts
 arguments_of words =
-    if is_empty (fault_of hazard_app words) then Some (arguments_in (matches_of hazard_app words)) else None
+    if is_empty (fault_of hazard_app words) then Some (arguments_in (matches_of hazard_app words))
+    else None
 
 -- the arguments that `clap` reads from the words, or a refusal of words that it refuses, or memory ran out
 abbrev pub Parses : List Text → Result Arguments WordsFault → Type 0

@@ -29,7 +29,8 @@ HasNumbersInRange (asked.Demo number options) = IsDemoNumber number × IsCap opt
 -- the tasks on two files, each behind its word
 abbrev pub tasks : List (List ℕ × Task)
 tasks =
-    (codes "analyse", Analyse) ∷ (codes "split", Split) ∷ (codes "replay", Replay) ∷ (codes "convert", Convert)
+    (codes "analyse", Analyse) ∷ (codes "split", Split) ∷ (codes "replay", Replay)
+    ∷ (codes "convert", Convert)
     ∷ (codes "vcd", Vcd) ∷ (codes "batch", Batch) ∷ (codes "reset", Reset) ∷ []
 
 -- the job of a word on two files; the second may not be left out
@@ -46,18 +47,23 @@ job_on_number text (Some second) options = None
 -- the job of a word, with what the other arguments say
 abbrev pub job_named : List ℕ → List ℕ → Option (List ℕ) → Options → Option JobOf
 job_named word first second options =
-    if bytes_eq word (codes "demo") then job_on_number first second options else job_on_files word first second options
+    if bytes_eq word (codes "demo") then job_on_number first second options
+    else job_on_files word first second options
 
 -- the options that the arguments give, if each stands for something
 abbrev pub options_of : Texts → Option Options
 options_of texts =
-    option_and_then (λ cap. option_map (λ (show : Show). record { cap = cap; show = show }) (option_and_then show_of texts.show))
+    option_and_then
+    (λ cap. option_map (λ (show : Show). record { cap = cap; show = show })
+    (option_and_then show_of texts.show))
     (option_and_then cap_of texts.cap)
 
 -- the job of the word and the files that the arguments have
 abbrev pub job_on : Texts → Options → Option JobOf
 job_on texts options =
-    option_and_then (λ word. option_and_then (λ first. job_named word first texts.second options) texts.first) texts.job
+    option_and_then
+    (λ word. option_and_then (λ first. job_named word first texts.second options) texts.first)
+    texts.job
 
 -- the job that the arguments ask for
 abbrev pub job_with : Texts → Option JobOf

@@ -97,7 +97,8 @@ fn job_on_files<'w>(
 ) -> Option<Job<'w>>
     requires { IsCap options.cap }
     ensures job { option_map job_model result
-        ≡ job_on_files word.now first.entry.now (option_map (λ text. text.now) second.entry) options }
+        ≡ job_on_files word.now first.entry.now (option_map (λ text. text.now) second.entry)
+        options }
     ensures range { IfSome result HasNumbersInRange }
 {
     let second = second?;

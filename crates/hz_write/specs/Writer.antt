@@ -7,7 +7,8 @@ use Rattle.hz_write.specs.Writes.{IsBuffered, Stops, Wrote}
 
 -- Since the sink was as at the start, this text was given to a writer: it was written but for what waits, or a put of it
 -- failed.
-unfoldable pub Given : {S : Type 0} → (S → Output) → (S → ℕ) → S → List ℕ → (waiting : List ℕ) → Option PutFault → S → Type 0
+unfoldable pub Given : {S : Type 0} → (S → Output) → (S → ℕ) → S → List ℕ → (waiting : List ℕ) →
+    Option PutFault → S → Type 0
 Given output faults start text waiting None now = IsBuffered output faults text start now waiting
 Given output faults start text waiting (Some fault) now = Stops output faults fault text start now
 
@@ -19,9 +20,11 @@ pub record Begins {S : Type 0} (start : S) (writer : Writer S) : Type 0 where
 
 -- A call gave this text to the writer: whatever text was given before, now it is that text and then this one. The writer
 -- keeps its sink.
-pub record Writes {S : Type 0} (output : S → Output) (faults : S → ℕ) (text : List ℕ) (was now : Writer S) : Type 0 where
+pub record Writes {S : Type 0} (output : S → Output) (faults : S → ℕ) (text : List ℕ)
+    (was now : Writer S) : Type 0 where
   pub sink : now.out.ghost_name ≡ was.out.ghost_name
-  pub gave : (start : S) (before : List ℕ) → Given output faults start before was.line was.fault was.out.now
+  pub gave : (start : S) (before : List ℕ) →
+      Given output faults start before was.line was.fault was.out.now
       → Given output faults start (before ++ text) now.line now.fault now.out.now
 
 -- whether a put failed
@@ -33,7 +36,9 @@ abbrev pub NoneWaits : {S : Type 0} → Writer S → Type 0
 NoneWaits writer = writer.fault ≡ None → writer.line ≡ []
 
 -- the answer at the end of a writer: that of all that was given to it, and if a put failed its fault
-pub record Finishes {S : Type 0} (output : S → Output) (faults : S → ℕ) (writer : Writer S) (now : S) (result : Result (Unit {0}) PutFault) : Type 0 where
-  pub wrote : (start : S) (text : List ℕ) → Given output faults start text writer.line writer.fault writer.out.now
+pub record Finishes {S : Type 0} (output : S → Output) (faults : S → ℕ) (writer : Writer S)
+    (now : S) (result : Result (Unit {0}) PutFault) : Type 0 where
+  pub wrote : (start : S) (text : List ℕ) →
+      Given output faults start text writer.line writer.fault writer.out.now
       → Wrote output faults text start now result
   pub failed : (fault : PutFault) → writer.fault ≡ Some fault → result ≡ Err fault

@@ -42,7 +42,8 @@ impl Line {
     /// After a refusal the line is dropped: nothing waits.
     #[inline(never)]
     pub fn add<K: Sink>(&mut self, out: &mut K, piece: &[u8]) -> Result<(), PutFault>
-        ensures added { WroteBuffered K.output K.faults (self.old ++ piece.now) out.old out.new self.new result }
+        ensures added { WroteBuffered K.output K.faults (self.old ++ piece.now) out.old out.new
+            self.new result }
         ensures dropped { OnErr result (self.new ≡ []) }
     {
         let mut rest = piece;

@@ -105,7 +105,8 @@ impl<'k, K: Sink> Writer<'k, K> {
 
     /// Gives pieces, and ends the line.
     pub fn line(&mut self, pieces: &[Piece<'_>])
-        ensures gave { Writes K.output K.faults (flat_map piece_text pieces.now ++ newline) self.old self.new }
+        ensures gave { Writes K.output K.faults (flat_map piece_text pieces.now ++ newline) self.old
+            self.new }
         ensures none_waits { NoneWaits self.new }
     {
         self.add(pieces);

@@ -19,8 +19,10 @@ use std::alloc::Global;
 // The patterns of statements: the first may hold gates, all others are patterns.
 pub(crate) fn build(alloc: Global, circuit: &Circuit, entries: &[Entry]) -> Result<Patterns, Memory>
     requires below { All (AssignsBelow (length circuit.now.names)) entries.now }
-    requires clear { first_pattern_fault circuit.now.inputs (numbered_pattern_resolutions entries.now) ≡ None }
-    ensures { IfOk result (ArePatternsBy (length circuit.now.names) (numbered_pattern_resolutions entries.now)) }
+    requires clear { first_pattern_fault circuit.now.inputs
+        (numbered_pattern_resolutions entries.now) ≡ None }
+    ensures { IfOk result
+        (ArePatternsBy (length circuit.now.names) (numbered_pattern_resolutions entries.now)) }
 {
     let held = bits_of(alloc, held_first(entries), circuit.nodes())?;
     let inputs = circuit.inputs();
@@ -31,8 +33,12 @@ pub(crate) fn build(alloc: Global, circuit: &Circuit, entries: &[Entry]) -> Resu
 
 // The bits of patterns, one pattern after the other.
 fn read_bits(alloc: Global, entries: &[Entry], inputs: u32) -> Result<Vec<bool>, Memory>
-    requires { All (λ entry. lacks_bit inputs (pattern_resolution_of entry.held) ≡ false) entries.now }
-    ensures { IfOk result (λ bits. bits.items ≡ flat_map (λ entry. statement_bits inputs (pattern_resolution_of entry.held)) entries.now) }
+    requires { All (λ entry. lacks_bit inputs (pattern_resolution_of entry.held) ≡ false)
+        entries.now }
+    ensures { IfOk result
+        (λ bits. bits.items
+        ≡ flat_map (λ entry. statement_bits inputs (pattern_resolution_of entry.held))
+        entries.now) }
 {
     let Some(all) = entries.len().checked_mul(2 * inputs as usize) else {
         return Err(Memory);
@@ -47,7 +53,9 @@ fn read_bits(alloc: Global, entries: &[Entry], inputs: u32) -> Result<Vec<bool>,
 // Adds the bits of a pattern.
 fn push_statement(bits: &mut Vec<bool>, held: &Held, inputs: u32) -> Result<(), Memory>
     requires { lacks_bit inputs (pattern_resolution_of held.now) ≡ false }
-    ensures { OnOk result (bits.new.items ≡ bits.old.items ++ statement_bits inputs (pattern_resolution_of held.now)) }
+    ensures { OnOk result
+        (bits.new.items
+        ≡ bits.old.items ++ statement_bits inputs (pattern_resolution_of held.now)) }
 {
     match held {
         Held::Hold(_) => Ok(()),

@@ -48,7 +48,8 @@ fn write_patterns<K: Sink>(
 ) -> Result<(), PutFault>
     requires { ArePatternsFor circuit.now patterns.now }
     ensures circuit { IsCircuit circuit.now }
-    ensures wrote { Wrote K.output K.faults (patterns_text circuit.now patterns.now) out.old out.new result }
+    ensures wrote { Wrote K.output K.faults (patterns_text circuit.now patterns.now) out.old out.new
+        result }
 {
     let _nodes = circuit.nodes();
     let mut writer = Writer::new(out);
@@ -63,7 +64,8 @@ fn write_hold<K: Sink>(writer: &mut Writer<'_, K>, circuit: &Circuit, held: &[Op
     requires circuit { IsCircuit circuit.now }
     requires nodes { length held.now ≡ length circuit.now.names }
     requires none_waits { NoneWaits writer.old }
-    ensures gave { Writes K.output K.faults (hold_text circuit.now (listed_from 0 held.now)) writer.old writer.new }
+    ensures gave { Writes K.output K.faults (hold_text circuit.now (listed_from 0 held.now))
+        writer.old writer.new }
     ensures none_waits { NoneWaits writer.new }
 {
     if holds_any(held) {
@@ -95,7 +97,8 @@ fn write_held<K: Sink>(writer: &mut Writer<'_, K>, circuit: &Circuit, held: &[Op
 // Gives the line of each pattern.
 fn write_all<K: Sink>(writer: &mut Writer<'_, K>, patterns: &Patterns)
     requires none_waits { NoneWaits writer.old }
-    ensures gave { Writes K.output K.faults (flat_map pattern_text patterns.now.patterns) writer.old writer.new }
+    ensures gave { Writes K.output K.faults (flat_map pattern_text patterns.now.patterns) writer.old
+        writer.new }
     ensures none_waits { NoneWaits writer.new }
 {
     for number in 0..patterns.count() {

@@ -42,7 +42,8 @@ fn read_lines(
     requires some { 1 ≤ inputs }
     requires few { inputs < 2 ^ 32 }
     requires whole { length text.now ≡ count * (10 + 2 * inputs) }
-    ensures { IfOk result (λ found. IfSome found (λ bits. ArePrintedBits inputs count bits.items text.now)) }
+    ensures { IfOk result
+        (λ found. IfSome found (λ bits. ArePrintedBits inputs count bits.items text.now)) }
 {
     let width = 10 + 2 * inputs;
     let lines = (BLOCK_BYTES / width).max(1);

@@ -85,7 +85,8 @@ pub(crate) fn held_first<'h>(entries: &'h [Entry]) -> &'h [Assigned]
 
 // The statements behind the first one, if that holds gates, else all.
 pub(crate) fn behind_hold<'h, 't>(entries: &'h [Entry<'t>]) -> &'h [Entry<'t>]
-    ensures { numbered_pattern_resolutions result.now ≡ behind_hold (numbered_pattern_resolutions entries.now) }
+    ensures { numbered_pattern_resolutions result.now
+        ≡ behind_hold (numbered_pattern_resolutions entries.now) }
 {
     let [first, later @ ..] = entries else {
         return entries;

@@ -10,7 +10,11 @@ use crate::patterns::word::{Letters, letters_of};
 
 // The two words of a line `from BITS to BITS` that has a letter for each input, one space between its words, and no more.
 pub(crate) fn read_short<'t>(line: &'t [u8], inputs: u32) -> Option<(Letters<'t>, Letters<'t>)>
-    ensures { IfSome result (λ words. tokens_of line.now ≡ Some (WordOf (codes "from") ∷ WordOf words.0 ∷ WordOf (codes "to") ∷ WordOf words.1 ∷ [])) }
+    ensures { IfSome result
+        (λ words. tokens_of line.now
+        ≡ Some
+        (WordOf (codes "from") ∷ WordOf words.0 ∷ WordOf (codes "to") ∷ WordOf words.1
+        ∷ [])) }
 {
     let inputs = inputs as usize;
     if inputs == 0 || line.len() != 9 + 2 * inputs {
@@ -27,7 +31,8 @@ pub(crate) fn read_short<'t>(line: &'t [u8], inputs: u32) -> Option<(Letters<'t>
 
 // Whether these are the keywords with the spaces beside them.
 fn are_keywords(keyword: &[u8], middle: &[u8]) -> bool
-    ensures { result ≡ (bytes_eq keyword.now (codes "from ") && bytes_eq middle.now (codes " to ")) }
+    ensures { result
+        ≡ (bytes_eq keyword.now (codes "from ") && bytes_eq middle.now (codes " to ")) }
 {
     keyword == b"from ".as_slice() && middle == b" to ".as_slice()
 }

@@ -130,11 +130,15 @@ fn read_statement_of<'t>(
     rest: &'t [u8],
 ) -> Result<Held<'t>, StatementFault>
     ensures read { MatchResult result
-        (λ held. by_tokens (resolve_pattern_keyword circuit.now (Some (pattern_keyword_by keyword))) (tokens_of rest.now)
+        (λ held. by_tokens (resolve_pattern_keyword circuit.now (Some (pattern_keyword_by keyword)))
+        (tokens_of rest.now)
         ≡ Some (pattern_resolution_of held))
-        (λ why. IsUnread (by_tokens (resolve_pattern_keyword circuit.now (Some (pattern_keyword_by keyword)))
+        (λ why. IsUnread
+        (by_tokens (resolve_pattern_keyword circuit.now (Some (pattern_keyword_by keyword)))
         (tokens_of rest.now)) why) }
-    ensures below { IfOk result (λ held. AreBelow (length circuit.now.names) (assignments_in (pattern_resolution_of held))) }
+    ensures below { IfOk result
+        (λ held. AreBelow (length circuit.now.names)
+        (assignments_in (pattern_resolution_of held))) }
 {
     match keyword {
         Keyword::Hold => Ok(Held::Hold(read_assignments(alloc, circuit, rest)?)),
@@ -148,7 +152,8 @@ fn read_statement_of<'t>(
 // The two words of the pattern that a line after `from` is: a word, the word `to`, a word.
 fn read_words<'t>(line: &'t [u8]) -> Result<(&'t [u8], &'t [u8]), StatementFault>
     ensures { MatchResult result
-        (λ words. by_tokens pattern_by (tokens_of line.now) ≡ Some (Pattern words.0.now words.1.now))
+        (λ words. by_tokens pattern_by (tokens_of line.now)
+        ≡ Some (Pattern words.0.now words.1.now))
         (λ why. IsUnread (by_tokens pattern_by (tokens_of line.now)) why) }
 {
     let Some((from, later)) = first_word(line) else {

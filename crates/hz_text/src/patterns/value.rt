@@ -45,7 +45,8 @@ impl Patterns {
         bits: Vec<bool>,
     ) -> Patterns
         requires { length bits.items ≡ count * (2 * inputs) }
-        ensures { result ≡ record { held = held.items; patterns = patterns_in count inputs bits.items } }
+        ensures { result
+            ≡ record { held = held.items; patterns = patterns_in count inputs bits.items } }
     {
         Patterns {
             held,
@@ -72,7 +73,8 @@ impl Patterns {
     /// The bits of the inputs before the change of a pattern. Patterns are numbered from 0.
     pub fn from(&self, number: usize) -> &[bool]
         requires { number < length self.now.patterns }
-        ensures { option_map (λ pattern. pattern.from) (slice_get self.now.patterns number) ≡ Some result.now }
+        ensures { option_map (λ pattern. pattern.from) (slice_get self.now.patterns number)
+            ≡ Some result.now }
     {
         let (from, _) = pattern_at(self.bits.as_slice(), self.inputs, self.count, number);
         from
@@ -81,7 +83,8 @@ impl Patterns {
     /// The bits of the inputs after the change of a pattern. Patterns are numbered from 0.
     pub fn to(&self, number: usize) -> &[bool]
         requires { number < length self.now.patterns }
-        ensures { option_map (λ pattern. pattern.to) (slice_get self.now.patterns number) ≡ Some result.now }
+        ensures { option_map (λ pattern. pattern.to) (slice_get self.now.patterns number)
+            ≡ Some result.now }
     {
         let (_, to) = pattern_at(self.bits.as_slice(), self.inputs, self.count, number);
         to
@@ -90,7 +93,8 @@ impl Patterns {
     /// The bits of so many patterns, of each those before its change and then those after it. Patterns are numbered from 0.
     pub fn bits(&self, first: usize, count: usize) -> &[bool]
         requires { first + count ≤ length self.now.patterns }
-        ensures { result.now ≡ flat_map bits_of_pattern (take count (drop first self.now.patterns)) }
+        ensures { result.now
+            ≡ flat_map bits_of_pattern (take count (drop first self.now.patterns)) }
     {
         bits_between(self.bits.as_slice(), self.inputs, self.count, first, count)
     }
@@ -100,7 +104,8 @@ impl Patterns {
 fn bits_between(bits: &[bool], inputs: usize, all: usize, first: usize, count: usize) -> &[bool]
     requires whole { length bits.now ≡ all * (2 * inputs) }
     requires count { first + count ≤ all }
-    ensures { result.now ≡ flat_map bits_of_pattern (take count (drop first (patterns_in all inputs bits.now))) }
+    ensures { result.now
+        ≡ flat_map bits_of_pattern (take count (drop first (patterns_in all inputs bits.now))) }
 {
     if count == 0 {
         return &[];
@@ -118,7 +123,8 @@ fn pattern_at<'a>(
 ) -> (&'a [bool], &'a [bool])
     requires whole { length bits.now ≡ count * (2 * inputs) }
     requires number { number < count }
-    ensures { slice_get (patterns_in count inputs bits.now) number ≡ Some (record { from = result.0.now; to = result.1.now }) }
+    ensures { slice_get (patterns_in count inputs bits.now) number
+        ≡ Some (record { from = result.0.now; to = result.1.now }) }
 {
     let start = number * (2 * inputs);
     let middle = start + inputs;

@@ -134,7 +134,12 @@ pub fn write_run<K: Sink>(writer: &mut Writer<'_, K>, net: &Net, lead: &Run, cyc
     requires cycle { All (λ flips. All (IsVariable net.now) flips)
         (cycle_steps (option_map (λ run. run.now.steps) cycle)) }
     ensures gave { Writes K.output K.faults
-        (run_text net.now (record { lead = lead.now.steps; cycle = option_map (λ run. run.now.steps) cycle.entry })) writer.old writer.new }
+        (run_text net.now
+        (record {
+          lead = lead.now.steps;
+          cycle = option_map (λ run. run.now.steps) cycle.entry;
+        }))
+        writer.old writer.new }
     ensures none_waits { NoneWaits writer.new }
 {
     writer.line(&[Text(b"run")]);
@@ -231,7 +236,8 @@ fn write_gate_pin<K: Sink>(writer: &mut Writer<'_, K>, circuit: &Circuit, gate: 
     requires gate { gate < length circuit.now.names }
     requires pin { pin < most_gate_pins }
     ensures { Writes K.output K.faults
-        (node_name circuit.now.names gate ++ 40 ∷ decimal (pin + 1) ++ 41 ∷ []) writer.old writer.new }
+        (node_name circuit.now.names gate ++ 40 ∷ decimal (pin + 1) ++ 41 ∷ []) writer.old
+        writer.new }
 {
     writer.text(circuit.name(gate));
     write_pin(writer, pin);

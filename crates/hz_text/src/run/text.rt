@@ -23,7 +23,11 @@ impl Model for RunText {
 
     ghost Value = { RunTextOf };
 
-    ghost view = { λ inside. record { nodes = inside.nodes.items; input = inside.input.items; runs = inside.runs } };
+    ghost view = { λ inside. record {
+      nodes = inside.nodes.items;
+      input = inside.input.items;
+      runs = inside.runs;
+    } };
 }
 
 impl RunText {

@@ -42,7 +42,8 @@ fn add_changes(
         (λ entry. IsSound (length script.old.start) (resolution_of entry.held)) entries.now }
     ensures start { OnOk result (script.new.start ≡ script.old.start) }
     ensures changes { OnOk result
-        (map (map assignment_to) script.new.changes ≡ map (λ numbered. numbered.statement.assigned) (numbered_resolutions entries.now)) }
+        (map (map assignment_to) script.new.changes
+        ≡ map (λ numbered. numbered.statement.assigned) (numbered_resolutions entries.now)) }
 {
     for entry in entries {
         read_pairs(entry.held.assigned.as_slice(), pairs)?;

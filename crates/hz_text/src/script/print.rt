@@ -54,7 +54,8 @@ fn write_start<K: Sink>(writer: &mut Writer<'_, K>, circuit: &Circuit, start: &[
     requires circuit { IsCircuit circuit.now }
     requires nodes { length start.now ≡ length circuit.now.names }
     ensures gave { Writes K.output K.faults
-        (statement_text circuit.now (codes "start") (listed_from 0 start.now)) writer.old writer.new }
+        (statement_text circuit.now (codes "start") (listed_from 0 start.now)) writer.old
+        writer.new }
     ensures none_waits { NoneWaits writer.new }
 {
     writer.text(b"start");
@@ -68,7 +69,8 @@ fn write_changes<K: Sink>(writer: &mut Writer<'_, K>, circuit: &Circuit, script:
     requires script { IsScriptFor circuit.now script.now }
     requires none_waits { NoneWaits writer.old }
     ensures gave { Writes K.output K.faults
-        (flat_map (statement_text circuit.now (codes "change")) script.now.changes) writer.old writer.new }
+        (flat_map (statement_text circuit.now (codes "change")) script.now.changes) writer.old
+        writer.new }
     ensures none_waits { NoneWaits writer.new }
 {
     for number in 0..script.changes() {

@@ -15,7 +15,7 @@ pub returns-in-Err-clause-ends : goal.returns-in-Err-clause-ends
 returns-in-Err-clause-ends g c =
     let told = observation_of g.F.Files.held g.F.Files.faults g.F.Files.longs c.args.files.now c.load.new.self in
     let first = c.args.first.now in
-    let comes = IsFilesOutcome told (comes_of c.args.options c.args.task) first c.args.second.now in
+    let comes = IsFilesOutcome told (comes_of c.args.work.options c.args.work.task) first c.args.second.now in
     Ends-more g.K.Sink.output g.K.Sink.faults (LoadPrints First c.in-Err.fault) comes c.args.out.now c.refuse_load.new.out c.refuse_load.result
     (λ own text says. inl (
       (c.load.ensures.other_faults, c.load.ensures.other_longs),
@@ -27,7 +27,7 @@ returns-in-Err-clause-ends g c =
 pub returns-in-Err-read_netlist-clause-ends : goal.returns-in-Err-read_netlist-clause-ends
 returns-in-Err-read_netlist-clause-ends g c =
     let told = observation_of g.F.Files.held g.F.Files.faults g.F.Files.longs c.args.files.now c.load.new.self in
-    let comes = IsFilesOutcome told (comes_of c.args.options c.args.task) c.args.first.now c.args.second.now in
+    let comes = IsFilesOutcome told (comes_of c.args.work.options c.args.work.task) c.args.first.now c.args.second.now in
     let fault = c.in-Err-read_netlist.fault in
     let bytes = c.as_slice.result.now in
     Ends-more g.K.Sink.output g.K.Sink.faults (NetlistPrints fault) comes c.args.out.now c.refuse_netlist.new.out c.refuse_netlist.result
@@ -47,7 +47,7 @@ returns-clause-ends g c =
     let now = c.work_on_second.new.files in
     let name = c.args.second.now in
     let net = c.in-Ok-build.net in
-    let comes = comes_of c.args.options c.args.task in
+    let comes = comes_of c.args.work.options c.args.work.task in
     Ends-more g.K.Sink.output g.K.Sink.faults (IsSecondFileOutcome (observation_of held faults longs c.load.new.self now) (comes net) name)
     (IsFilesOutcome (observation_of held faults longs c.args.files.now now) comes c.args.first.now name) c.args.out.now c.work_on_second.new.out c.work_on_second.result
     (λ own text says. inr (
@@ -64,20 +64,20 @@ returns-clause-ends g c =
 pub returns-in-Err-clause-files : goal.returns-in-Err-clause-files
 returns-in-Err-clause-files g c =
     second-stays (observation_of g.F.Files.held g.F.Files.faults g.F.Files.longs c.args.files.now c.load.new.self)
-    c.args.task c.args.options c.args.first.now c.args.second.now (c.load.ensures.other_faults, c.load.ensures.other_longs)
+    c.args.work.task c.args.work.options c.args.first.now c.args.second.now (c.load.ensures.other_faults, c.load.ensures.other_longs)
 
 pub returns-in-Err-read_netlist-clause-files : goal.returns-in-Err-read_netlist-clause-files
 returns-in-Err-read_netlist-clause-files g c =
     second-stays (observation_of g.F.Files.held g.F.Files.faults g.F.Files.longs c.args.files.now c.load.new.self)
-    c.args.task c.args.options c.args.first.now c.args.second.now (c.load.ensures.other_faults, c.load.ensures.other_longs)
+    c.args.work.task c.args.work.options c.args.first.now c.args.second.now (c.load.ensures.other_faults, c.load.ensures.other_longs)
 
 pub returns-in_default-clause-files : goal.returns-in_default-clause-files
 returns-in_default-clause-files g c =
     second-stays (observation_of g.F.Files.held g.F.Files.faults g.F.Files.longs c.args.files.now c.load.new.self)
-    c.args.task c.args.options c.args.first.now c.args.second.now (c.load.ensures.other_faults, c.load.ensures.other_longs)
+    c.args.work.task c.args.work.options c.args.first.now c.args.second.now (c.load.ensures.other_faults, c.load.ensures.other_longs)
 
 pub returns-clause-files : goal.returns-clause-files
 returns-clause-files g c =
     first-read (observation_of g.F.Files.held g.F.Files.faults g.F.Files.longs c.args.files.now c.work_on_second.new.files)
-    c.args.task c.args.options c.args.first.now c.args.second.now c.as_slice.result.now
+    c.args.work.task c.args.work.options c.args.first.now c.args.second.now c.as_slice.result.now
     c.in-Ok-read_netlist.circuit (rw c.as_slice.ensures.value c.in-Ok.ensures.bytes) (rw c.as_slice.ensures.len c.in-Ok.ensures.short) c.in-Ok-read_netlist.ensures.netlist

@@ -10,7 +10,7 @@ use Rattle.hz_top.proofs.order.work_on_second.Goals as goal
 pub returns-in-Ok : goal.returns-in-Ok
 returns-in-Ok g c =
     let told = observation_of g.F.Files.held g.F.Files.faults g.F.Files.longs c.args.files.now c.load.new.self in
-    let comes = comes_of c.args.options c.args.task c.args.net.now in
+    let comes = comes_of c.args.work.options c.args.work.task c.args.net.now in
     Ends-more g.K.Sink.output g.K.Sink.faults (comes c.in-Ok.text.items) (IsSecondFileOutcome told comes c.args.second.now)
     c.args.out.now c.work_on_text.new.out c.work_on_text.result
     (λ own text says. inr (
@@ -22,7 +22,7 @@ returns-in-Ok g c =
 pub returns-in-Err : goal.returns-in-Err
 returns-in-Err g c =
     let told = observation_of g.F.Files.held g.F.Files.faults g.F.Files.longs c.args.files.now c.load.new.self in
-    let comes = comes_of c.args.options c.args.task c.args.net.now in
+    let comes = comes_of c.args.work.options c.args.work.task c.args.net.now in
     Ends-more g.K.Sink.output g.K.Sink.faults (LoadPrints Second c.in-Err.fault) (IsSecondFileOutcome told comes c.args.second.now)
     c.args.out.now c.refuse_load.new.out c.refuse_load.result
     (λ own text says. inl (FileRefused-load told Second c.args.second.now c.in-Err.fault
