@@ -15,6 +15,9 @@ const SHOWN: usize = 120;
 /// How many bytes of a file one read asks for.
 const READ_SIZE: usize = 65_536;
 
+/// How many bytes are looked at together when line feeds are counted.
+const PIECE_SIZE: usize = 240;
+
 /// The most bytes of a file that is read.
 const MOST: usize = 16_777_216;
 
@@ -209,11 +212,20 @@ fn read_line(rt: &HostRuntime, name: &str, number: usize) -> Option<Vec<u8>> {
 
 // How many line feeds bytes have.
 fn count_line_feeds(bytes: &[u8]) -> usize {
-    let mut feeds = 0u32;
-    for byte in bytes {
-        feeds = feeds.wrapping_add(u32::from(*byte == b'\n'));
+    let mut feeds = 0usize;
+    for piece in bytes.chunks(PIECE_SIZE) {
+        feeds = feeds.wrapping_add(count_few_line_feeds(piece) as usize);
     }
-    feeds as usize
+    feeds
+}
+
+// How many line feeds a piece of less than 256 bytes has. They are counted in one byte, so that many are counted at once.
+fn count_few_line_feeds(piece: &[u8]) -> u8 {
+    let mut feeds = 0u8;
+    for byte in piece {
+        feeds = feeds.wrapping_add(u8::from(*byte == b'\n'));
+    }
+    feeds
 }
 
 // What stands behind the first so many line feeds, if there are as many.

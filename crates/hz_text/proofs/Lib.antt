@@ -40,6 +40,10 @@ pub mod PatternPrintLemmas
 pub mod PatternPrintedLaws
 -- Lines of patterns that agree with lines of zeros
 pub mod PatternModelLaws
+-- A text behind lines that are statements: what its lines are in the whole text
+pub mod BehindLaws
+-- A text whose first lines are printed patterns: its faults and its value, by what is read of the rest
+pub mod PatternBehindLaws
 -- The commonest line of a text of patterns
 pub mod PatternLines
 -- The first answer of the passes over a run text is its least fault

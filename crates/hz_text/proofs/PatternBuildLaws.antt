@@ -306,14 +306,15 @@ pattern_long inputs pattern h =
     let parts = or_parts (not (is_bits_word inputs (bits_word pattern.from))) (not (is_bits_word inputs (bits_word pattern.to))) h in
     record { from = bits_long inputs pattern.from (not-false _ parts.0); to = bits_long inputs pattern.to (not-false _ parts.1) }
 
-short : (statements : List (Numbered ResolvedPatternStatement)) → option_map (λ (numbered : Numbered ResolvedPatternStatement). numbered.line) (slice_get statements most_patterns) ≡ None → length statements ≤ most_patterns
-short statements e = by_place (cases_lt most_patterns (length statements))
+-- no statement past a limit
+pub few_behind : (most : ℕ) (statements : List (Numbered ResolvedPatternStatement)) → option_map (λ (numbered : Numbered ResolvedPatternStatement). numbered.line) (slice_get statements most) ≡ None → length statements ≤ most
+few_behind most statements e = by_place (cases_lt most (length statements))
   where
     nothing : Numbered ResolvedPatternStatement
     nothing = record { line = 0; statement = Hold [] }
 
-    by_place : (most_patterns < length statements) ⊎ (length statements ≤ most_patterns) → length statements ≤ most_patterns
-    by_place (inl more) = let wrong = ap (option_map (λ (numbered : Numbered ResolvedPatternStatement). numbered.line)) (slice_get-get_or statements most_patterns nothing more) in absurd (none-some _ (sym e ∙ wrong))
+    by_place : (most < length statements) ⊎ (length statements ≤ most) → length statements ≤ most
+    by_place (inl more) = let wrong = ap (option_map (λ (numbered : Numbered ResolvedPatternStatement). numbered.line)) (slice_get-get_or statements most nothing more) in absurd (none-some _ (sym e ∙ wrong))
     by_place (inr few) = few
 
 -- the patterns of a text in which the passes find nothing are those of a circuit
@@ -333,7 +334,7 @@ usable-patterns netlist statements value h is =
       nodes = long;
       gates = λ k d l. none_held k d l is.held long;
       patterns = λ k d l. pattern_long inputs (get_or value.patterns k d) (each k d l);
-      few = omega (arith, many, short (behind_hold statements) h.few);
+      few = omega (arith, many, few_behind most_patterns (behind_hold statements) h.few);
     }
   where
     short_take : {X : Type 0} (n : ℕ) (xs : List X) → length (take n xs) ≤ n

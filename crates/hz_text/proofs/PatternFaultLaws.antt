@@ -1,6 +1,5 @@
 -- The first answer of the passes over a text of patterns is its least fault.
-use Rattle.std.proofs.Common.{◌≡◌, ◌∙◌, ℕ, Bool, true, false, not, List, [], ◌∷◌, Option, Some, None, suc, length, filter, refl, ap, sym, subst}
-use Rattle.std.specs.List.{All}
+use Rattle.std.proofs.Common.{◌≡◌, ℕ, Bool, true, false, not, List, [], ◌∷◌, Option, Some, None, suc, filter, refl, ap, sym, subst}
 use Rattle.hz_core.specs.Netlist.{Netlist}
 use Rattle.hz_lists.specs.Least.{IsLeastOf}
 use Rattle.hz_line.specs.Line.{lines_of}
@@ -8,14 +7,14 @@ use Rattle.hz_line.specs.Statement.{Numbered, PassesOn, first_passing_line, numb
 use Rattle.hz_line.proofs.StatementLemmas.{Ascends, numbered_from-Ascends, numbered_from-map, first_passing_line-Some, first_passing_line-None}
 use Rattle.hz_text.specs.declared.fault.TextFault.{TextFault}
 use Rattle.hz_text.specs.Assignment.{Gates}
-use Rattle.hz_text.specs.Rules.{first_fault_of, IsFaultOrMemory, IsChecked}
+use Rattle.hz_text.specs.Rules.{first_fault_of, IsFaultOrMemory}
 use Rattle.hz_text.specs.PatternStatement.{PatternStatement, Hold, Pattern, pattern_statement_of, pattern_statements_of}
-use Rattle.hz_text.specs.PatternResolution.{ResolvedPatternStatement, PatternEntry, resolve_pattern_statement, resolve_pattern_tokens, numbered_pattern_resolutions}
+use Rattle.hz_text.specs.PatternResolution.{ResolvedPatternStatement, resolve_pattern_statement, resolve_pattern_tokens}
 use Rattle.hz_text.specs.PatternFault.{resolved_pattern_statements, holds_unknown, holds_twice, lacks_bit, is_hold, HoldsLate, line_beyond, HasPatternFault, IsPatternFaultless, IsPatternRefusal}
 use Rattle.hz_text.specs.PatternText.{behind_hold}
-use Rattle.hz_text.specs.PatternRules.{holds_node_twice, first_late_hold, last_beyond, pattern_rules, first_pattern_fault, AssignsBelow, IsAcceptedPatternText}
+use Rattle.hz_text.specs.PatternRules.{holds_node_twice, first_late_hold, last_beyond, pattern_rules, first_pattern_fault}
 use Rattle.hz_text.proofs.FaultLaws.{twice-names}
-use Rattle.hz_text.proofs.LeastFault.{Outcome, answers_first, answers_itself, answered, unanswered, checked-none, OneMismatch}
+use Rattle.hz_text.proofs.LeastFault.{Outcome, answers_first, answers_itself, answered, unanswered, OneMismatch}
 use Rattle.hz_text.proofs.TextLaws.{Judged, looked-Ascends, answers_malformed, text-outcome, twice-line}
 
 -- the statements that the reader reads are those of the text, looked up
@@ -92,17 +91,6 @@ patterns-outcome netlist text = text-outcome (resolve_pattern_statement netlist)
 -- where no line is malformed and no pass has an answer
 pub clear-faultless : (netlist : Netlist) (text : List ℕ) → first_malformed (resolve_pattern_tokens netlist) 1 (lines_of text) ≡ None → first_pattern_fault netlist.inputs (resolved_pattern_statements netlist text) ≡ None → IsPatternFaultless netlist text
 clear-faultless netlist text formed clear = unanswered (HasPatternFault netlist text) _ (patterns-outcome netlist text) (rw (formed, looked_patterns-read netlist text, clear) refl)
-
--- what a text is in which the passes find nothing
-pub accepted :
-    (netlist : Netlist) (text : List ℕ) (entries : List PatternEntry) → IsChecked (resolve_pattern_tokens netlist) (pattern_rules netlist.inputs) text (numbered_pattern_resolutions entries) →
-    All (AssignsBelow (length netlist.names)) entries → IsAcceptedPatternText netlist text entries
-accepted netlist text entries h below = record {
-  below = below;
-  statements = sym h.read.statements ∙ looked_patterns-read netlist text;
-  clear = h.clear;
-  faultless = unanswered (HasPatternFault netlist text) _ (patterns-outcome netlist text) (checked-none (resolve_pattern_tokens netlist) (pattern_rules netlist.inputs) text (numbered_pattern_resolutions entries) h);
-}
 
 -- what the reader and the passes answer, as a refusal
 pub refusal : (netlist : Netlist) (text : List ℕ) (fault : TextFault) → IsFaultOrMemory (first_fault_of (resolve_pattern_tokens netlist) (pattern_rules netlist.inputs) text) fault → IsPatternRefusal netlist text fault

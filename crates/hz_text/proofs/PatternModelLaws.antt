@@ -1,5 +1,5 @@
 -- Lines of patterns that agree with lines of zeros.
-use Rattle.std.proofs.Common.{◌≡◌, ◌∙◌, ℕ, ◌+◌, ◌-◌, ◌*◌, ◌<◌, ◌≤◌, Bool, true, false, not, ◌||◌, ◌&&◌, nat_eq, List, [], ◌∷◌, ◌++◌, Option, None, zero, suc, length, length-append, get_or, take, drop, map, replicate, codes, refl, ap, sym, subst, arith, append_assoc, add-one, zero-add}
+use Rattle.std.proofs.Common.{◌≡◌, ◌∙◌, ℕ, ◌+◌, ◌-◌, ◌*◌, ◌<◌, ◌≤◌, Bool, true, false, not, ◌||◌, ◌&&◌, nat_eq, List, [], ◌∷◌, ◌++◌, zero, suc, length, length-append, get_or, take, drop, map, replicate, codes, refl, ap, sym, subst, arith, append_assoc, add-one, zero-add}
 use Rattle.std.specs.List.{list_all, flat_map, All}
 use Rattle.std.proofs.Math.Nat.{add-mul, suc-mul, zero-mul}
 use Rattle.std.proofs.lemmas.Nat.{mul-le}
@@ -8,17 +8,14 @@ use Rattle.std.proofs.lemmas.Bool.Decides.{nat_tests}
 use Rattle.std.proofs.lemmas.List.{append-nil, drop-drop, drop-take, take-take, drop-append-le, take-append-le, drop-map, take-map, length-map, length-take-le, length-drop, length-replicate, take-append-drop}
 use Rattle.std.proofs.lemmas.List.Elements.{All-nil, All-cons}
 use Rattle.std.proofs.lemmas.Grind.{flat_map-append}
-use Rattle.hz_core.specs.Netlist.{Netlist, IsCircuit}
 use Rattle.hz_text.specs.Limits.{most_patterns}
-use Rattle.hz_text.specs.Printed.{listed_from}
-use Rattle.hz_text.specs.PatternText.{IsPatternOf, ArePatternsFor}
-use Rattle.hz_text.specs.PatternModel.{agrees, AgreesWith, model_line, model_lines, bits_at, ArePrintedBits, AreReadFrom}
-use Rattle.hz_text.specs.PatternPrinted.{pattern_text, hold_text, patterns_text}
+use Rattle.hz_text.specs.PatternText.{IsPatternOf}
+use Rattle.hz_text.specs.PatternModel.{agrees, AgreesWith, model_line, model_lines, bits_at, ArePrintedBits, AreInFront}
+use Rattle.hz_text.specs.PatternPrinted.{pattern_text}
 use Rattle.hz_text.specs.PatternInside.{patterns_in}
-use Rattle.hz_text.specs.PatternValue.{PatternOf, PatternsOf}
+use Rattle.hz_text.specs.PatternValue.{PatternOf}
 use Rattle.hz_text.specs.PatternWord.{bits_word, is_bit_letter}
-use Rattle.hz_text.proofs.PatternBuildLaws.{length-patterns, letters_back, cut}
-use Rattle.hz_text.proofs.PatternPrintedLaws.{printed-faultless, printed-value}
+use Rattle.hz_text.proofs.PatternBuildLaws.{letters_back, cut}
 
 -- the byte is the letter of a bit that is 1
 abbrev pub is_one : ℕ → Bool
@@ -174,7 +171,7 @@ lines_agree n (suc lines) (suc models) bytes some few long h =
     })
 
 -- bits after bits
-patterns-append : (a b n : ℕ) (bits more : List Bool) → length bits ≡ a * (2 * n) → patterns_in (a + b) n (bits ++ more) ≡ patterns_in a n bits ++ patterns_in b n more
+pub patterns-append : (a b n : ℕ) (bits more : List Bool) → length bits ≡ a * (2 * n) → patterns_in (a + b) n (bits ++ more) ≡ patterns_in a n bits ++ patterns_in b n more
 patterns-append zero b n [] more e = ap (λ (count : ℕ). patterns_in count n more) (zero-add b)
 patterns-append zero b n (bit ∷ bits) more e = absurd (omega (arith, e, zero-mul (2 * n)))
 patterns-append (suc a) b n bits more e =
@@ -268,17 +265,8 @@ block_is start end w text up inside =
 pub block_fits : (n start end lines : ℕ) → end ≤ start + lines → (end - start) * (10 + 2 * n) ≤ length (model_lines n lines)
 block_fits n start end lines few = omega (arith, model_long n lines, mul-le (end - start) (10 + 2 * n) lines (10 + 2 * n) (omega (arith, few)) (omega arith))
 
--- where nothing is held, no line says so
-none-listed : (node nodes : ℕ) → listed_from node (replicate nodes None) ≡ []
-none-listed node zero = refl
-none-listed node (suc nodes) = none-listed (suc node) nodes
-
-none-taken : (k nodes : ℕ) → All (λ (bit : Option Bool). bit ≡ None) (take k (replicate nodes None))
-none-taken zero nodes = All-nil (λ (bit : Option Bool). bit ≡ None)
-none-taken (suc k) zero = All-nil (λ (bit : Option Bool). bit ≡ None)
-none-taken (suc k) (suc nodes) = All-cons (λ (bit : Option Bool). bit ≡ None) None (take k (replicate nodes None)) refl (none-taken k nodes)
-
-all-patterns_in : (count n : ℕ) (bits : List Bool) → length bits ≡ count * (2 * n) → All (IsPatternOf n) (patterns_in count n bits)
+-- so many patterns of bits
+pub all-patterns_in : (count n : ℕ) (bits : List Bool) → length bits ≡ count * (2 * n) → All (IsPatternOf n) (patterns_in count n bits)
 all-patterns_in zero n bits e = All-nil (IsPatternOf n)
 all-patterns_in (suc count) n bits e =
     let sum : suc count * (2 * n) ≡ 2 * n + count * (2 * n) = omega (arith, suc-mul count (2 * n)) in
@@ -287,21 +275,11 @@ all-patterns_in (suc count) n bits e =
     let rest = all-patterns_in count n (drop (2 * n) bits) (length-drop (2 * n) bits ∙ omega (arith, e, sum)) in
     All-cons (IsPatternOf n) (record { from = take n bits; to = take n (drop n bits) }) (patterns_in count n (drop (2 * n) bits)) (record { from = from; to = to }) rest
 
--- a text of printed lines stands for their patterns, of which nothing is held
-pub printed-read : (netlist : Netlist) (count : ℕ) (bits : List Bool) (text : List ℕ) → IsCircuit netlist → count ≤ most_patterns → ArePrintedBits netlist.inputs count bits text →
-    AreReadFrom netlist text (record { held = replicate (length netlist.names) None; patterns = patterns_in count netlist.inputs bits })
-printed-read netlist count bits text circuit few is =
-    let nodes = length netlist.names in
-    let value : PatternsOf = record { held = replicate nodes None; patterns = patterns_in count netlist.inputs bits } in
-    let for : ArePatternsFor netlist value = record {
-      nodes = length-replicate nodes None;
-      gates = none-taken netlist.inputs nodes;
-      patterns = all-patterns_in count netlist.inputs bits is.long;
-      few = omega (arith, few, length-patterns count netlist.inputs bits);
-    } in
-    let same : patterns_text netlist value ≡ text = ap (λ (pairs : List (ℕ × Bool)). hold_text netlist pairs ++ flat_map pattern_text value.patterns) (none-listed 0 nodes) ∙ is.lines in
-    subst (λ (bytes : List ℕ). AreReadFrom netlist bytes value) same (record {
-      value_is = printed-value netlist value circuit for;
-      usable = for;
-      faultless = printed-faultless netlist value circuit for;
-    })
+-- the lines that agree so far stand in front of the text
+pub in_front : (n start most : ℕ) (bits : List Bool) (text : List ℕ) → start ≤ most → most ≤ most_patterns → most * (10 + 2 * n) ≤ length text → ArePrintedBits n start bits (take (start * (10 + 2 * n)) text) →
+    AreInFront n start (start * (10 + 2 * n)) bits text
+in_front n start most bits text up few room printed = record {
+  few = omega (arith, up, few);
+  inside = omega (arith, room, mul-le start (10 + 2 * n) most (10 + 2 * n) up (omega arith));
+  printed = printed;
+}

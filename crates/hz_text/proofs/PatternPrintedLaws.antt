@@ -90,7 +90,7 @@ pattern_reads netlist pattern =
     Reads-line (resolve_pattern_tokens netlist) (codes "from " ++ from ++ codes " to " ++ to) (Pattern from to) (pattern_inline from to f t)
     (ap (meaning_of_tokens (resolve_pattern_tokens netlist)) (pattern_tokens from to f t) ∙ rw (keywords.from, keywords.to) refl)
 
-patterns_read : (netlist : Netlist) (patterns : List PatternOf) → Reads (resolve_pattern_tokens netlist) (flat_map pattern_text patterns) (map pattern_statement patterns)
+pub patterns_read : (netlist : Netlist) (patterns : List PatternOf) → Reads (resolve_pattern_tokens netlist) (flat_map pattern_text patterns) (map pattern_statement patterns)
 patterns_read netlist [] = λ rest. refl
 patterns_read netlist (pattern ∷ patterns) =
     Reads-append (resolve_pattern_tokens netlist) (pattern_text pattern) (flat_map pattern_text patterns) (pattern_statement pattern ∷ []) (map pattern_statement patterns)
@@ -140,7 +140,7 @@ held-sent [] (pattern ∷ patterns) = refl
 held-sent (first ∷ later) patterns = refl
 
 -- patterns hold nothing
-no_holds : (patterns : List PatternOf) → All (λ statement. is_hold statement ≡ false) (map pattern_statement patterns)
+pub no_holds : (patterns : List PatternOf) → All (λ statement. is_hold statement ≡ false) (map pattern_statement patterns)
 no_holds patterns = All-map (λ (statement : ResolvedPatternStatement). is_hold statement ≡ false) pattern_statement patterns (λ k d l. refl)
 
 order-sent : (pairs : List (ℕ × Bool)) (patterns : List PatternOf) → first_late_hold (numbered 1 (sent pairs patterns)) ≡ None
@@ -193,7 +193,7 @@ is_word inputs (bit ∷ bits) e =
     let same : nat_eq (length (map letter_of (bit ∷ bits))) inputs ≡ true = grind (arith, nat_tests, many) in
     rw (some, same, all_letters (bit ∷ bits)) refl
 
-no_bit_lacks : (inputs : ℕ) (pattern : PatternOf) → IsPatternOf inputs pattern → lacks_bit inputs (pattern_statement pattern) ≡ false
+pub no_bit_lacks : (inputs : ℕ) (pattern : PatternOf) → IsPatternOf inputs pattern → lacks_bit inputs (pattern_statement pattern) ≡ false
 no_bit_lacks inputs pattern h = rw (is_word inputs pattern.from h.from, is_word inputs pattern.to h.to) refl
 
 sent-clear : (netlist : Netlist) (value : PatternsOf) → ArePatternsFor netlist value → first_pattern_fault netlist.inputs (numbered 1 (sent (listed_from 0 value.held) value.patterns)) ≡ None

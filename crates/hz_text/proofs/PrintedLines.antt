@@ -61,11 +61,11 @@ module _ {S : Type 0} (grammar : List TokenOf → Option S) where
       ∙ ap (λ meaning. meaning ∷ meanings_of rest) means
 
   -- the statements of lines, by what the lines are
-  abbrev meant : ℕ → List (Meaning S) → List (Numbered S)
+  abbrev pub meant : ℕ → List (Meaning S) → List (Numbered S)
   meant line [] = []
   meant line (meaning ∷ rest) = with_meaning line meaning (meant (suc line) rest)
 
-  lines-meant : (line : ℕ) (lines : List (List ℕ)) → numbered_from grammar line lines ≡ meant line (map (meaning_of grammar) lines)
+  pub lines-meant : (line : ℕ) (lines : List (List ℕ)) → numbered_from grammar line lines ≡ meant line (map (meaning_of grammar) lines)
   lines-meant line [] = refl
   lines-meant line (first ∷ rest) = ap (with_meaning line (meaning_of grammar first)) (lines-meant (suc line) rest)
 
@@ -74,11 +74,11 @@ module _ {S : Type 0} (grammar : List TokenOf → Option S) where
   meant-back line (statement ∷ later) = ap (λ rest. record { line = line; statement = statement } ∷ rest) (meant-back (suc line) later)
 
   -- the first malformed line, by what the lines are
-  abbrev malformed_in : ℕ → List (Meaning S) → Option ℕ
+  abbrev pub malformed_in : ℕ → List (Meaning S) → Option ℕ
   malformed_in line [] = None
   malformed_in line (meaning ∷ rest) = malformed_before line meaning (malformed_in (suc line) rest)
 
-  lines-malformed : (line : ℕ) (lines : List (List ℕ)) → first_malformed grammar line lines ≡ malformed_in line (map (meaning_of grammar) lines)
+  pub lines-malformed : (line : ℕ) (lines : List (List ℕ)) → first_malformed grammar line lines ≡ malformed_in line (map (meaning_of grammar) lines)
   lines-malformed line [] = refl
   lines-malformed line (first ∷ rest) = ap (malformed_before line (meaning_of grammar first)) (lines-malformed (suc line) rest)
 

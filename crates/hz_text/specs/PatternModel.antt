@@ -1,16 +1,17 @@
 -- Lines of patterns beside lines in which all bits are 0.
-use Rattle.std.specs.Prelude.{◌≡◌, ℕ, zero, suc, ◌+◌, ◌*◌, Bool, true, ◌||◌, ◌&&◌, nat_eq, List, [], ◌∷◌, ◌++◌, codes, length, take, drop, replicate}
+use Rattle.std.specs.Prelude.{◌≡◌, ℕ, zero, suc, ◌+◌, ◌*◌, ◌≤◌, Bool, true, ◌||◌, ◌&&◌, nat_eq, List, [], ◌∷◌, ◌++◌, codes, length, take, drop, replicate, if◌then◌else◌}
 use Rattle.std.specs.List.{flat_map}
-use Rattle.hz_core.specs.Netlist.{Netlist}
-use Rattle.hz_text.specs.PatternFault.{IsPatternFaultless}
+use Rattle.hz_text.specs.Limits.{most_patterns}
 use Rattle.hz_text.specs.PatternInside.{patterns_in}
 use Rattle.hz_text.specs.PatternPrinted.{pattern_text}
-use Rattle.hz_text.specs.PatternText.{ArePatternsFor, IsPatternsValue}
-use Rattle.hz_text.specs.PatternValue.{PatternsOf}
 
 -- a byte is that of the model, or a one in place of a zero
 abbrev pub agrees : ℕ → ℕ → Bool
 agrees byte model = nat_eq byte model || (nat_eq model 48 && nat_eq byte 49)
+
+-- how much greater than the model's a byte may be that agrees with it
+abbrev pub slack_by : ℕ → ℕ
+slack_by model = if nat_eq model 48 then 1 else 0
 
 -- bytes agree with the first ones of a model
 abbrev pub AgreesWith : List ℕ → List ℕ → Type 0
@@ -40,8 +41,8 @@ pub record ArePrintedBits (inputs count : ℕ) (bits : List Bool) (text : List �
   pub long : length bits ≡ count * (2 * inputs)
   pub lines : flat_map pattern_text (patterns_in count inputs bits) ≡ text
 
--- the patterns that a text without fault stands for
-pub record AreReadFrom (netlist : Netlist) (text : List ℕ) (value : PatternsOf) : Type 0 where
-  pub value_is : IsPatternsValue netlist text value
-  pub usable : ArePatternsFor netlist value
-  pub faultless : IsPatternFaultless netlist text
+-- the printed lines of so many patterns of these bits are the first so many bytes of a text
+pub record AreInFront (inputs count end : ℕ) (bits : List Bool) (text : List ℕ) : Type 0 where
+  pub few : count ≤ most_patterns
+  pub inside : end ≤ length text
+  pub printed : ArePrintedBits inputs count bits (take end text)

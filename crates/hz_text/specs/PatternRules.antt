@@ -1,13 +1,16 @@
 -- What the passes over the statements of a text of patterns answer.
-use Rattle.std.specs.Prelude.{◌≡◌, ℕ, Bool, List, length, drop, All, slice_get, Option, None}
+use Rattle.std.specs.Prelude.{◌≡◌, ℕ, ◌+◌, ◌-◌, Bool, nat_eq, List, ◌++◌, drop, map, slice_get, Option, None, if◌then◌else◌}
+use Rattle.std.specs.List.{range_with_len}
 use Rattle.std.specs.Option.{option_map}
-use Rattle.hz_core.specs.Netlist.{Netlist}
 use Rattle.hz_line.specs.Statement.{Numbered, first_passing_line}
 use Rattle.hz_text.specs.declared.fault.TextFault.{TextFault}
+use Rattle.hz_text.specs.declared.fault.TextFault.TheVariants.{Form, Unknown, Twice, Missing, Bit, Order, TooMany, Memory, Mismatch}
+use Rattle.hz_text.specs.Assignment.{assigned_bit}
 use Rattle.hz_text.specs.Rules.{repeats_node, AreBelow, Rules, first_fault_in}
-use Rattle.hz_text.specs.PatternResolution.{ResolvedPatternStatement, PatternEntry, pattern_resolution_of, numbered_pattern_resolutions}
-use Rattle.hz_text.specs.PatternFault.{resolved_pattern_statements, IsPatternFaultless, assignments_in, holds_unknown, lacks_bit, is_hold}
-use Rattle.hz_text.specs.PatternText.{behind_hold}
+use Rattle.hz_text.specs.PatternResolution.{ResolvedPatternStatement, PatternEntry, pattern_resolution_of}
+use Rattle.hz_text.specs.PatternFault.{assignments_in, holds_unknown, lacks_bit, is_hold}
+use Rattle.hz_text.specs.PatternText.{held_first, behind_hold, pattern_statement}
+use Rattle.hz_text.specs.PatternValue.{PatternOf, PatternsOf}
 use Rattle.hz_text.specs.Limits.{most_patterns}
 
 -- the statement assigns a node twice
@@ -43,10 +46,39 @@ first_pattern_fault inputs statements = first_fault_in (pattern_rules inputs) st
 abbrev pub AssignsBelow : ℕ → PatternEntry → Type 0
 AssignsBelow nodes entry = AreBelow nodes (assignments_in (pattern_resolution_of entry.held))
 
--- the statements of a text in which no fault stands
-pub record IsAcceptedPatternText (netlist : Netlist) (text : List ℕ)
-    (entries : List PatternEntry) : Type 0 where
-  pub below : All (AssignsBelow (length netlist.names)) entries
-  pub statements : numbered_pattern_resolutions entries ≡ resolved_pattern_statements netlist text
-  pub clear : first_pattern_fault netlist.inputs (numbered_pattern_resolutions entries) ≡ None
-  pub faultless : IsPatternFaultless netlist text
+-- the line that holds gates behind the first statement of all, where so many patterns stand in front of these statements
+abbrev pub late_hold_behind : ℕ → List (Numbered ResolvedPatternStatement) → Option ℕ
+late_hold_behind before statements = if nat_eq before 0 then first_late_hold statements else first_passing_line is_hold statements
+
+-- the line of the pattern 65,537 of all
+abbrev pub beyond_behind : ℕ → List (Numbered ResolvedPatternStatement) → Option ℕ
+beyond_behind before statements = option_map (λ numbered. numbered.line) (slice_get (behind_hold statements) (most_patterns - before))
+
+-- the passes over statements in front of which so many patterns stand
+abbrev pub rules_behind : ℕ → ℕ → Rules ResolvedPatternStatement
+rules_behind before inputs = record {
+  unknown = holds_unknown inputs;
+  assigned = assignments_in;
+  bitless = lacks_bit inputs;
+  missing = λ statements. None;
+  order = late_hold_behind before;
+  beyond = beyond_behind before;
+  mismatch = λ statements. None;
+}
+
+-- the fault, where so many lines stand in front of its text
+abbrev pub fault_behind : ℕ → TextFault → TextFault
+fault_behind lines (Form line) = Form (line + lines)
+fault_behind lines (Unknown line) = Unknown (line + lines)
+fault_behind lines (Twice line) = Twice (line + lines)
+fault_behind lines (Missing node) = Missing node
+fault_behind lines (Bit line) = Bit (line + lines)
+fault_behind lines (Order line) = Order (line + lines)
+fault_behind lines (TooMany line) = TooMany (line + lines)
+fault_behind lines Memory = Memory
+fault_behind lines (Mismatch line told real) = Mismatch (line + lines) told real
+
+-- the value of statements of a circuit with so many nodes, in front of which these patterns stand
+pub record ArePatternsBehind (front : List PatternOf) (nodes : ℕ) (statements : List (Numbered ResolvedPatternStatement)) (value : PatternsOf) : Type 0 where
+  pub held : value.held ≡ map (assigned_bit (held_first statements)) (range_with_len 0 nodes)
+  pub patterns : map pattern_statement value.patterns ≡ map pattern_statement front ++ map (λ numbered. numbered.statement) (behind_hold statements)

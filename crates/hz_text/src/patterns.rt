@@ -4,7 +4,7 @@
 //! |---|---|
 //! | `value` | [`Patterns`]: what is held, and the bits of each pattern |
 //! | `read` | [`read_patterns`]: the order of work |
-//! | `printed` | texts that are patterns as they are printed, read block by block |
+//! | `printed` | the first lines of a text, where they are as they are printed, read block by block |
 //! | `short` | the commonest line, read without its tokens |
 //! | `statement` | the statements, looked up in a circuit |
 //! | `word` | words of bits |

@@ -1,67 +1,73 @@
-// Texts that are patterns as they are printed, without a line for what is held.
+// The first lines of a text of patterns, where they are as they are printed.
 
-ghost use Rattle.std.specs.Prelude.{◌≡◌, ◌+◌, ◌*◌, ◌^◌, ◌<◌, ◌≤◌, ◌++◌, [], true, nat_eq, length, map, replicate, IfOk, OnOk, IfSome};
-ghost use Rattle.hz_text.specs.PatternModel.{AgreesWith, agrees, bits_at, model_line, model_lines, ArePrintedBits, AreReadFrom};
+ghost use Rattle.std.specs.Prelude.{◌≡◌, ◌+◌, ◌*◌, ◌^◌, ◌<◌, ◌≤◌, ◌++◌, ◌&&◌, [], true, nat_eq, length, map, replicate, IfOk, OnOk};
+ghost use Rattle.hz_text.specs.Limits.{most_patterns};
+ghost use Rattle.hz_text.specs.PatternModel.{AgreesWith, agrees, slack_by, bits_at, model_line, model_lines, AreInFront};
 
-use crate::patterns::value::{MAX_PATTERNS, Patterns};
-use hz_core::{Circuit, Memory};
+use crate::patterns::value::MAX_PATTERNS;
+use hz_core::Memory;
 use std::alloc::Global;
 
 // How many bytes are compared at once, if a line is shorter.
 const BLOCK_BYTES: usize = 4096;
 
-// The patterns of a text that is printed so. All its lines have one length, so blocks of lines are compared with a model, in
-// which all bits are 0. Of another text nothing is known.
-pub(crate) fn read_printed(
-    alloc: Global,
-    circuit: &Circuit,
-    text: &[u8],
-) -> Result<Option<Patterns>, Memory>
-    ensures { IfOk result (λ found. IfSome found (AreReadFrom circuit.now text.now)) }
-{
-    let nodes = circuit.nodes();
-    let inputs = circuit.inputs() as usize;
-    let count = text.len() / (10 + 2 * inputs);
-    if inputs == 0 || count * (10 + 2 * inputs) != text.len() || count > MAX_PATTERNS {
-        return Ok(None);
-    }
-    let Some(bits) = read_lines(alloc, text, inputs, count)? else {
-        return Ok(None);
-    };
-    let held = vec![in alloc; None; nodes as usize]?;
-    Ok(Some(Patterns::of(held, inputs, count, bits)))
+// The patterns of the first lines of a text: how many they are, how many bytes their lines have, and their bits.
+#[derive(Drop)]
+pub(crate) struct Front {
+    pub(crate) count: usize,
+    pub(crate) end: usize,
+    pub(crate) bits: Vec<bool>,
 }
 
-// The bits of so many lines.
-fn read_lines(
-    alloc: Global,
-    text: &[u8],
-    inputs: usize,
-    count: usize,
-) -> Result<Option<Vec<bool>>, Memory>
-    requires some { 1 ≤ inputs }
+// The first lines of a text that are as they are printed. They have one length, so blocks of lines are compared with a model,
+// in which all bits are 0, up to the first block with another line. Of the rest nothing is known.
+#[tactic(auto, using(crate::proofs::PatternModelLaws::in_front))]
+pub(crate) fn read_front(alloc: Global, inputs: usize, text: &[u8]) -> Result<Front, Memory>
     requires few { inputs < 2 ^ 32 }
-    requires whole { length text.now ≡ count * (10 + 2 * inputs) }
-    ensures { IfOk result
-        (λ found. IfSome found (λ bits. ArePrintedBits inputs count bits.items text.now)) }
+    ensures { IfOk result (λ front. AreInFront inputs front.count front.end front.bits.items text.now) }
 {
     let width = 10 + 2 * inputs;
+    let most = most_lines(text, inputs, width);
     let lines = (BLOCK_BYTES / width).max(1);
     let model = model_of(alloc, inputs, lines)?;
+    let slack = slack_of(alloc, model.as_slice())?;
     let mut ones = Vec::new(alloc);
-    let mut bits = Vec::with_capacity(alloc, count * (2 * inputs))?;
+    let mut bits = Vec::with_capacity(alloc, most * (2 * inputs))?;
     let mut start = 0;
-    while start < count {
-        let end = count.min(start + lines);
+    while start < most {
+        let end = most.min(start + lines);
         let block = &text[start * width..end * width];
-        if !agree(block, model.as_slice()) {
-            return Ok(None);
+        if !agree(block, model.as_slice(), slack.as_slice()) {
+            return Ok(Front {
+                count: start,
+                end: start * width,
+                bits,
+            });
         }
         mark_ones(&mut ones, block)?;
         push_lines(&mut bits, ones.as_slice(), inputs, end - start)?;
         start = end;
     }
-    Ok(Some(bits))
+    Ok(Front {
+        count: start,
+        end: start * width,
+        bits,
+    })
+}
+
+// How many lines of so many bytes a text has room for. Without inputs none is read so, and none of a text that has room for
+// too many, since it is refused if all its lines are patterns.
+fn most_lines(text: &[u8], inputs: usize, width: usize) -> usize
+    requires { 1 ≤ width }
+    ensures room { result * width ≤ length text.now }
+    ensures few { result ≤ most_patterns }
+    ensures some { 1 ≤ result → 1 ≤ inputs }
+{
+    let lines = text.len() / width;
+    if inputs == 0 || lines > MAX_PATTERNS {
+        return 0;
+    }
+    lines
 }
 
 // So many lines in which all bits are 0.
@@ -98,24 +104,42 @@ fn push_zeros(model: &mut Vec<u8>, inputs: usize) -> Result<(), Memory>
     Ok(())
 }
 
-// Whether bytes are those of a model, but for ones in place of zeros. It looks at all of them, so that many are compared at once.
-fn agree(bytes: &[u8], model: &[u8]) -> bool
-    requires { length bytes.now ≤ length model.now }
-    ensures { result ≡ true → AgreesWith bytes.now model.now }
+// For each byte of a model how much greater a byte may be that agrees with it.
+fn slack_of(alloc: Global, model: &[u8]) -> Result<Vec<u8>, Memory>
+    ensures { IfOk result (λ slack. slack.items ≡ map slack_by model.now) }
 {
-    let mut all = true;
-    for i in 0..bytes.len() {
-        all = all & agrees(bytes[i], model[i]);
-    }
-    all
+    let mut slack = Vec::new(alloc);
+    slack.extend(model.iter().map(|byte| slack_by(*byte)))?;
+    Ok(slack)
 }
 
-// Whether a byte is that of the model, or a one in place of a zero.
-#[inline(always)]
-fn agrees(byte: u8, model: u8) -> bool
-    ensures { result ≡ agrees byte model }
+// A letter of a bit may be `1` in place of `0`.
+fn slack_by(byte: u8) -> u8
+    ensures { result ≡ slack_by byte }
 {
-    (byte == model) | ((model == b'0') & (byte == b'1'))
+    if byte == b'0' { 1 } else { 0 }
+}
+
+// Whether bytes are those of a model, but for ones in place of zeros. It looks at all of them, so that many are compared at once.
+fn agree(bytes: &[u8], model: &[u8], slack: &[u8]) -> bool
+    requires fits { length bytes.now ≤ length model.now }
+    requires slack { slack.now ≡ map slack_by model.now }
+    ensures { result ≡ true → AgreesWith bytes.now model.now }
+{
+    let mut most = 0;
+    for i in 0..bytes.len() {
+        most = farther(most, bytes[i], model[i], slack[i]);
+    }
+    most == 0
+}
+
+// The greater one of a distance and of a byte's distance from those that agree with the model's byte.
+#[inline(always)]
+fn farther(most: u8, byte: u8, model: u8, slack: u8) -> u8
+    requires { slack ≡ slack_by model }
+    ensures { nat_eq result 0 ≡ (nat_eq most 0 && agrees byte model) }
+{
+    most.max(byte.wrapping_sub(model).saturating_sub(slack))
 }
 
 // Lists for each byte whether it is the letter of a bit that is 1.

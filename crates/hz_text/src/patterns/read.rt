@@ -1,14 +1,20 @@
 //! Reading patterns.
 
-ghost use Rattle.std.specs.Prelude.{◌≤◌, ◌⊎◌, length, IfOk, IfErr, OnOk, IsErrOf, MatchResult};
+ghost use Rattle.std.specs.Prelude.{◌≡◌, ◌≤◌, ◌⊎◌, length, All, IfOk, IfErr, IfSome, OnOk, IsErrOf, MatchResult};
+ghost use Rattle.std.specs.Option.{option_map};
+ghost use Rattle.hz_text.specs.declared.fault.TextFault.TheVariants as told;
+ghost use Rattle.hz_text.specs.Limits.{most_patterns};
 ghost use Rattle.hz_text.specs.PatternFault.{IsLeastPatternFault, IsPatternFaultless, IsPatternRefusal};
-ghost use Rattle.hz_text.specs.PatternRules.{IsAcceptedPatternText};
+ghost use Rattle.hz_text.specs.PatternResolution.{numbered_pattern_resolutions, resolve_pattern_tokens};
+ghost use Rattle.hz_text.specs.PatternRules.{AssignsBelow, rules_behind, fault_behind};
 ghost use Rattle.hz_text.specs.PatternText.{IsPatternsValue, ArePatternsFor};
+ghost use Rattle.hz_text.specs.Rules.{IsChecked, IsFaultOrMemory, first_fault_of};
 ghost use Rattle.hz_line.specs.Line.{most_text_bytes};
+ghost use Rattle.hz_line.specs.OrThat.{OrThat};
 
 use crate::fault::TextFault;
 use crate::patterns::build::build;
-use crate::patterns::printed::read_printed;
+use crate::patterns::printed::read_front;
 use crate::patterns::statement::{Entry, Statements};
 use crate::patterns::value::Patterns;
 use crate::text::read_text;
@@ -30,37 +36,82 @@ pub fn read_patterns(alloc: Global, circuit: &Circuit, text: &[u8]) -> Result<Pa
     ensures exact { (fault : TextFault) → IsLeastPatternFault circuit.now text.now fault
         → IsErrOf result fault ⊎ IsErrOf result TextFault.Memory }
 {
-    match read_printed(alloc, circuit, text)? {
-        Some(patterns) => Ok(patterns),
-        None => read_statements(alloc, circuit, text),
-    }
-}
-
-// Reads patterns statement by statement.
-fn read_statements(alloc: Global, circuit: &Circuit, text: &[u8]) -> Result<Patterns, TextFault>
-    requires { length text.now ≤ most_text_bytes }
-    ensures value { IfOk result (IsPatternsValue circuit.now text.now) }
-    ensures usable { IfOk result (ArePatternsFor circuit.now) }
-    ensures faultless { OnOk result (IsPatternFaultless circuit.now text.now) }
-    ensures fault { IfErr result (IsPatternRefusal circuit.now text.now) }
-    ensures exact { (fault : TextFault) → IsLeastPatternFault circuit.now text.now fault
-        → IsErrOf result fault ⊎ IsErrOf result TextFault.Memory }
-{
-    let entries = read_accepted(alloc, circuit, text)?;
-    let patterns = build(alloc, circuit, entries.as_slice())?;
+    let front = read_front(alloc, circuit.inputs() as usize, text)?;
+    let rest = &text[front.end..];
+    let entries = read_rest(alloc, circuit, front.count, rest)?;
+    let patterns = build(alloc, circuit, front, entries.as_slice())?;
     Ok(patterns)
 }
 
-// The statements of a text in which no fault stands.
-fn read_accepted<'t>(
+// The statements behind so many lines of patterns, if no fault stands in them.
+fn read_rest<'t>(
     alloc: Global,
     circuit: &Circuit,
-    text: &'t [u8],
+    before: usize,
+    rest: &'t [u8],
 ) -> Result<Vec<Entry<'t>>, TextFault>
-    requires { length text.now ≤ most_text_bytes }
-    ensures { MatchResult result
-        (λ entries. IsAcceptedPatternText circuit.now text.now entries.items)
-        (λ fault. IsPatternRefusal circuit.now text.now fault) }
+    requires long { length rest.now ≤ most_text_bytes }
+    requires few { before ≤ most_patterns }
+    ensures checked { MatchResult result
+        (λ entries. IsChecked (resolve_pattern_tokens circuit.now)
+        (rules_behind before circuit.now.inputs) rest.now
+        (numbered_pattern_resolutions entries.items))
+        (λ fault. IsFaultOrMemory (option_map (fault_behind before)
+        (first_fault_of (resolve_pattern_tokens circuit.now)
+        (rules_behind before circuit.now.inputs) rest.now)) fault) }
+    ensures below { IfOk result
+        (λ entries. All (AssignsBelow (length circuit.now.names)) entries.items) }
 {
-    read_text(alloc, Statements { alloc, circuit }, text)
+    let reader = Statements {
+        alloc,
+        circuit,
+        before,
+    };
+    match read_text(alloc, reader, rest) {
+        Ok(entries) => Ok(entries),
+        Err(fault) => Err(fault_or_memory(fault, before as u32)),
+    }
+}
+
+// The fault of a text behind so many lines.
+fn fault_or_memory(fault: TextFault, lines: u32) -> TextFault
+    ensures { OrThat told.Memory (λ moved. moved ≡ fault_behind lines fault) result }
+{
+    match fault_behind(fault, lines) {
+        Some(moved) => moved,
+        None => TextFault::Memory,
+    }
+}
+
+// The same, if its line has a number.
+fn fault_behind(fault: TextFault, lines: u32) -> Option<TextFault>
+    ensures { IfSome result (λ moved. moved ≡ fault_behind lines fault) }
+{
+    Some(match fault {
+        TextFault::Form { line } => TextFault::Form {
+            line: line.checked_add(lines)?,
+        },
+        TextFault::Unknown { line } => TextFault::Unknown {
+            line: line.checked_add(lines)?,
+        },
+        TextFault::Twice { line } => TextFault::Twice {
+            line: line.checked_add(lines)?,
+        },
+        TextFault::Missing { node } => TextFault::Missing { node },
+        TextFault::Bit { line } => TextFault::Bit {
+            line: line.checked_add(lines)?,
+        },
+        TextFault::Order { line } => TextFault::Order {
+            line: line.checked_add(lines)?,
+        },
+        TextFault::TooMany { line } => TextFault::TooMany {
+            line: line.checked_add(lines)?,
+        },
+        TextFault::Memory => TextFault::Memory,
+        TextFault::Mismatch { line, told, real } => TextFault::Mismatch {
+            line: line.checked_add(lines)?,
+            told,
+            real,
+        },
+    })
 }

@@ -4,7 +4,7 @@ ghost use Rattle.std.specs.Prelude.{◌≡◌, map};
 ghost use Rattle.hz_line.specs.Statement.{first_passing_line};
 ghost use Rattle.hz_text.specs.PatternResolution.{pattern_resolution_of, numbered_pattern_resolutions};
 ghost use Rattle.hz_text.specs.PatternFault.{assignments_in, holds_unknown, lacks_bit, is_hold};
-ghost use Rattle.hz_text.specs.PatternRules.{first_late_hold, last_beyond};
+ghost use Rattle.hz_text.specs.PatternRules.{first_late_hold, late_hold_behind, beyond_behind};
 ghost use Rattle.hz_text.specs.PatternText.{held_first, behind_hold};
 
 use crate::assignments::{Allowed, Assigned, any_unknown, any_without_bit};
@@ -44,8 +44,19 @@ pub(crate) fn lacks_bit(held: &Held, inputs: u32) -> bool
     }
 }
 
-// The line of the first statement that holds gates and is not the first of all.
-pub(crate) fn first_late_hold(entries: &[Entry]) -> Option<u32>
+// The line of the first statement that holds gates and is not the first of all, where so many patterns stand in front.
+pub(crate) fn first_late_hold(entries: &[Entry], before: usize) -> Option<u32>
+    ensures { result ≡ late_hold_behind before (numbered_pattern_resolutions entries.now) }
+{
+    if before == 0 {
+        first_later_hold(entries)
+    } else {
+        first_hold(entries)
+    }
+}
+
+// The line of the first statement that holds gates, behind the first one.
+fn first_later_hold(entries: &[Entry]) -> Option<u32>
     ensures { result ≡ first_late_hold (numbered_pattern_resolutions entries.now) }
 {
     let [_, later @ ..] = entries else {
@@ -94,10 +105,10 @@ pub(crate) fn behind_hold<'h, 't>(entries: &'h [Entry<'t>]) -> &'h [Entry<'t>]
     if is_hold(&first.held) { later } else { entries }
 }
 
-// The line of the pattern past the most, if only the first statement holds gates.
-pub(crate) fn line_beyond(entries: &[Entry]) -> Option<u32>
-    ensures { result ≡ last_beyond (numbered_pattern_resolutions entries.now) }
+// The line of the pattern past the most, if only the first statement of all holds gates, and so many patterns stand in front.
+pub(crate) fn line_beyond(entries: &[Entry], before: usize) -> Option<u32>
+    ensures { result ≡ beyond_behind before (numbered_pattern_resolutions entries.now) }
 {
-    let entry = behind_hold(entries).get(MAX_PATTERNS)?;
+    let entry = behind_hold(entries).get(MAX_PATTERNS.saturating_sub(before))?;
     Some(entry.line)
 }

@@ -7,7 +7,7 @@ ghost use Rattle.hz_line.specs.Token.{tokens_of};
 ghost use Rattle.hz_text.specs.PatternStatement.{Pattern, pattern_keyword_of, pattern_by, is_to};
 ghost use Rattle.hz_text.specs.PatternResolution.{pattern_resolution_of, pattern_keyword_by, resolve_pattern_tokens, resolve_pattern_keyword};
 ghost use Rattle.hz_text.specs.PatternFault.{assignments_in};
-ghost use Rattle.hz_text.specs.PatternRules.{pattern_rules};
+ghost use Rattle.hz_text.specs.PatternRules.{rules_behind};
 ghost use Rattle.hz_text.specs.Rules.{AreBelow};
 
 use crate::assignments::{Assigned, read_assignments};
@@ -41,34 +41,35 @@ pub(crate) enum Held<'t> {
 /// A statement with its line.
 pub(crate) type Entry<'t> = Numbered<Held<'t>>;
 
-/// The statements of a text of patterns of a circuit.
+/// The statements of a text of patterns of a circuit, in front of which so many patterns stand.
 #[derive(Drop)]
 pub(crate) struct Statements<'c> {
     pub(crate) alloc: Global,
     pub(crate) circuit: &'c Circuit,
+    pub(crate) before: usize,
 }
 
 impl<'c, 't> Text<'t> for Statements<'c> {
-    ghost use Rattle.std.specs.Prelude.{length};
+    ghost use Rattle.std.specs.Prelude.{ℕ, length};
     ghost use Rattle.hz_core.specs.Netlist.{Netlist};
     ghost use Rattle.hz_text.specs.PatternResolution.{ResolvedPatternStatement, pattern_resolution_of, resolve_pattern_tokens};
-    ghost use Rattle.hz_text.specs.PatternRules.{pattern_rules};
+    ghost use Rattle.hz_text.specs.PatternRules.{rules_behind};
 
     type Held = Held<'t>;
 
-    ghost Context = { Netlist };
+    ghost Context = { Netlist × ℕ };
 
-    ghost context = { λ reader. reader.circuit.now };
+    ghost context = { λ reader. (reader.circuit.now, reader.before) };
 
     ghost Stated = { ResolvedPatternStatement };
 
     ghost stated = { pattern_resolution_of };
 
-    ghost grammar = { resolve_pattern_tokens };
+    ghost grammar = { λ context. resolve_pattern_tokens context.0 };
 
-    ghost rules = { λ netlist. pattern_rules netlist.inputs };
+    ghost rules = { λ context. rules_behind context.1 context.0.inputs };
 
-    ghost node_count = { λ netlist. length netlist.names };
+    ghost node_count = { λ context. length context.0.names };
 
     fn statement(&mut self, first: Token<'t>, rest: &'t [u8]) -> Result<Held<'t>, StatementFault> {
         let Token::Word(word) = first else {
@@ -109,11 +110,11 @@ impl<'c, 't> Text<'t> for Statements<'c> {
     }
 
     fn first_out_of_order(&self, entries: &[Entry<'t>]) -> Option<u32> {
-        first_late_hold(entries)
+        first_late_hold(entries, self.before)
     }
 
     fn line_beyond(&self, entries: &[Entry<'t>]) -> Option<u32> {
-        line_beyond(entries)
+        line_beyond(entries, self.before)
     }
 
     // A text of patterns has no size.

@@ -5,7 +5,7 @@ use Rattle.hz_text.proofs.PatternModelLaws.{agrees-more}
 use Rattle.hz_text.proofs.patterns.printed.agree.Goals as goal
 
 pub loop-i-preserved : goal.loop-i-preserved
-loop-i-preserved c = λ all.
-    let parts = and_parts _ _ all in
-    agrees-more c.loop-i.i c.args.bytes.now c.args.model.now _ _ (omega (arith, c.loop-i-test.true)) (omega (arith, c.loop-i-test.true, c.requires))
-    (c.loop-i.invariant parts.0) (sym c.agrees-all.ensures ∙ parts.1)
+loop-i-preserved c = λ none.
+    let parts = and_parts _ _ (sym c.farther-most.ensures ∙ none) in
+    agrees-more c.loop-i.i c.args.bytes.now c.args.model.now _ _ (omega (arith, c.loop-i-test.true)) (omega (arith, c.loop-i-test.true, c.requires.fits))
+    (c.loop-i.invariant parts.0) parts.1
