@@ -1,4 +1,4 @@
-//! The values of outputs in four lanes, which are looked up together.
+//! The values of outputs in four lanes, as letters, which are looked up together.
 ghost use Rattle.std.specs.Prelude.{◌≡◌, ℕ, ◌<◌, ◌≤◌, ◌%◌, ◌^◌, [], length, IfOk};
 ghost use Rattle.std.specs.List.{slice_index_or};
 ghost use Rattle.hz_batch.specs.Fours.{HasFour, HaveFours, IsRow, IsTable};

@@ -1,5 +1,5 @@
 //! All patterns, and the last line.
-ghost use Rattle.std.specs.Prelude.{◌≡◌, ℕ, List, false, length, IfOk, OnOk};
+ghost use Rattle.std.specs.Prelude.{◌≡◌, ◌≤◌, ℕ, List, false, length, IfOk, OnOk};
 ghost use Rattle.hz_plane.specs.View.{AreOf};
 ghost use Rattle.hz_text.specs.PatternText.{ArePatternsFor};
 ghost use Rattle.hz_write.specs.Writer.{Writes, has_failed};
@@ -48,7 +48,8 @@ pub fn batch<K: Sink>(
     ensures planes { OnOk result
         (planes.new ≡ planes_after patterns.now planes.old
         (block_count (length patterns.now.patterns))) }
-    ensures looked { (blocks : ℕ) × (planes.new ≡ planes_after patterns.now planes.old blocks) }
+    ensures looked { (blocks : ℕ) × (blocks ≤ block_count (length patterns.now.patterns))
+        × (planes.new ≡ planes_after patterns.now planes.old blocks) }
 {
     match write_text(alloc, net, patterns, Job::Batch, planes, out) {
         Ok(()) => Ok(()),
@@ -73,7 +74,7 @@ pub fn reset<K: Sink>(
     ensures planes { OnOk result
         (planes.new ≡ planes_after (without_held patterns.now) planes.old
         (block_count (length patterns.now.patterns))) }
-    ensures looked { (blocks : ℕ)
+    ensures looked { (blocks : ℕ) × (blocks ≤ block_count (length patterns.now.patterns))
         × (planes.new ≡ planes_after (without_held patterns.now) planes.old blocks) }
 {
     match write_text(alloc, net, patterns, Job::Reset, planes, out) {
@@ -99,7 +100,7 @@ fn write_text<K: Sink>(
     ensures planes { OnOk result
         (planes.new ≡ planes_after (loaded_by job patterns.now) planes.old
         (block_count (length patterns.now.patterns))) }
-    ensures looked { (blocks : ℕ)
+    ensures looked { (blocks : ℕ) × (blocks ≤ block_count (length patterns.now.patterns))
         × (planes.new ≡ planes_after (loaded_by job patterns.now) planes.old blocks) }
 {
     laws_hold();
@@ -166,9 +167,8 @@ fn write_all<K: Sink>(
     ensures planes { has_failed writer.new ≡ false
         → planes.new ≡ planes_after (loaded_by work.now.job work.now.patterns.now) planes.old
         (block_count (length work.now.patterns.now.patterns)) }
-    ensures looked { (blocks : ℕ)
-        × (planes.new
-        ≡ planes_after (loaded_by work.now.job work.now.patterns.now) planes.old blocks) }
+    ensures looked { (blocks : ℕ) × (blocks ≤ block_count (length work.now.patterns.now.patterns))
+        × (planes.new ≡ planes_after (loaded_by work.now.job work.now.patterns.now) planes.old blocks) }
 {
     write_blocks(writer, work, planes, room);
     if writer.has_failed() {

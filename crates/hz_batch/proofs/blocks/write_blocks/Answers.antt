@@ -49,7 +49,9 @@ loop-block-preserved g c =
     )
 
 pub returns-then-has_failed-clause-looked : goal.returns-then-has_failed-clause-looked
-returns-then-has_failed-clause-looked g c = (c.loop-block.block, c.loop-block.invariant.2)
+returns-then-has_failed-clause-looked g c =
+    (c.loop-block.block, omega (arith, c.loop-block.auto.block-end, c.div_ceil-block-end.ensures, c.count.ensures), c.loop-block.invariant.2)
 
 pub returns-clause-looked : goal.returns-clause-looked
-returns-clause-looked g c = (c.loop-block.block, c.loop-block.invariant.2)
+returns-clause-looked g c =
+    (c.loop-block.block, omega (arith, c.loop-block.auto.block-end, c.div_ceil-block-end.ensures, c.count.ensures), c.loop-block.invariant.2)

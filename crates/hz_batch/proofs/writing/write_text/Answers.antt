@@ -1,5 +1,5 @@
 -- The text exists before its first line is made.
-use Rattle.std.proofs.Common.{◌∙◌, ap, refl, length, rules, List, Option, Bool}
+use Rattle.std.proofs.Common.{◌∙◌, ap, refl, length, rules, List, Option, Bool, arith}
 use Rattle.hz_write.proofs.Writers.{wrote_whole}
 use Rattle.hz_batch.proofs.Exist.{text-exists}
 use Rattle.hz_batch.proofs.Texts.{few-nodes, stops-nothing}
@@ -27,7 +27,7 @@ returns-clause-wrote g c =
     search rules
 
 pub returns-in_default-clause-looked : goal.returns-in_default-clause-looked
-returns-in_default-clause-looked g c = (0, refl)
+returns-in_default-clause-looked g c = (0, omega arith, refl)
 
 pub returns-in_default-room_for-clause-looked : goal.returns-in_default-room_for-clause-looked
-returns-in_default-room_for-clause-looked g c = (0, refl)
+returns-in_default-room_for-clause-looked g c = (0, omega arith, refl)
