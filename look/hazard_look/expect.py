@@ -1,4 +1,5 @@
 """The job `expect`: expectations in the comments of a script, so that the script stays one and is a test as well."""
+import sys
 from functools import cached_property
 from typing import NamedTuple, Union
 
@@ -62,6 +63,8 @@ def run(words, out):
                 failed += not answer.holds
                 if answer.remark:
                     out.write(f"line {one.line}, change {change.title()}: {one.text}: {answer.remark}\n")
+    if not expected:
+        sys.stderr.write("hazard-look: no comment of the script begins with `#expect`, so nothing is checked\n")
     out.write(f"{len(expected)} expectation{'' if len(expected) == 1 else 's'}, {failed} failed\n")
     return DOES_NOT_HOLD if failed else DONE
 
