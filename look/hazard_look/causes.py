@@ -17,10 +17,12 @@ class Event(NamedTuple):
 
 
 class Race(NamedTuple):
-    """Two paths of variables from where they part to the node: the one that was late, and the one that was early."""
+    """Two paths of variables from where they part to where they meet: the one that was late, and the one that was early. If they
+    meet before the node, the last is the variable in which they do."""
 
     late: list
     early: list
+    meeting: Optional[int]
 
 
 def events_of(follower, steps):
@@ -52,8 +54,12 @@ def _race(first, second):
     shared = 0
     while shared < min(len(early), len(late)) and early[shared] is late[shared]:
         shared += 1
-    names = lambda path: [event.variable for event in path[shared:-1]]
-    return Race(names(late), names(early))
+    late, early = ([event.variable for event in path[shared:-1]] for path in (late, early))
+    meeting = None
+    while min(len(late), len(early)) > 1 and late[-1] == early[-1]:
+        meeting = late.pop()
+        early.pop()
+    return Race(late, early, meeting)
 
 
 def _path(event):
@@ -66,11 +72,12 @@ def _path(event):
 
 def sentence(network, race):
     """The condition of a race, as a layout engineer must know it; the words before it say what happens then."""
-    late, early = race
+    late, early, meeting = race
     if not early:
         return f"by a loop of its own: {_names(network, late)}"
     return (f"if {_names(network, late)} {'is' if len(late) == 1 else 'are'} slower than {_names(network, early)}: "
-            f"{_sizes(network, late)} against {_sizes(network, early)}")
+            f"{_sizes(network, late)} against {_sizes(network, early)}"
+            + ("" if meeting is None else f"; both edges go on by {network.names[meeting]}"))
 
 
 def _names(network, path):

@@ -1,4 +1,5 @@
 """The job `expect`: expectations in the comments of a script, so that the script stays one and is a test as well."""
+import sys
 from functools import cached_property
 from typing import NamedTuple, Union
 
@@ -62,6 +63,8 @@ def run(words, out):
                 failed += not answer.holds
                 if answer.remark:
                     out.write(f"line {one.line}, change {change.title()}: {one.text}: {answer.remark}\n")
+    if not expected:
+        sys.stderr.write("hazard-look: no comment of the script begins with `#expect`, so nothing is checked\n")
     out.write(f"{len(expected)} expectation{'' if len(expected) == 1 else 's'}, {failed} failed\n")
     return DOES_NOT_HOLD if failed else DONE
 
@@ -72,8 +75,8 @@ def expectations(text, circuit):
     for statement in script.read(text):
         if statement.keyword == "change":
             change = (change or 0) + 1
-        if list(script.words_after(statement.comment, "clock")):
-            faults.append(f"script line {statement.number}: the edge is not written out; call `hazard-look clock` first")
+        if script.is_edge(statement):
+            faults.append(script.not_written_out(statement))
         for items in script.words_after(statement.comment, "expect"):
             for item in items.split(",") if items else [""]:
                 what = _read_item(item.split(), circuit)
@@ -97,7 +100,8 @@ def _read_item(words, circuit):
             return "after `never` stand assignments, as in `never g1=1 g2=1`"
         return f"no node is named {strange[0]}" if strange else Never(values)
     if len(words) % 2 or words[2::2] != ["or"] * (len(words) // 2 - 1) or not words:
-        return "an expectation is `NODE CLASS`, `NODE CLASS or CLASS`, `never NODE=BIT ..` or `settled`"
+        return (f"`{' '.join(words)}` is no expectation: `NODE CLASS`, `NODE CLASS or CLASS`, `never NODE=BIT ..`, `settled`; "
+                "a remark begins with another #")
     strange = [word for word in words[1::2] if word not in CLASSES + (CLEAN,)]
     if strange:
         return f"no class is named {strange[0]}; the classes are {', '.join(CLASSES + (CLEAN,))}"

@@ -13,6 +13,8 @@ from .errors import DONE, NETLIST_FAULT, Failure, read_file
 from .start import line
 
 _NOT_IN_NAMES = re.compile(r"[^!-~]|[(),=#]")
+# What `rename -enumerate` calls a node that the source text does not name.
+_ENUMERATED = re.compile(r"_\d+_$")
 # What reading a part of another shape raises.
 _STRANGE = (AttributeError, IndexError, KeyError, TypeError, ValueError)
 # Cells that are no circuit.
@@ -63,7 +65,7 @@ class _Design:
         """The name of each bit: that of an input, else of an output, else another of the source text, else yosys' own."""
         ports = {name: port["direction"] for name, port in self.module["ports"].items()}
         rank = lambda item: (("input", "output").index(ports[item[0]]) if ports.get(item[0]) in ("input", "output") else 2,
-                             item[1].get("hide_name", 0))
+                             item[1].get("hide_name", 0) or bool(_ENUMERATED.match(item[0])))
         for name, net in sorted(self.module["netnames"].items(), key=rank):
             init = net.get("attributes", {}).get("init", "")
             for place, bit in enumerate(net["bits"]):

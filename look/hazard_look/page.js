@@ -168,15 +168,36 @@ function wire(node, source, pin, places, value, moved) {
     DATA.loops[node] && DATA.loops[node] === DATA.loops[source] && "loop"].filter(Boolean).join(" ");
   if (!from) return make("path", { class: looks, d: `M${x2 - 18} ${y2}H${x2}` });
   const x1 = from.x + BOX.width, y1 = from.y + BOX.height / 2;
-  const bend = Math.max(24, Math.min(60, (x2 - x1) / 2));
   const between = [...places.values()].filter(place => place.x + BOX.width > x2 - 20 && place.x < x1 + 20);
   const low = x2 > x1 ? 0 : Math.max(...between.map(place => place.y)) + BOX.height + 10 + 6 * pin;
-  const path = x2 > x1 ? `M${x1} ${y1}C${x1 + bend} ${y1} ${x2 - bend} ${y2} ${x2} ${y2}`
+  const path = x2 > x1 ? `M${x1} ${y1}${forward(x1, y1, x2, y2, pin, places)}`
     : `M${x1} ${y1}C${x1 + 46} ${y1} ${x1 + 40} ${low} ${x1 - 20} ${low}H${x2 + 20}`
       + `C${x2 - 40} ${low} ${x2 - 46} ${y2} ${x2} ${y2}`;
   const made = make("path", { class: looks, d: path });
   made.append(make("title", {}, `${nameOf(variable)}, the wire from ${DATA.names[source]}: ${value[variable]}`));
   return made;
+}
+
+/** The curves of a wire that goes on to the right: level at each column of boxes, and there between them. */
+function forward(x1, y1, x2, y2, pin, places) {
+  const columns = new Map(), room = 9 + 4 * (pin % 4);
+  for (const { x, y } of places.values()) {
+    if (x > x1 && x + BOX.width < x2) columns.set(Math.round(x), [...(columns.get(Math.round(x)) || []), y]);
+  }
+  let at = { x: x1, y: y1 }, path = "";
+  const curve = (x, y) => {
+    const bend = Math.max(8, Math.min(60, (x - at.x) / 2));
+    return `C${at.x + bend} ${at.y} ${x - bend} ${y} ${x} ${y}`;
+  };
+  for (const [x, tops] of [...columns].sort((one, other) => one[0] - other[0])) {
+    const straight = at.y + (y2 - at.y) * (x + BOX.width / 2 - at.x) / (x2 - at.x);
+    const near = [straight, ...tops.flatMap(top => [top - room, top + BOX.height + room])]
+      .filter(y => tops.every(top => y < top - 5 || y > top + BOX.height + 5));
+    const y = near.reduce((best, one) => (Math.abs(one - straight) < Math.abs(best - straight) ? one : best));
+    path += curve(x, y) + `H${x + BOX.width}`;
+    at = { x: x + BOX.width, y };
+  }
+  return path + curve(x2, y2);
 }
 
 function box(node, place, value, moved) {

@@ -13,6 +13,7 @@ from .errors import DONE, read_file
 from .network import Network
 from .one_edge import one_edge
 from .report import CLASSES
+from .script import must_be_written_out
 from .summary import MEANINGS, ONE_EDGE, is_clean
 
 HERE = os.path.dirname(os.path.abspath(__file__))
@@ -26,6 +27,7 @@ KINDS = CLASSES + (ONE_EDGE,)
 def run(words, out):
     """Writes the page of a netlist and a script."""
     report = words.program.analyse(words.netlist, words.script)
+    must_be_written_out(words.script)
     circuit = load(words.netlist)
     network = Network(circuit)
     data = {

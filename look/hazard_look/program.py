@@ -1,5 +1,6 @@
 """The proved program: where it is found, and how it is called."""
 import os
+import re
 import shutil
 import subprocess
 import tempfile
@@ -8,6 +9,14 @@ from . import report
 from .errors import NO_PROGRAM, NOT_ACCEPTED, SCRIPT_FAULT, Failure
 
 VARIABLE = "HAZARD"
+# What helps after a refusal: how its line goes on behind `refused: `, and a remark for the same line.
+HINTS = (
+    (r"script line \d+: unknown name", "a start assigns nodes of the netlist, a change inputs and flip-flops alone"),
+    (r"script line \d+: bit", "a value is 0 or 1, so each `?` of `hazard-look start` is to be filled in"),
+    (r"script: no value for ", "the start lists each input; `hazard-look start` writes such a line"),
+    (r"start: open ", "the inputs do not decide its value, so the start lists it; `hazard-look start` names all such gates"),
+    (r"start: unstable ", "the gate does not have the value of its function, so a listed value is wrong, or the circuit does not rest"),
+)
 
 
 def find(named, home):
@@ -74,10 +83,18 @@ class Program:
         with subprocess.Popen([self.path] + words, stdin=subprocess.DEVNULL, stdout=subprocess.PIPE, text=True) as running:
             for number, line in enumerate(running.stdout):
                 if number == 0 and line.startswith("refused: "):
-                    raise Failure(f"hazard: {line.strip()}", running.wait())
+                    raise Failure(f"hazard: {line.strip()}{_hint(line, words[1])}", running.wait())
                 yield line.rstrip("\n")
             if running.wait() != 0:
                 raise Failure(f"hazard ended with status {running.returncode}", max(running.returncode, 1))
+
+
+def _hint(line, netlist):
+    """What helps after the line of a refusal, with the mark that goes before it."""
+    refusal = line.removeprefix("refused: ")
+    if refusal.startswith("netlist ") and netlist.lower().endswith((".v", ".sv")):
+        return "; Verilog goes by way of Yosys: see `hazard-look from-yosys --help`"
+    return next((f"; {hint}" for form, hint in HINTS if re.match(form, refusal)), "")
 
 
 def _write(folder, text):

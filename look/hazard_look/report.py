@@ -27,8 +27,9 @@ class Change(NamedTuple):
     stopped: Optional[str]
 
     def title(self):
-        """The number and the assignments, as in `3 ck=0`."""
-        return f"{self.number}" + "".join(f" {name}={bit}" for name, bit in self.assigned.items())
+        """The number and the inputs that change, as in `3 ck=0`; all that are assigned if none does or if that isn't known."""
+        changed = {name: bit for name, bit in self.assigned.items() if self.rows and self.rows[name].start != str(bit)}
+        return f"{self.number}" + "".join(f" {name}={bit}" for name, bit in (changed or self.assigned).items())
 
 
 class Report(NamedTuple):

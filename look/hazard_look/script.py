@@ -1,7 +1,7 @@
 """Scripts: their statements, line by line with the comments, as jobs need that keep the comments."""
 from typing import Dict, NamedTuple, Optional
 
-from .errors import SCRIPT_FAULT, Failure
+from .errors import SCRIPT_FAULT, WRONG_WORDS, Failure, read_file
 from .lines import assigned, lines_of
 
 
@@ -25,6 +25,23 @@ def read(text):
         if keyword not in ("start", "change") or values is None:
             raise Failure(f"script line {line.number}: neither `start` nor `change` with assignments", SCRIPT_FAULT)
         yield Statement(line.number, keyword, values, line.comment, raw)
+
+
+def must_be_written_out(path):
+    """Fails if a script, which `hazard` has accepted, has edges `#clock ..`: for `hazard` they are comments, so nothing would happen."""
+    for statement in read(read_file(path)):
+        if is_edge(statement):
+            raise Failure(not_written_out(statement), WRONG_WORDS)
+
+
+def is_edge(statement):
+    """Whether a statement has an edge `#clock ..`."""
+    return bool(list(words_after(statement.comment, "clock")))
+
+
+def not_written_out(statement):
+    """What is wrong with an edge where it can't stand."""
+    return f"script line {statement.number}: the edge is not written out; call `hazard-look clock` first"
 
 
 def words_after(comment, word):

@@ -2,6 +2,7 @@
 from .circuit import load
 from .errors import DONE, WRONG_WORDS, Failure
 from .one_edge import one_edge
+from .script import must_be_written_out
 
 # How many nodes the line of a change names.
 MOST_NAMED = 8
@@ -21,6 +22,7 @@ MEANINGS = {
 def run(words, out):
     """Writes the summary of a netlist and a script."""
     report = words.program.analyse(words.netlist, words.script)
+    must_be_written_out(words.script)
     circuit = load(words.netlist)
     chosen = _chosen(words.only, circuit)
     for change in report.changes:
@@ -28,7 +30,7 @@ def run(words, out):
         rows = [row for row in change.rows.values() if row.name in chosen]
         out.write(f"{change.title()}: {_verdict(change, rows, edges)}\n")
         for row in rows:
-            if words.all or row.kind not in ("steady", "single"):
+            if words.all or not is_clean(row, edges):
                 out.write(f"  {row.name} {row.kind}: {meaning(row, row.name in edges)}\n")
     return DONE
 

@@ -8,6 +8,7 @@ from .errors import DONE, OUTPUT_FAILED, WRONG_WORDS, Failure
 from .network import Network
 from .one_edge import one_edge
 from .runtext import Run
+from .script import must_be_written_out
 from .search import Edges, Searcher
 from .summary import is_clean, meaning
 from .waves import LEGEND, drawn, waves
@@ -28,6 +29,7 @@ class Shown(NamedTuple):
 def run(words, out):
     """Writes why a node has its class in a change."""
     report = words.program.analyse(words.netlist, words.script)
+    must_be_written_out(words.script)
     circuit = load(words.netlist)
     if words.node not in circuit.nodes:
         raise Failure(f"no node is named {words.node}", WRONG_WORDS)

@@ -4,7 +4,7 @@ import os
 import sys
 
 from . import clock, expect, from_yosys, page, program, start, summary, why
-from .errors import OUTPUT_FAILED, Failure
+from .errors import OUTPUT_FAILED, WRONG_WORDS, Failure
 
 ABOUT = """The companion of `hazard`: it shows what a circuit does, asks why, and keeps it as a test. Each value and class
 that it prints is read from a report of `hazard analyse`, and `hazard replay` has accepted each run that it shows."""
@@ -16,6 +16,9 @@ shown is not accepted by `hazard replay`, which is a fault of this program; 127 
 def main(words, home):
     """Does the job of some words and answers the status. Failures are a line on standard error. `home` is the folder of the
     command, beside which `hazard` is looked for."""
+    if not words:
+        parser().print_help(sys.stderr)
+        return WRONG_WORDS
     asked = parser().parse_args(words)
     try:
         if "hazard" in asked:
@@ -40,16 +43,16 @@ def parser():
     _netlist_job(jobs, "start", start.run, "the first line of a script: what it has to list, with `?` for each bit")
     job = _job(jobs, "summary", summary.run, "a line for each change, and what each hazard means")
     job.add_argument("--only", metavar="NODE,..", help="speak of these nodes alone")
-    job.add_argument("--all", action="store_true", help="speak of the nodes that are steady or single as well")
+    job.add_argument("--all", action="store_true", help="speak of the clean nodes as well")
     _job(jobs, "expect", expect.run, "check the comments `#expect ..` of a script")
     job = _job(jobs, "why", why.run, "a short run in which a node makes its hazard")
-    job.add_argument("node", metavar="NODE")
+    job.add_argument("node", metavar="NODE", help="an input, a flip-flop or a gate")
     job.add_argument("change", metavar="CHANGE", nargs="?", type=int, help="its number; else the first that matters to the node")
     job.add_argument("--save", metavar="FILE", help="keep the run as a run text for `hazard replay`")
     _job(jobs, "page", page.run, "one self-contained page: the circuit, its hazards, a player of the runs")
     _job(jobs, "clock", clock.run, "a script whose lines `#clock ck` are written out as changes")
     job = _plain_job(jobs, "from-yosys", from_yosys.run, "a netlist from what yosys' `write_json` gives after `synth`")
-    job.add_argument("design", metavar="DESIGN.json")
+    job.add_argument("design", metavar="DESIGN.json", help="the design, flattened and of simple gates")
     job.add_argument("--top", metavar="MODULE", help="the module to take, if the design has several")
     return top
 
@@ -57,7 +60,7 @@ def parser():
 def _job(jobs, name, run, about):
     """A job that asks `hazard` about a netlist and a script."""
     job = _netlist_job(jobs, name, run, about)
-    job.add_argument("script", metavar="SCRIPT")
+    job.add_argument("script", metavar="SCRIPT", help="the start and the changes")
     return job
 
 
@@ -65,7 +68,7 @@ def _netlist_job(jobs, name, run, about):
     """A job that asks `hazard` about a netlist."""
     job = _plain_job(jobs, name, run, about)
     job.add_argument("--hazard", metavar="PROGRAM", help="the program to ask, else $HAZARD, else the one that is found")
-    job.add_argument("netlist", metavar="NETLIST")
+    job.add_argument("netlist", metavar="NETLIST", help="gates in .bench, or covers in BLIF if the name ends in .blif")
     return job
 
 

@@ -14,6 +14,12 @@ const text = id => document.getElementById(id).textContent;
 const press = id => document.getElementById(id).click();
 const boxOf = name => [...document.querySelectorAll(".box")].find(one => one.dataset.node === name);
 const count = selector => document.querySelectorAll(selector).length;
+const isIn = (box, { x, y }) => {
+  const [left, top] = box.getAttribute("transform").match(/[-\\d.]+/g).map(Number);
+  return x > left + 2 && x < left + 110 && y > top + 1 && y < top + 45;
+};
+const crossings = () => [...document.querySelectorAll("main path.wire:not(.loop)")].filter(path => [...Array(101).keys()].some(at =>
+  [...document.querySelectorAll(".box")].some(box => isIn(box, path.getPointAtLength(path.getTotalLength() * at / 100))))).length;
 const tell = name => {
   told[name] = { step: text("step"), now: text("now"), row: text("row").slice(0, 60), boxes: count(".box"),
     rings: count("main .ring"), late: count("main .late"), traces: count(".trace"), changes: count("nav button") };
@@ -31,6 +37,7 @@ def rows(folder, call, write, example):
         print("skipped: pages_in_a_browser: no Chromium is installed")
         return
     yield from _small(folder, browser, call, write, example)
+    yield from _crossings(folder, browser, call, write, example)
     yield from _stopped(folder, browser, call, write, example)
     yield from _large(folder, browser, call, write)
 
@@ -65,6 +72,14 @@ def _small(folder, browser, call, write, example):
     yield "a step back", told["back"]["step"], "step 9 of 10"
     yield "the first step, and one by a key", (told["first"]["step"], told["key"]["step"]), ("step 0 of 10", "step 1 of 10")
     yield "a row by a click", told["clicked"]["row"], "zit is 1 before and after, and may pulse to 0 in betweenkind"
+
+
+def _crossings(folder, browser, call, write, example):
+    """No wire that goes on to the right passes behind a box, where Graphviz puts the boxes and where the page does."""
+    for name in ("tree", "mutex", "burst", "clockmux"):
+        for page in (call(["page"] + example(name))[1], re.sub(r'"places":\[\[.*?\]\]', '"places":null', call(["page"] + example(name))[1])):
+            told, errors = _opened(folder, browser, write, page, 'tell("opened"); told.opened.crossings = crossings();')
+            yield f"wires behind boxes of {name}", (errors, told["opened"]["crossings"]), ([], 0)
 
 
 def _stopped(folder, browser, call, write, example):

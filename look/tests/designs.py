@@ -41,6 +41,7 @@ def rows(folder, call, run, hazard, expected):
     yield from _flip_flops()
     yield from _latches()
     yield from _refused(folder, run)
+    yield from _enumerated(folder, run)
 
 
 def _beside_iverilog(folder, name, written, bench, hazard):
@@ -206,3 +207,17 @@ def _refused(folder, run):
         0, "INPUT(a_b__c_)\nINPUT(const1)  # always 1\nOUTPUT(a_b__c__2)  # a_b__c_ of the design\n"
         "a_b__c__2 = AND(a_b__c_, const1)\n",
         "start a_b__c_=? const1=1\n")
+
+
+def _enumerated(folder, run):
+    """A node with a name of the source text and one that `rename -enumerate` gave keeps the former."""
+    nets = {"a": 2, "_0_": 3, "inner": 3, "y": 4, "_1_": 4}
+    inverter = lambda source, target: {"type": "$_NOT_", "connections": {"A": [source], "Y": [target]}}
+    module = {"ports": {"a": {"direction": "input", "bits": [2]}, "y": {"direction": "output", "bits": [4]}},
+              "cells": {"u": inverter(2, 3), "v": inverter(3, 4)},
+              "netnames": {name: {"bits": [bit]} for name, bit in nets.items()}}
+    path = os.path.join(folder, "e.json")
+    with open(path, "w", encoding="utf-8") as file:
+        json.dump({"modules": {"top": module}}, file)
+    yield "names of the source text first", run(["from-yosys", path], folder), (
+        0, "INPUT(a)\nOUTPUT(y)\ninner = NOT(a)\ny = NOT(inner)\n", "start a=?\n")
