@@ -68,7 +68,8 @@ pub(crate) fn write_blocks<K: Sink>(
         → planes.new ≡ planes_after (loaded_by work.now.job work.now.patterns.now) planes.old
         (block_count (length work.now.patterns.now.patterns)) }
     ensures looked { (blocks : ℕ) × (blocks ≤ block_count (length work.now.patterns.now.patterns))
-        × (planes.new ≡ planes_after (loaded_by work.now.job work.now.patterns.now) planes.old blocks) }
+        × (planes.new
+        ≡ planes_after (loaded_by work.now.job work.now.patterns.now) planes.old blocks) }
 {
     let _variables = work.net.len();
     for block in 0..work.patterns.count().div_ceil(BLOCK) {

@@ -168,7 +168,8 @@ fn write_all<K: Sink>(
         → planes.new ≡ planes_after (loaded_by work.now.job work.now.patterns.now) planes.old
         (block_count (length work.now.patterns.now.patterns)) }
     ensures looked { (blocks : ℕ) × (blocks ≤ block_count (length work.now.patterns.now.patterns))
-        × (planes.new ≡ planes_after (loaded_by work.now.job work.now.patterns.now) planes.old blocks) }
+        × (planes.new
+        ≡ planes_after (loaded_by work.now.job work.now.patterns.now) planes.old blocks) }
 {
     write_blocks(writer, work, planes, room);
     if writer.has_failed() {

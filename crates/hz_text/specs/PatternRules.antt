@@ -48,11 +48,14 @@ AssignsBelow nodes entry = AreBelow nodes (assignments_in (pattern_resolution_of
 
 -- the line that holds gates behind the first statement of all, where so many patterns stand in front of these statements
 abbrev pub late_hold_behind : ℕ → List (Numbered ResolvedPatternStatement) → Option ℕ
-late_hold_behind before statements = if nat_eq before 0 then first_late_hold statements else first_passing_line is_hold statements
+late_hold_behind before statements =
+    if nat_eq before 0 then first_late_hold statements else first_passing_line is_hold statements
 
 -- the line of the pattern 65,537 of all
 abbrev pub beyond_behind : ℕ → List (Numbered ResolvedPatternStatement) → Option ℕ
-beyond_behind before statements = option_map (λ numbered. numbered.line) (slice_get (behind_hold statements) (most_patterns - before))
+beyond_behind before statements =
+    option_map (λ numbered. numbered.line)
+    (slice_get (behind_hold statements) (most_patterns - before))
 
 -- the passes over statements in front of which so many patterns stand
 abbrev pub rules_behind : ℕ → ℕ → Rules ResolvedPatternStatement
@@ -79,6 +82,8 @@ fault_behind lines Memory = Memory
 fault_behind lines (Mismatch line told real) = Mismatch (line + lines) told real
 
 -- the value of statements of a circuit with so many nodes, in front of which these patterns stand
-pub record ArePatternsBehind (front : List PatternOf) (nodes : ℕ) (statements : List (Numbered ResolvedPatternStatement)) (value : PatternsOf) : Type 0 where
+pub record ArePatternsBehind (front : List PatternOf) (nodes : ℕ)
+    (statements : List (Numbered ResolvedPatternStatement)) (value : PatternsOf) : Type 0 where
   pub held : value.held ≡ map (assigned_bit (held_first statements)) (range_with_len 0 nodes)
-  pub patterns : map pattern_statement value.patterns ≡ map pattern_statement front ++ map (λ numbered. numbered.statement) (behind_hold statements)
+  pub patterns : map pattern_statement value.patterns
+      ≡ map pattern_statement front ++ map (λ numbered. numbered.statement) (behind_hold statements)

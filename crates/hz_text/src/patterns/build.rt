@@ -46,8 +46,13 @@ pub(crate) fn build(
 
 // Adds the bits of patterns, one pattern after the other.
 fn push_statements(bits: &mut Vec<bool>, entries: &[Entry], inputs: u32) -> Result<(), Memory>
-    requires { All (λ entry. lacks_bit inputs (pattern_resolution_of entry.held) ≡ false) entries.now }
-    ensures { OnOk result (bits.new.items ≡ bits.old.items ++ flat_map (λ entry. statement_bits inputs (pattern_resolution_of entry.held)) entries.now) }
+    requires { All (λ entry. lacks_bit inputs (pattern_resolution_of entry.held) ≡ false)
+        entries.now }
+    ensures { OnOk result
+        (bits.new.items
+        ≡ bits.old.items
+        ++ flat_map (λ entry. statement_bits inputs (pattern_resolution_of entry.held))
+        entries.now) }
 {
     let Some(more) = entries.len().checked_mul(2 * inputs as usize) else {
         return Err(Memory);

@@ -24,7 +24,8 @@ pub(crate) struct Front {
 #[tactic(auto, using(crate::proofs::PatternModelLaws::in_front))]
 pub(crate) fn read_front(alloc: Global, inputs: usize, text: &[u8]) -> Result<Front, Memory>
     requires few { inputs < 2 ^ 32 }
-    ensures { IfOk result (λ front. AreInFront inputs front.count front.end front.bits.items text.now) }
+    ensures { IfOk result
+        (λ front. AreInFront inputs front.count front.end front.bits.items text.now) }
 {
     let width = 10 + 2 * inputs;
     let most = most_lines(text, inputs, width);
