@@ -25,6 +25,7 @@ const NODES = DATA.names.length, VARIABLES = NODES + gateOf.length;
 const change = () => DATA.changes[view.change];
 const steps = () => (change() && !change().stopped && change().runs[view.run]) || [];
 const kindOf = node => DATA.kinds[+change().kind[node]];
+const usualRun = at => +!!DATA.changes[at]?.hazards?.length; // a hazard shows in the settle run
 const lookOf = node => (change() && !change().stopped ? LOOKS[+change().kind[node]] : "still");
 const wireName = wire => `${DATA.names[gateOf[wire - NODES]]}(${pinOf[wire - NODES]})`;
 const nameOf = variable => (variable < NODES ? DATA.names[variable] : wireName(variable));
@@ -232,7 +233,7 @@ function drawChanges() {
     const button = document.createElement("button");
     button.className = `${worst}${at === view.change ? " chosen" : ""}`;
     button.append(one.title, Object.assign(document.createElement("small"), { textContent: verdict }));
-    button.addEventListener("click", () => choose({ change: at, run: 0, step: 0 }));
+    button.addEventListener("click", () => choose({ change: at, run: usualRun(at), step: 0 }));
     list.append(button);
   });
 }
@@ -373,11 +374,10 @@ function asked() {
   const first = Math.max(0, DATA.changes.findIndex(change => (change.hazards ?? []).length));
   const at = number ? Math.min(Math.max(0, number - 1), DATA.changes.length - 1) : first;
   const node = name ? DATA.names.indexOf(decodeURIComponent(name)) : (DATA.changes[at]?.hazards ?? [])[0];
-  return { change: at, node: node > 0 ? node : 0, run: +run || 0, step: +step || 0 };
+  return { change: at, node: node > 0 ? node : 0, run: run ? +run || 0 : usualRun(at), step: +step || 0 };
 }
 
-byId("title").textContent = DATA.title;
-document.title = DATA.title;
+document.title = byId("title").textContent = DATA.title;
 byId("only").addEventListener("change", event => choose({ only: event.target.checked }));
 byId("which").addEventListener("change", event => choose({ run: +event.target.value, step: 0 }));
 byId("first").addEventListener("click", () => go(0));

@@ -65,12 +65,12 @@ def _small(folder, browser, call, write, example):
     yield "errors of the page", errors, []
     yield "boxes and waves", (told["opened"]["boxes"], told["opened"]["traces"], told["opened"]["changes"]), (7, 10, 1)
     opened = told["opened"]
-    yield "before the first step", (opened["step"], opened["now"], opened["rings"]), ("step 0 of 10", "unstable: s", 1)
-    yield "two steps", (told["stepped"]["step"], told["stepped"]["now"]), ("step 2 of 10", "now: n(1) | unstable: n a(1)")
+    yield "before the first step", (opened["step"], opened["now"], opened["rings"]), ("step 0 of 11", "unstable: s", 1)
+    yield "two steps", (told["stepped"]["step"], told["stepped"]["now"]), ("step 2 of 11", "now: n(1) | unstable: n a(1)")
     yield "a late wire and a ring", (told["stepped"]["late"], told["stepped"]["rings"]), (1, 1)
-    yield "the last step", (told["last"]["step"], told["last"]["now"]), ("step 10 of 10", "now: z(2) | unstable: z")
-    yield "a step back", told["back"]["step"], "step 9 of 10"
-    yield "the first step, and one by a key", (told["first"]["step"], told["key"]["step"]), ("step 0 of 10", "step 1 of 10")
+    yield "the last step", (told["last"]["step"], told["last"]["now"]), ("step 11 of 11", "now: z | at rest")
+    yield "a step back", told["back"]["step"], "step 10 of 11"
+    yield "the first step, and one by a key", (told["first"]["step"], told["key"]["step"]), ("step 0 of 11", "step 1 of 11")
     yield "a row by a click", told["clicked"]["row"], "zit is 1 before and after, and may pulse to 0 in betweenkind"
 
 
