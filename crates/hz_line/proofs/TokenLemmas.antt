@@ -1,5 +1,5 @@
 -- The tokens of a line, from the front.
-use Rattle.std.proofs.Common.{IfSome, lit<, ◌≡◌, ◌∙◌, ℕ, ◌+◌, ◌<◌, ◌≤◌, List, [], ◌∷◌, ◌++◌, Bool, true, false, Option, Some, None, length, drop, get_or, cond, suc, refl, sym, ap, subst, arith}
+use Rattle.std.proofs.Common.{IfSome, lit<, ◌≡◌, ◌∙◌, ℕ, ◌+◌, ◌<◌, ◌≤◌, List, [], ◌∷◌, ◌++◌, Bool, true, false, Option, Some, None, length, drop, get_or, cond, suc, refl, sym, ap, arith}
 use Rattle.std.specs.List.{prefix_len}
 use Rattle.std.specs.List.{take_while, list_all}
 use Rattle.std.proofs.lemmas.List.{take-append-drop, append_assoc}
@@ -9,7 +9,7 @@ use Rattle.hz_line.specs.declared.bytes.Class.{Class as ClassHere}
 use Rattle.hz_line.specs.declared.bytes.Class.TheVariants as here
 use Rattle.hz_line.specs.Byte.{class_by, class_of, is_word_byte, is_word_class, is_blank, is_blank_class, is_punctuation_class, Class, Blank, Hash, Punct, WordByte, Forbidden}
 use Rattle.hz_line.specs.declared.bytes.Punctuation.{Punctuation}
-use Rattle.hz_line.specs.Token.{TokenOf, WordOf, PunctuationOf, tokens_of, tokens_with, with_token, with_byte_first, begins_in_word, begins_in_blank, begins_in_punctuation, has_no_token, has_punctuation_first, IsWordToken, AreWordTokens, PastBlanks, IsTokenAndRest, BeginsWithToken, BeginsWithTokens}
+use Rattle.hz_line.specs.Token.{TokenOf, WordOf, PunctuationOf, tokens_of, tokens_with, with_token, with_byte_first, begins_in_word, begins_in_blank, begins_in_punctuation, has_no_token, has_punctuation_first, IsWordToken, AreWordTokens, PastBlanks, IsTokenAndRest}
 
 -- these tokens before others
 abbrev pub with_tokens : List TokenOf → Option (List TokenOf) → Option (List TokenOf)
@@ -170,11 +170,6 @@ PastBlanks-more line (byte ∷ rest) some e h =
 -- what the rest is, the line is past its blanks
 pub PastBlanks-so : (is : List ℕ → Type 0) (line rest : List ℕ) → PastBlanks (λ after. after ≡ rest) line → is rest → PastBlanks is line
 PastBlanks-so is line rest h so = record { blanks = h.blanks; after = rest; whole = h.whole ∙ ap (λ after. h.blanks ++ after) h.so; blank = h.blank; so = so }
-
--- one more token
-pub BeginsWithTokens-push : (line : List ℕ) (tokens : List TokenOf) (token : TokenOf) (middle rest : List ℕ) → BeginsWithTokens line tokens middle → BeginsWithToken middle token rest → BeginsWithTokens line (tokens ++ token ∷ []) rest
-BeginsWithTokens-push line [] token middle rest h t = (rest, subst (λ front. BeginsWithToken front token rest) (sym h) t, refl)
-BeginsWithTokens-push line (first ∷ tokens) token middle rest h t = (h.0, h.1, BeginsWithTokens-push h.0 tokens token middle rest h.2 t)
 
 is_word_byte-WordByte : (byte : ℕ) → class_of byte ≡ WordByte → is_word_byte byte ≡ true
 is_word_byte-WordByte byte e = ap is_word_class e

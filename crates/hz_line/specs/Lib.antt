@@ -18,7 +18,6 @@
 -- AreStatementsOf grammar text statements: the statements of a text without a malformed line
 -- IsUnreadText grammar text why: why a text was not read
 -- Faults, AreFound faults number found, IsLeastOfAll faults fault: the least fault of a text, number by number
--- HasLineFault line fault: why a line has no tokens
 -- IsNext line next, IsWordFirst line next, IsPunctuationFirst line next: what is taken off a line, by the tokens of all of it
 -- BeginsWith line next, BeginsWithWord line next, BeginsWithPunctuation line next: the same, by the bytes of the line
 

@@ -10,8 +10,6 @@ use Rattle.hz_line.specs.declared.statements.StatementFault.{StatementFault}
 use Rattle.hz_line.specs.declared.statements.StatementFault.TheVariants as unread
 use Rattle.hz_line.specs.declared.statements.StatementsFault.{StatementsFault}
 use Rattle.hz_line.specs.declared.statements.StatementsFault.TheVariants as unread_text
-use Rattle.hz_line.specs.declared.tokens.LineFault.{LineFault}
-use Rattle.hz_line.specs.declared.tokens.LineFault.TheVariants as fault
 
 -- the statement that something held stands for, with its line
 abbrev pub numbered_by : {H S : Type 0} → (H → S) → Entered H → Numbered S
@@ -21,11 +19,6 @@ numbered_by stated entry = record { line = entry.line; statement = stated entry.
 abbrev pub meaning_read : {H S : Type 0} → (H → S) → Option H → Meaning S
 meaning_read stated None = Nothing
 meaning_read stated (Some held) = Means (stated held)
-
--- why a line was not read, by why it has no tokens
-abbrev pub unread_by : LineFault → StatementFault
-unread_by fault.Forbidden = unread.Form
-unread_by fault.Memory = unread.Memory
 
 -- what a grammar makes of the tokens of a line: nothing, where the line has no list of tokens
 abbrev pub by_tokens : {A : Type 0} → (List TokenOf → Option A) → Option (List TokenOf) → Option A

@@ -2,15 +2,12 @@
 use Rattle.std.specs.Prelude.{◌≡◌, ◌<◌, ℕ, length, Bool, true, false, List, [], ◌∷◌, ◌++◌, Option, Some, None, if◌then◌else◌}
 use Rattle.std.specs.Borrow.{Bor}
 use Rattle.std.specs.List.{list_all}
-use Rattle.hz_line.specs.OrThat.{OrThat}
 use Rattle.hz_line.specs.Byte.{class_of, is_word_byte, is_blank, is_punctuation, Class, Blank, Hash, Punct, WordByte, Forbidden}
 use Rattle.hz_line.specs.declared.bytes.Punctuation.{Punctuation}
 use Rattle.hz_line.specs.declared.tokens.Token.{Token}
 use Rattle.hz_line.specs.declared.tokens.Token.TheVariants as token
 use Rattle.hz_line.specs.declared.tokens.Next.{Next}
 use Rattle.hz_line.specs.declared.tokens.Next.TheVariants as next
-use Rattle.hz_line.specs.declared.tokens.LineFault.{LineFault}
-use Rattle.hz_line.specs.declared.tokens.LineFault.TheVariants as fault
 
 -- a token: a word by its bytes, or punctuation
 pub data TokenOf : Type 0 where
@@ -108,10 +105,6 @@ IsPunctuationFirst line (Some found) =
     (tokens_of line ≡ with_token (PunctuationOf found.0) (tokens_of found.1.now))
     × (length found.1.now < length line)
 
--- why a line has no tokens: a forbidden byte stands before its comment; memory may always run out
-abbrev pub HasLineFault : List ℕ → LineFault → Type 0
-HasLineFault line why = OrThat fault.Memory (λ _. tokens_of line ≡ None) why
-
 -- a word: at least one byte, and word bytes alone
 pub record IsWordToken (word : List ℕ) : Type 0 where
   pub some : 0 < length word
@@ -177,15 +170,3 @@ BeginsWithWord line (Some found) = BeginsWithToken line (WordOf found.0.now) fou
 abbrev pub BeginsWithPunctuation : List ℕ → Option (Punctuation × Bor (List ℕ)) → Type 0
 BeginsWithPunctuation line None = PastBlanks NeitherBlankNorPunctuation line
 BeginsWithPunctuation line (Some found) = BeginsWithToken line (PunctuationOf found.0) found.1.now
-
--- the line begins with these tokens, one after the other, and this rest comes after them
-abbrev pub BeginsWithTokens : List ℕ → List TokenOf → List ℕ → Type 0
-BeginsWithTokens line [] rest = line ≡ rest
-BeginsWithTokens line (token ∷ tokens) rest =
-    (after : List ℕ) × BeginsWithToken line token after × BeginsWithTokens after tokens rest
-
--- these tokens stand before the fault: all of those before the forbidden byte, or some where memory ran out
-abbrev pub AreTokensBeforeFault : LineFault → List TokenOf → List ℕ → Type 0
-AreTokensBeforeFault fault.Forbidden tokens line =
-    (rest : List ℕ) × BeginsWithTokens line tokens rest × PastBlanks BeginsForbidden rest
-AreTokensBeforeFault fault.Memory tokens line = (rest : List ℕ) × BeginsWithTokens line tokens rest

@@ -6,7 +6,7 @@ ghost use Rattle.hz_line.specs.Token.{TokenOf, token_of, tokens_of};
 ghost use Rattle.hz_line.specs.Reading.{by_tokens, numbered_by, meaning_read, AreStatementsOf, IsUnread, IsUnreadLine, IsUnreadText};
 
 use crate::lines::split_line;
-use crate::tokens::{LineFault, Next, Token, next_token};
+use crate::tokens::{Next, Token, next_token};
 use std::alloc::{AllocFailed, Global};
 use thiserror::Error;
 
@@ -49,19 +49,6 @@ impl<T: Drop> From<AllocFailed<T>> for StatementsFault {
 
     fn from(_failed: AllocFailed<T>) -> StatementsFault {
         StatementsFault::Memory
-    }
-}
-
-impl From<LineFault> for StatementFault {
-    ghost use Rattle.hz_line.specs.Reading.{unread_by};
-
-    ghost from_gives = { λ fault made. made ≡ unread_by fault };
-
-    fn from(fault: LineFault) -> StatementFault {
-        match fault {
-            LineFault::Forbidden => StatementFault::Form,
-            LineFault::Memory => StatementFault::Memory,
-        }
     }
 }
 

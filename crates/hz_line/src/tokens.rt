@@ -3,11 +3,9 @@
 ghost use Rattle.std.specs.Prelude.{◌≡◌, ◌≤◌, false, length, IfErr, MatchResult, map, Some};
 ghost use Rattle.std.specs.List.{prefix_len};
 ghost use Rattle.hz_line.specs.Byte.{is_word_byte};
-ghost use Rattle.hz_line.specs.Token.{token_of, tokens_of, begins_in_blank, has_no_token, BeginsWith, BeginsWithPunctuation, BeginsWithWord, IsPunctuationFirst, IsNext, IsWordFirst, PastBlanks, AreTokensBeforeFault, HasLineFault};
+ghost use Rattle.hz_line.specs.Token.{token_of, tokens_of, begins_in_blank, has_no_token, BeginsWith, BeginsWithPunctuation, BeginsWithWord, IsPunctuationFirst, IsNext, IsWordFirst, PastBlanks};
 
 use crate::bytes::{Class, Punctuation, class_of, is_word_byte};
-use std::alloc::AllocFailed;
-use thiserror::Error;
 
 /// A token, which borrows the text.
 #[derive(Clone, Copy, Debug)]
@@ -15,27 +13,6 @@ pub enum Token<'a> {
     /// A longest run of word bytes, never empty.
     Word(&'a [u8]),
     Punct(Punctuation),
-}
-
-/// Why a line has no tokens.
-#[derive(Clone, Copy, Debug, PartialEq, Eq, Error)]
-pub enum LineFault {
-    /// A forbidden byte stands before the comment.
-    #[error("forbidden byte")]
-    Forbidden,
-    /// Memory ran out.
-    #[error("out of memory")]
-    Memory,
-}
-
-impl<T: Drop> From<AllocFailed<T>> for LineFault {
-    ghost use Rattle.hz_line.specs.declared.tokens.LineFault.TheVariants as fault;
-
-    ghost from_gives = { λ _ made. made ≡ fault.Memory };
-
-    fn from(_failed: AllocFailed<T>) -> LineFault {
-        LineFault::Memory
-    }
 }
 
 /// What comes first in a line.
@@ -47,29 +24,6 @@ pub enum Next<'a> {
     Forbidden,
     /// A token, and the line after it.
     Token(Token<'a>, &'a [u8]),
-}
-
-/// Reads the tokens of a line into `tokens`, in place of those that it had. The vector may be used again
-/// for each line: no other memory is taken. After a fault its tokens are those that stand before the fault.
-pub fn read_tokens<'a>(line: &'a [u8], tokens: &mut Vec<Token<'a>>) -> Result<(), LineFault>
-    ensures value { MatchResult result
-        (λ _. tokens_of line.now ≡ Some (map token_of tokens.new.items))
-        (λ fault. HasLineFault line.now fault) }
-    ensures before { IfErr result
-        (λ fault. AreTokensBeforeFault fault (map token_of tokens.new.items) line.now) }
-{
-    tokens.clear();
-    let mut rest = line;
-    loop {
-        match next_token(rest) {
-            Next::End => return Ok(()),
-            Next::Forbidden => return Err(LineFault::Forbidden),
-            Next::Token(token, after) => {
-                tokens.push(token)?;
-                rest = after;
-            }
-        }
-    }
 }
 
 /// The first token of a line, and what comes after it. Nothing that stands behind the token changes the answer. It

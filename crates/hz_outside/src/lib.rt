@@ -1,4 +1,4 @@
-//! The outside of the program: files that are loaded, a sink that bytes are put into, and a counter that contracts see.
+//! The outside of the program: files that are loaded, and a sink that bytes are put into.
 //!
 //! | Module | What lives in it |
 //! |---|---|
