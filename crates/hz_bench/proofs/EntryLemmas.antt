@@ -1,12 +1,11 @@
 -- Entries as statements, and with their lines.
-use Rattle.std.proofs.Common.{◌≡◌, ◌∙◌, ℕ, ◌<◌, List, [], ◌∷◌, Some, length, map, get_or, refl, sym, ap, arith}
-use Rattle.std.proofs.lemmas.List.{get_or-map, length-map}
+use Rattle.std.proofs.Common.{◌≡◌, ℕ, List, [], ◌∷◌, Some, map, refl, ap}
 use Rattle.hz_line.specs.Statement.{Numbered}
 use Rattle.hz_bench.specs.declared.entry.Entry.{Entry}
 use Rattle.hz_bench.specs.declared.forms.Form.{Form}
 use Rattle.hz_bench.specs.declared.forms.Form.TheVariants as form
 use Rattle.hz_bench.specs.Elements.{element_list, element_of_entry, elements_of}
-use Rattle.hz_bench.specs.Entry.{statement_of_entry, numbered_of, numbered_list, statement_list}
+use Rattle.hz_bench.specs.Entry.{statement_of_entry, numbered_list, statement_list}
 use Rattle.hz_bench.specs.Form.{form_of, statement_with}
 use Rattle.hz_bench.specs.Statement.{Statement, defined_name, name_of}
 

@@ -1,14 +1,16 @@
 -- How a statement is read from the front of its line.
-use Rattle.std.specs.Prelude.{◌≡◌, ◌<◌, ◌≤◌, ◌+◌, ◌||◌, ℕ, Bool, false, List, [], ◌∷◌, length, Option, None, Some}
+use Rattle.std.specs.Prelude.{◌≡◌, ◌<◌, ◌≤◌, ◌+◌, ◌||◌, ℕ, Bool, false, List, [], ◌∷◌, length, map, Option, None, Some}
+use Rattle.std.specs.Borrow.{Bor}
 use Rattle.std.specs.List.{list_any}
 use Rattle.hz_line.specs.Statement.{Means}
 use Rattle.hz_line.specs.Token.{TokenOf, WordOf, PunctuationOf, tokens_of, with_token, has_punctuation_first}
 use Rattle.hz_bench.specs.declared.entry.Line.{Line}
+use Rattle.hz_bench.specs.declared.entry.Line.TheVariants.{Node, Output}
 use Rattle.hz_bench.specs.declared.statement.Head.{Head}
 use Rattle.hz_bench.specs.declared.statement.PunctuatedWord.{PunctuatedWord}
 use Rattle.hz_bench.specs.declared.statement.NameList.{NameList}
 use Rattle.hz_bench.specs.Entry.{numbered_line}
-use Rattle.hz_bench.specs.Statement.{Statement, statement_of, name_list_of, is_long}
+use Rattle.hz_bench.specs.Statement.{Statement, statement_of, name_list_of, is_long, words_in}
 use Rattle.hz_bench.specs.Text.{bench_meaning}
 
 -- the first tokens are a word and punctuation
@@ -66,3 +68,12 @@ name_list_with noted names =
 -- nothing is noted yet
 abbrev pub no_name_list : NameList
 no_name_list = record { count = 0; long = false }
+
+-- words that were kept of the names in a part of a line are all of them, if they are that many
+abbrev pub AreKept : List (Bor (List ℕ)) → ℕ → List ℕ → Type 0
+AreKept words count part = length words ≡ count → map (λ word. word.now) words ≡ words_in part
+
+-- the words were kept of the sources of a node
+abbrev pub HasWords : Line → List (Bor (List ℕ)) → Type 0
+HasWords (Node entry) words = AreKept words entry.pins entry.sources.now
+HasWords (Output output) words = Unit {0}

@@ -12,10 +12,11 @@
 //! What breaks if you add a fault: one of a single statement needs a note; one whose number lies
 //! between two others needs its place in `fault_in`.
 
-ghost use Rattle.std.specs.Prelude.{◌≡◌, ◌+◌, ◌<◌, ◌≤◌, ◌^◌, ◌++◌, ◌∷◌, [], length, MatchResult, OnOk, true};
+ghost use Rattle.std.specs.Prelude.{◌≡◌, ◌+◌, ◌<◌, ◌≤◌, ◌^◌, ◌++◌, ◌∷◌, [], length, map, MatchResult, OnOk, true};
 ghost use Rattle.hz_line.specs.Line.{most_text_bytes};
 ghost use Rattle.hz_line.specs.Token.{tokens_of};
 ghost use Rattle.hz_bench.specs.Entry.{statement_of_entry, numbered_line, numbered_of, numbered_output};
+ghost use Rattle.hz_bench.specs.Head.{AreKept, HasWords};
 ghost use Rattle.hz_bench.specs.Names.{places, told, with_uses};
 ghost use Rattle.hz_bench.specs.Pass.{IsParsed, IsParseFault};
 ghost use Rattle.hz_bench.specs.ReaderState.{AddsStatement, IsNothingRead, KeepsNode, redefinition_with};
@@ -25,7 +26,7 @@ use crate::entry::{Entry, Line, OutputLine};
 use crate::fault::BenchFault;
 use crate::notes::{Notes, Redefinition};
 use crate::statement::{punctuated_word, statement_of};
-use hz_core::{MAX_VARIABLES, Memory};
+use hz_core::{MAX_PINS, MAX_VARIABLES, Memory};
 use hz_line::{is_blank_line, split_line};
 use hz_netlist::NameTable;
 use std::alloc::Global;
@@ -57,6 +58,9 @@ pub(crate) fn parse<'a>(alloc: Global, text: &'a [u8]) -> Result<Statements<'a>,
         (λ statements. IsParsed text.now statements)
         (λ fault. IsParseFault text.now fault) }
 {
+    let Ok(mut words) = Vec::with_capacity(alloc, MAX_PINS) else {
+        return Err(BenchFault::Memory);
+    };
     let mut statements = Statements::new(alloc, text);
     let mut line = 0u32;
     let mut left = Some(text);
@@ -67,8 +71,8 @@ pub(crate) fn parse<'a>(alloc: Global, text: &'a [u8]) -> Result<Statements<'a>,
         let Ok(()) = statements.names.make_room(rest.len()) else {
             return Err(BenchFault::Memory);
         };
-        match statement_of(line, cut.line) {
-            Some(statement) => match statements.add(statement) {
+        match statement_of(line, cut.line, &mut words) {
+            Some(statement) => match statements.add(statement, words.as_slice()) {
                 Ok(()) => {}
                 Err(Memory) => return Err(BenchFault::Memory),
             },
@@ -98,21 +102,23 @@ impl<'a> Statements<'a> {
         }
     }
 
-    // Adds the next statement of the text.
-    fn add(&mut self, line: Line<'a>) -> Result<(), Memory>
+    // Adds the next statement of the text, of whose sources these words were kept.
+    fn add(&mut self, line: Line<'a>, words: &[&'a [u8]]) -> Result<(), Memory>
+        requires words { HasWords line words.now }
         requires inputs { self.old.notes.inputs + self.old.notes.cuts ≤ self.old.notes.variables }
         requires variables { self.old.notes.variables + statement_variable_count
             (numbered_line line).statement < 2 ^ 32 }
         ensures { OnOk result (AddsStatement self.old (numbered_line line.entry) self.new) }
     {
         match line {
-            Line::Node(entry) => self.add_node(entry),
+            Line::Node(entry) => self.add_node(entry, words),
             Line::Output(output) => self.add_output(output),
         }
     }
 
     // Adds an input, a flip-flop or a gate.
-    fn add_node(&mut self, entry: Entry<'a>) -> Result<(), Memory>
+    fn add_node(&mut self, entry: Entry<'a>, words: &[&'a [u8]]) -> Result<(), Memory>
+        requires words { AreKept words.now entry.pins entry.sources.now }
         requires inputs { self.old.notes.inputs + self.old.notes.cuts ≤ self.old.notes.variables }
         requires variables { self.old.notes.variables + statement_variable_count
             (statement_of_entry entry) < 2 ^ 32 }
@@ -122,12 +128,7 @@ impl<'a> Statements<'a> {
         let definition = self.names.define_name(entry.name, entry.line)?;
         note_again(&mut self.again, entry.line, definition.first);
         self.keep(entry, definition.number)?;
-        use_names(
-            &mut self.names,
-            entry.sources,
-            entry.line,
-            &mut self.sources,
-        )?;
+        use_sources(&mut self.names, &entry, words, &mut self.sources)?;
         Ok(())
     }
 
@@ -163,6 +164,46 @@ fn note_again(again: &mut Option<Redefinition>, line: u32, first: Option<u32>)
     if let Some(first) = first {
         *again = Some(Redefinition { line, first });
     }
+}
+
+// Notes that a line uses the names that a node reads, and adds their numbers. If not all of them were
+// kept, they are read again.
+fn use_sources<'a>(
+    names: &mut NameTable<'a>,
+    entry: &Entry<'a>,
+    words: &[&'a [u8]],
+    numbers: &mut Vec<u32>,
+) -> Result<(), Memory>
+    requires { AreKept words.now entry.now.pins entry.now.sources.now }
+    ensures names { OnOk result (names.new
+        ≡ with_uses names.old entry.now.line (words_in entry.now.sources.now)) }
+    ensures numbers { OnOk result (told numbers.new.items ≡ told numbers.old.items
+        ++ places names.new (words_in entry.now.sources.now)) }
+{
+    if words.len() == entry.pins {
+        use_words(names, words, entry.line, numbers)
+    } else {
+        use_names(names, entry.sources, entry.line, numbers)
+    }
+}
+
+// Notes that a line uses these names, and adds their numbers.
+fn use_words<'a>(
+    names: &mut NameTable<'a>,
+    words: &[&'a [u8]],
+    line: u32,
+    numbers: &mut Vec<u32>,
+) -> Result<(), Memory>
+    ensures names { OnOk result (names.new
+        ≡ with_uses names.old line (map (λ word. word.now) words.now)) }
+    ensures numbers { OnOk result (told numbers.new.items ≡ told numbers.old.items
+        ++ places names.new (map (λ word. word.now) words.now)) }
+{
+    for word in words {
+        let number = names.use_name(*word, line)?;
+        push(numbers, number)?;
+    }
+    Ok(())
 }
 
 // Notes that a line uses the names in a part of it, and adds their numbers.

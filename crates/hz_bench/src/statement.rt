@@ -1,8 +1,9 @@
 // The statement of a line.
 
-ghost use Rattle.std.specs.Prelude.{◌≡◌, ◌<◌, ◌≤◌, ◌^◌, ◌+◌, ◌||◌, [], ◌∷◌, None, Some, if◌then◌else◌, IfSome, length, option_map};
+ghost use Rattle.std.specs.Prelude.{◌≡◌, ◌<◌, ◌≤◌, ◌^◌, ◌+◌, ◌++◌, ◌⊎◌, ◌||◌, ℕ, List, [], ◌∷◌, None, Some, if◌then◌else◌, IfSome, length, option_map};
+ghost use Rattle.std.specs.Borrow.{Bor};
 ghost use Rattle.hz_line.specs.Token.{tokens_of, has_no_token};
-ghost use Rattle.hz_bench.specs.Head.{IsStatementOfLine, IsPunctuatedFirst, IsHeadOf, head_tokens, names_by, name_list_with, no_name_list};
+ghost use Rattle.hz_bench.specs.Head.{AreKept, HasWords, IsStatementOfLine, IsPunctuatedFirst, IsHeadOf, head_tokens, names_by, name_list_with, no_name_list};
 ghost use Rattle.hz_bench.specs.Statement.{is_long};
 
 use crate::entry::{Entry, Line, OutputLine};
@@ -10,15 +11,21 @@ use crate::forms::{Form, form_named};
 use hz_core::MAX_NAME;
 use hz_line::{Punctuation, first_punctuation, first_word, is_blank_line, is_keyword};
 
-/// The statement of a line, if it has one. It takes no memory.
-pub(crate) fn statement_of<'a>(line: u32, text: &'a [u8]) -> Option<Line<'a>>
+/// The statement of a line, if it has one. It takes no memory. The sources of a gate are kept as far
+/// as `words` has room.
+pub(crate) fn statement_of<'a>(
+    line: u32,
+    text: &'a [u8],
+    words: &mut Vec<&'a [u8]>,
+) -> Option<Line<'a>>
     requires { length text.now < 2 ^ 32 }
-    ensures { IsStatementOfLine line text.now result }
+    ensures meant { IsStatementOfLine line text.now result }
+    ensures kept { IfSome result (λ line. HasWords line words.new.items) }
 {
     let head = head_of(text)?;
     match (head.punctuation, head.next) {
         (Punctuation::Open, Punctuation::Close) => port(line, text, &head),
-        (Punctuation::Equals, Punctuation::Open) => gate(line, text, &head),
+        (Punctuation::Equals, Punctuation::Open) => gate(line, text, &head, words),
         _ => None,
     }
 }
@@ -84,7 +91,8 @@ fn port<'a>(line: u32, text: &'a [u8], head: &Head<'a>) -> Option<Line<'a>>
     requires tokens { tokens_of text.now ≡ head_tokens head.now }
     requires opened { head.now.punctuation ≡ Punctuation.Open }
     requires closed { head.now.next ≡ Punctuation.Close }
-    ensures { IsStatementOfLine line text.now result }
+    ensures meant { IsStatementOfLine line text.now result }
+    ensures bare { (words : List (Bor (List ℕ))) → IfSome result (λ line. HasWords line words) }
 {
     if !is_blank_line(head.rest) {
         return None;
@@ -109,14 +117,20 @@ fn port<'a>(line: u32, text: &'a [u8], head: &Head<'a>) -> Option<Line<'a>>
 }
 
 // The flip-flop or gate `NAME = KIND ( NAME , .. NAME )`.
-fn gate<'a>(line: u32, text: &'a [u8], head: &Head<'a>) -> Option<Line<'a>>
+fn gate<'a>(
+    line: u32,
+    text: &'a [u8],
+    head: &Head<'a>,
+    words: &mut Vec<&'a [u8]>,
+) -> Option<Line<'a>>
     requires tokens { tokens_of text.now ≡ head_tokens head.now }
     requires equals { head.now.punctuation ≡ Punctuation.Equals }
     requires opened { head.now.next ≡ Punctuation.Open }
     requires few { length head.now.rest.now < 2 ^ 32 }
-    ensures { IsStatementOfLine line text.now result }
+    ensures meant { IsStatementOfLine line text.now result }
+    ensures kept { IfSome result (λ line. HasWords line words.new.items) }
 {
-    let names = names(head.rest)?;
+    let names = names(head.rest, words)?;
     Some(Line::Node(Entry {
         line,
         form: form_named(head.second),
@@ -128,12 +142,14 @@ fn gate<'a>(line: u32, text: &'a [u8], head: &Head<'a>) -> Option<Line<'a>>
 }
 
 // What is noted of the one or more names, separated by commas and closed by a parenthesis, that a
-// line has.
-fn names(line: &[u8]) -> Option<NameList>
+// line has. They are kept as far as there is room.
+fn names<'a>(line: &'a [u8], words: &mut Vec<&'a [u8]>) -> Option<NameList>
     ensures noted { result ≡ option_map (name_list_with no_name_list) (names_by
         (tokens_of line.now)) }
     ensures few { IfSome result (λ names. names.count ≤ length line.now) }
+    ensures kept { IfSome result (λ names. AreKept words.new.items names.count line.now) }
 {
+    words.clear();
     let mut names = NameList {
         count: 0,
         long: false,
@@ -143,6 +159,7 @@ fn names(line: &[u8]) -> Option<NameList>
         let Some(name) = punctuated_word(left) else {
             return None;
         };
+        keep(words, name.word);
         names = names.add(name.word);
         match name.punctuation {
             Punctuation::Comma => left = name.rest,
@@ -150,6 +167,17 @@ fn names(line: &[u8]) -> Option<NameList>
             Punctuation::Open | Punctuation::Equals => return None,
         }
     }
+}
+
+// Keeps a word after the others, if there is room.
+fn keep<'a>(words: &mut Vec<&'a [u8]>, word: &'a [u8])
+    ensures { (words.new.items ≡ words.old.items ++ word.entry ∷ [])
+        ⊎ (words.new.items ≡ words.old.items) }
+{
+    if words.len() >= words.capacity() {
+        return;
+    }
+    words.push_reserved(word);
 }
 
 impl NameList {

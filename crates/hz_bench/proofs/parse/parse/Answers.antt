@@ -11,7 +11,7 @@ pub add-requires-clause-variables : goal.add-requires-clause-variables
 add-requires-clause-variables c =
     let was = subst (λ (left : Option (Bor (List ℕ))). IsParsing c.args.text.now c.loop-left.statements c.loop-left.line left) c.in-Some.is c.loop-left.invariant in
     let one = numbered_line c.in-Some-statement_of.statement in
-    let fits = variables_fit c.args.text.now c.loop-left.statements one.statement c.loop-left.line c.split_line-cut.result.line.now c.split_line-cut.result.rest c.in-Some.rest was c.split_line-cut.ensures.within c.in-Some-statement_of.ensures.1 in
+    let fits = variables_fit c.args.text.now c.loop-left.statements one.statement c.loop-left.line c.split_line-cut.result.line.now c.split_line-cut.result.rest c.in-Some.rest was c.split_line-cut.ensures.within c.in-Some-statement_of.ensures.meant.1 in
     omega (arith, fits, c.requires)
 
 pub add-requires-clause-inputs : goal.add-requires-clause-inputs
@@ -20,7 +20,7 @@ add-requires-clause-inputs c = inputs_noted c.args.text.now c.loop-left.statemen
 pub loop-left-preserved-in-Ok-add : goal.loop-left-preserved-in-Ok-add
 loop-left-preserved-in-Ok-add c =
     let was = subst (λ (left : Option (Bor (List ℕ))). IsParsing c.args.text.now c.loop-left.statements c.loop-left.line left) c.in-Some.is c.loop-left.invariant in
-    let read = c.in-Some-statement_of.ensures in
+    let read = c.in-Some-statement_of.ensures.meant in
     let roomy = record c.loop-left.statements { names = c.make_room.new.self } in
     IsParsing-statement c.args.text.now roomy (numbered_line c.in-Some-statement_of.statement) c.add.new.self c.loop-left.line c.split_line-cut.result.line.now c.split_line-cut.result.rest c.in-Some.rest
     (IsParsing-roomier c.args.text.now c.loop-left.statements c.make_room.new.self c.loop-left.line (Some c.in-Some.rest) c.make_room.ensures was)

@@ -26,8 +26,8 @@ invariant_of-result c =
           ∙ sym (ap (λ form. has_long_name (statement_with first form part)) c.form_named.ensures ∙ long_with first c.args.head.now.second.now part);
     }
 
-pub returns : goal.returns
-returns c =
+pub returns-clause-meant : goal.returns-clause-meant
+returns-clause-meant c =
     let list = IsListed-from_noted (tokens_of c.args.head.now.rest.now) c.in_ok-names.names (sym c.names.ensures.noted ∙ c.in_ok-names.was) in
     let known : words_in c.args.head.now.rest.now ≡ list.names = words-known _ list.names list.words in
     let first = c.args.head.now.first.now in
