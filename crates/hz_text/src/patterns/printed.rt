@@ -1,8 +1,8 @@
 // The first lines of a text of patterns, where they are as they are printed.
 
-ghost use Rattle.std.specs.Prelude.{◌≡◌, ◌+◌, ◌*◌, ◌^◌, ◌<◌, ◌≤◌, ◌++◌, ◌&&◌, [], true, nat_eq, length, map, replicate, IfOk, OnOk};
+ghost use Rattle.std.specs.Prelude.{◌≡◌, ◌+◌, ◌-◌, ◌*◌, ◌^◌, ◌<◌, ◌≤◌, ◌++◌, ◌&&◌, [], true, nat_eq, length, vec_len, take, drop, map, replicate, IfOk, OnOk};
 ghost use Rattle.hz_text.specs.Limits.{most_patterns};
-ghost use Rattle.hz_text.specs.PatternModel.{AgreesWith, agrees, slack_by, bits_at, model_line, model_lines, AreInFront};
+ghost use Rattle.hz_text.specs.PatternModel.{AgreesWith, agrees, slack_by, bits_at, model_line, model_lines, AreAddedBits, AreInFront};
 
 use crate::patterns::value::MAX_PATTERNS;
 use hz_core::Memory;
@@ -19,41 +19,107 @@ pub(crate) struct Front {
     pub(crate) bits: Vec<bool>,
 }
 
-// The first lines of a text that are as they are printed. They have one length, so blocks of lines are compared with a model,
-// in which all bits are 0, up to the first block with another line. Of the rest nothing is known.
-#[tactic(auto, using(crate::proofs::PatternModelLaws::in_front))]
+// The first lines of a text that are as they are printed. Of the rest nothing is known.
 pub(crate) fn read_front(alloc: Global, inputs: usize, text: &[u8]) -> Result<Front, Memory>
     requires few { inputs < 2 ^ 32 }
-    ensures { IfOk result
-        (λ front. AreInFront inputs front.count front.end front.bits.items text.now) }
+    ensures inside { IfOk result (λ front. front.end ≤ length text.now) }
+    ensures front { IfOk result
+        (λ front. AreInFront inputs front.count front.bits.items (drop front.end text.now)
+        text.now) }
 {
     let width = 10 + 2 * inputs;
     let most = most_lines(text, inputs, width);
+    let mut bits = Vec::with_capacity(alloc, most * (2 * inputs))?;
+    let count = push_front(alloc, &mut bits, inputs, text, most)?;
+    Ok(Front {
+        count,
+        end: count * width,
+        bits,
+    })
+}
+
+// The same of a text of which the first half is freed before the second one is read, if all lines of that half are as they are
+// printed. The front ends so far into what is left. The first half has a line more, so that the second one is no longer, and is
+// moved at once.
+pub(crate) fn read_front_by_halves(
+    alloc: Global,
+    inputs: usize,
+    text: &mut Vec<u8>,
+) -> Result<Front, Memory>
+    requires few { inputs < 2 ^ 32 }
+    ensures inside { IfOk result (λ front. front.end ≤ vec_len text.new) }
+    ensures front { IfOk result
+        (λ front. AreInFront inputs front.count front.bits.items (drop front.end text.new.items)
+        text.old.items) }
+{
+    let width = 10 + 2 * inputs;
+    let most = most_lines(text.as_slice(), inputs, width);
+    let half = most.min(most / 2 + 1);
+    let mut bits = Vec::with_capacity(alloc, most * (2 * inputs))?;
+    let first = push_front(alloc, &mut bits, inputs, text.as_slice(), half)?;
+    let end = first * width;
+    if first <= most / 2 {
+        return Ok(Front {
+            count: first,
+            end,
+            bits,
+        });
+    }
+    free_first(text, end);
+    let second = push_front(alloc, &mut bits, inputs, text.as_slice(), most - first)?;
+    Ok(Front {
+        count: first + second,
+        end: second * width,
+        bits,
+    })
+}
+
+// Takes so many bytes off the front, and frees their memory.
+fn free_first(bytes: &mut Vec<u8>, count: usize)
+    requires { count ≤ vec_len bytes.old }
+    ensures { bytes.new.items ≡ drop count bytes.old.items }
+{
+    let len = bytes.len();
+    bytes.as_mut_slice().copy_within(count..len, 0);
+    bytes.truncate(len - count);
+    bytes.shrink_to_fit();
+}
+
+// Adds the bits of the first lines of a text that are as they are printed, so many at most, and returns how many they are.
+// They have one length, so blocks of lines are compared with a model, in which all bits are 0, up to the first block with
+// another line.
+fn push_front(
+    alloc: Global,
+    bits: &mut Vec<bool>,
+    inputs: usize,
+    text: &[u8],
+    most: usize,
+) -> Result<usize, Memory>
+    requires few { inputs < 2 ^ 32 }
+    requires room { most * (10 + 2 * inputs) ≤ length text.now }
+    requires some { 1 ≤ most → 1 ≤ inputs }
+    ensures count { IfOk result (λ count. count ≤ most) }
+    ensures added { IfOk result
+        (λ count. AreAddedBits inputs count bits.old.items bits.new.items
+        (take (count * (10 + 2 * inputs)) text.now)) }
+{
+    let width = 10 + 2 * inputs;
     let lines = (BLOCK_BYTES / width).max(1);
     let model = model_of(alloc, inputs, lines)?;
     let slack = slack_of(alloc, model.as_slice())?;
     let mut ones = Vec::new(alloc);
-    let mut bits = Vec::with_capacity(alloc, most * (2 * inputs))?;
     let mut start = 0;
     while start < most {
         let end = most.min(start + lines);
         let block = &text[start * width..end * width];
         if !agree(block, model.as_slice(), slack.as_slice()) {
-            return Ok(Front {
-                count: start,
-                end: start * width,
-                bits,
-            });
+            return Ok(start);
         }
         mark_ones(&mut ones, block)?;
-        push_lines(&mut bits, ones.as_slice(), inputs, end - start)?;
+        push_lines(bits, ones.as_slice(), inputs, end - start)?;
         start = end;
     }
-    Ok(Front {
-        count: start,
-        end: start * width,
-        bits,
-    })
+    Ok(start)
 }
 
 // How many lines of so many bytes a text has room for. Without inputs none is read so, and none of a text that has room for
