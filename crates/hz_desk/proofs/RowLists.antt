@@ -1,6 +1,7 @@
 -- The rows that lists of values and words stand for.
 use Rattle.std.proofs.Common.{◌≡◌, ◌∙◌, refl, sym, ap, subst, ℕ, ◌<◌, Bool, false, Option, Some, None, List, length, map, get_or, All, arith}
 use Rattle.std.specs.List.{slice_get, range_with_len}
+use Rattle.std.specs.Prelude.{is_some}
 use Rattle.std.proofs.lemmas.List.{get_or-map, get_or_read, length-map}
 use Rattle.std.proofs.lemmas.List.Elements.{All-from_get_or, All-map}
 use Rattle.std.proofs.lemmas.List.FromFn.{fill_by_all, get_or-map-range_with_len, get_or-range_with_len, length-map-range_with_len, length-range_with_len}
@@ -18,8 +19,15 @@ use Rattle.hz_desk.specs.Filled.{AreRowsOfChange}
 use Rattle.hz_desk.specs.Finding.{values_a, values_b}
 use Rattle.hz_desk.specs.ResultsOfPasses.{ArePassResults}
 use Rattle.hz_desk.specs.Rows.{changes_of, AreRowsOf, MayBeRows}
-use Rattle.hz_desk.specs.RowsOf.{row_with, row_at, rows_of, AreEquallyLong}
+use Rattle.hz_free.specs.SeenWords.{seen_word, seen_words}
+use Rattle.hz_free.proofs.SeenLemmas.{length-seen, seen-at, seen-some}
+use Rattle.hz_desk.specs.RowsOf.{row_with, row_at, rows_of, stored_rows, AreEquallyLong}
 use Rattle.hz_desk.proofs.ClassTable.{has_class}
+
+-- whether a word is there is what its number of changes says
+some-changes : (word : Option Word) → is_some (changes_of word) ≡ is_some word
+some-changes None = refl
+some-changes (Some word) = refl
 
 -- a row has the class of what it holds
 abbrev HasClass : Row → Type 0
@@ -122,3 +130,46 @@ module _ (start : List Bool) (a b : List Tri) (words : List (Option Word)) where
         are_words = are;
         are_rows = record { starts = rows.starts; in_a = refl; in_b = refl; changes = rows.changes; classes = rows.classes };
       }
+
+-- The rows of lists of which some words do not count.
+module _ (start : List Bool) (a b : List Tri) (words : List (Option Word)) (long : AreEquallyLong start a b words) where
+  length-seen-words : length (seen_words start a words) ≡ length words
+  length-seen-words = length-seen start a words (sym long.words_long) (long.a_long ∙ sym long.words_long)
+
+  pub seen-long : AreEquallyLong start a b (seen_words start a words)
+  seen-long = record { a_long = long.a_long; b_long = long.b_long; words_long = length-seen-words ∙ long.words_long }
+
+  seen-here : (i : ℕ) → i < length start → get_or (seen_words start a words) i None ≡ seen_word (bit_at start i) (value_at a i) (get_or words i None)
+  seen-here i inside =
+      seen-at start a words i inside (omega (arith, inside, long.a_long)) (omega (arith, inside, long.words_long))
+
+  -- a row is made of what stands at the variable's place in each list
+  pub stored-row : (i : ℕ) (bit : Bool) (x y : Tri) (word : Option Word) → i < length start → bit ≡ get_or start i bit → x ≡ get_or a i x
+      → y ≡ get_or b i y → word ≡ get_or words i word → slice_get (stored_rows start a b words) i ≡ Some (row_with bit x y (seen_word bit x word))
+  stored-row i bit x y word inside bit_is x_is y_is word_is =
+      let at_start : bit ≡ bit_at start i = get_or_read start i bit inside bit_is false in
+      let at_a : x ≡ value_at a i = get_or_read a i x (omega (arith, inside, long.a_long)) x_is Zero in
+      let at_b : y ≡ value_at b i = get_or_read b i y (omega (arith, inside, long.b_long)) y_is Zero in
+      let at_words : word ≡ get_or words i None = get_or_read words i word (omega (arith, inside, long.words_long)) word_is None in
+      row-there start a b (seen_words start a words) i inside
+      ∙ (ap (λ (w : Option Word). Some (row_with (bit_at start i) (value_at a i) (value_at b i) w)) (seen-here i inside)
+      ∙ sym (rw (at_start, at_a, at_b, at_words) refl))
+
+  -- they have numbers of changes for the variables that have words
+  pub marked-rows : map (λ (row : Row). is_some row.changes) (stored_rows start a b words) ≡ map is_some words
+  marked-rows =
+      in-rows start a b (seen_words start a words) (λ (row : Row). is_some row.changes) (map is_some words) false (length-map words is_some ∙ long.words_long)
+      (λ i inside.
+      get_or-map is_some words i None false (omega (arith, inside, long.words_long))
+      ∙ (sym (seen-some (bit_at start i) (value_at a i) (get_or words i None))
+      ∙ (ap is_some (sym (seen-here i inside)) ∙ sym (some-changes (get_or (seen_words start a words) i None)))))
+
+  pub length-stored : length (stored_rows start a b words) ≡ length start
+  length-stored = length-rows start a b (seen_words start a words)
+
+-- the rows of the same lists
+pub same-stored : (start : List Bool) (a b : List Tri) (words : List (Option Word)) (from : List Bool) (x y : List Tri) (told : List (Option Word)) → from ≡ start → x ≡ a → y ≡ b → told ≡ words → stored_rows from x y told ≡ stored_rows start a b words
+same-stored start a b words from x y told start_is a_is b_is words_are =
+    same-rows start a b (seen_words start a words) from x y (seen_words from x told) start_is a_is b_is
+    (ap (λ (list : List Bool). seen_words list x told) start_is
+    ∙ (ap (λ (list : List Tri). seen_words start list told) a_is ∙ ap (seen_words start a) words_are))

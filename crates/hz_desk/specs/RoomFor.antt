@@ -14,4 +14,4 @@ pub record IsRoomFor (netlist : Netlist) (room : Room) : Type 0 where
   pub passes : HavePassRoom netlist room.passes
   pub scratch : IsScratchFor netlist room.scratch
   pub follower : room.follower.circuit ≡ netlist
-  pub finding : HasRooms (length (network_of netlist)) netlist.inputs room.finding
+  pub finding : HasRooms (length (network_of netlist)) netlist.inputs room.free.free room.finding

@@ -4,6 +4,7 @@ use Rattle.std.specs.List.{slice_index_or, range_with_len}
 use Rattle.hz_core.specs.declared.tri.Tri.{Tri}
 use Rattle.hz_net.specs.Network.{bit_at, value_at}
 use Rattle.hz_word.specs.declared.word.Word.{Word}
+use Rattle.hz_free.specs.SeenWords.{seen_words}
 use Rattle.hz_desk.specs.declared.finding.Row.{Row}
 use Rattle.hz_desk.specs.Rows.{changes_of}
 use Rattle.hz_desk.specs.ClassTable.{class_in_table}
@@ -20,6 +21,10 @@ row_at start a b words i = row_with (bit_at start i) (value_at a i) (value_at b 
 -- the rows of all variables, by their values at the start, in Algorithm A and in Algorithm B, and by their words
 abbrev pub rows_of : List Bool → List Tri → List Tri → List (Option Word) → List Row
 rows_of start a b words = map (row_at start a b words) (range_with_len 0 (length start))
+
+-- the rows of all variables, given words of which only those of variables that are X in Algorithm A count
+abbrev pub stored_rows : List Bool → List Tri → List Tri → List (Option Word) → List Row
+stored_rows start a b words = rows_of start a b (seen_words start a words)
 
 -- the four lists are equally long
 pub record AreEquallyLong (start : List Bool) (a b : List Tri) (words : List (Option Word)) : Type 0 where

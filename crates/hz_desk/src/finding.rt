@@ -4,12 +4,12 @@ ghost use Rattle.std.specs.List.{slice_get};
 ghost use Rattle.hz_desk.specs.Finding.{values_a, values_b};
 ghost use Rattle.hz_desk.specs.Rows.{changes_of};
 ghost use Rattle.hz_desk.specs.RowsOf.{row_with};
-ghost use Rattle.hz_desk.specs.FindingRoom.{HasRooms};
+ghost use Rattle.hz_desk.specs.FindingRoom.{AreMarkedRows, HasRooms};
 ghost use Rattle.hz_core.specs.Limits.{most_variables};
 
 use crate::class::{Class, class_of};
 use hz_core::{Memory, Tri};
-use hz_free::PackedWord;
+use hz_free::{Free, PackedWord};
 use hz_gmw::Run;
 use hz_word::{Count, Word};
 use std::alloc::Global;
@@ -31,7 +31,8 @@ pub struct Row {
 }
 
 /// A row for each variable, in the order of the network's variables. The values of all rows are kept in a list for each kind, and
-/// a row is made when it is asked for.
+/// a row is made when it is asked for. Of the words only those count whose variable is X in the result of Algorithm A; the others
+/// say whether the variable has a word.
 #[derive(Debug, Drop)]
 pub struct Rows {
     pub(crate) start: Vec<bool>,
@@ -46,23 +47,24 @@ impl Model for Rows {
 
     ghost Value = { List Row };
 
-    ghost use Rattle.hz_desk.specs.RowsOf.{rows_of, AreEquallyLong};
+    ghost use Rattle.hz_desk.specs.RowsOf.{stored_rows, AreEquallyLong};
 
-    ghost view = { λ fields. rows_of fields.start.items fields.a.items fields.b.items fields.words.items };
+    ghost view = { λ fields. stored_rows fields.start.items fields.a.items fields.b.items fields.words.items };
 
     ghost invariant = { λ fields. AreEquallyLong fields.start.items fields.a.items fields.b.items fields.words.items };
 }
 
 impl Rows {
     // As many rows, of variables that stay 0.
-    pub(crate) fn with_room(alloc: Global, variables: usize) -> Result<Rows, Memory>
-        ensures { IfOk result (λ rows. length rows ≡ variables) }
+    pub(crate) fn with_room(alloc: Global, variables: usize, free: &Free) -> Result<Rows, Memory>
+        requires { length free.now.free ≡ variables }
+        ensures { IfOk result (λ rows. (length rows ≡ variables) × AreMarkedRows free.now.free rows) }
     {
         Ok(Rows {
             start: vec![in alloc; false; variables]?,
             a: vec![in alloc; Tri::Zero; variables]?,
             b: vec![in alloc; Tri::Zero; variables]?,
-            words: vec![in alloc; PackedWord::none(); variables]?,
+            words: free.no_changes(alloc)?,
         })
     }
 
@@ -78,12 +80,15 @@ impl Rows {
         requires { var < length self.now }
         ensures { slice_get self.now var ≡ Some result }
     {
-        row_of(
-            self.start[var],
-            self.a[var],
-            self.b[var],
-            self.words[var].get(),
-        )
+        let start = self.start[var];
+        let a = self.a[var];
+        let b = self.b[var];
+        let word = self.words[var];
+        match a {
+            Tri::Unknown => row_of(start, a, b, word.get()),
+            Tri::Zero => row_of(start, a, b, word.unchanged(start)),
+            Tri::One => row_of(start, a, b, word.unchanged(start)),
+        }
     }
 
     /// The values of all variables at the start.
@@ -204,16 +209,22 @@ pub struct Finding {
 
 impl Finding {
     // Room for the finding of a change, in which nothing is found.
-    pub(crate) fn with_room(alloc: Global, variables: u32, inputs: u32) -> Result<Finding, Memory>
-        requires { variables ≤ most_variables }
-        ensures { IfOk result (HasRooms variables inputs) }
+    pub(crate) fn with_room(
+        alloc: Global,
+        variables: u32,
+        inputs: u32,
+        free: &Free,
+    ) -> Result<Finding, Memory>
+        requires few { variables ≤ most_variables }
+        requires free { length free.now.free ≡ variables }
+        ensures { IfOk result (HasRooms variables inputs free.now.free) }
     {
         let room = variables as usize;
         Ok(Finding {
             variables,
             rounds_a: 0,
             rounds_b: 0,
-            rows: Rows::with_room(alloc, room)?,
+            rows: Rows::with_room(alloc, room, free)?,
             input: Bits::with_room(alloc, inputs as usize)?,
             spread: Run::with_room(alloc, room, room)?,
             settle: Run::with_room(alloc, 2 * room, 2 * room)?,

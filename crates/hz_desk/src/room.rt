@@ -7,6 +7,7 @@ ghost use Rattle.hz_desk.specs.RightFinding.{IsRightFinding};
 ghost use Rattle.hz_free.specs.FreePart.{IsFreePart};
 ghost use Rattle.hz_desk.specs.ResultsOfPasses.{ArePassResults, HavePassRoom};
 ghost use Rattle.hz_desk.specs.Filled.{AreRowsOfChange, FilledIsRight};
+ghost use Rattle.hz_desk.specs.FindingRoom.{AreMarkedRows};
 ghost use Rattle.hz_desk.specs.RoomFor.{IsRoomFor};
 ghost use Rattle.hz_word.specs.Capped.{greatest_cap};
 
@@ -16,7 +17,7 @@ use crate::races::count_races;
 use crate::runs::make_runs;
 use hz_core::Memory;
 use hz_cycle::runs_show_b;
-use hz_free::{Free, words_change, words_cover};
+use hz_free::{Change, Free, words_change, words_cover};
 use hz_gmw::{Follower, a_covers, b_covers};
 use hz_net::Net;
 use hz_reach::{Scratch, a_is_exact};
@@ -41,7 +42,7 @@ impl<'n> Room<'n> {
         let passes = Passes::new(alloc, net)?;
         let scratch = Scratch::new(alloc, net)?;
         let follower = Follower::new(alloc, net)?;
-        let finding = Finding::with_room(alloc, net.len(), net.circuit().inputs())?;
+        let finding = Finding::with_room(alloc, net.len(), net.circuit().inputs(), &free)?;
         Ok(Room {
             free,
             passes,
@@ -119,9 +120,11 @@ fn fill_rows(
     requires cap_high { cap ≤ greatest_cap }
     requires passes { HavePassRoom net.now passes.old }
     requires rows { AreByVariable net.now rows.old }
+    requires marked { AreMarkedRows free.now.free rows.old }
     ensures passed { ArePassResults net.now input.now start.now (values_a rows.new) passes.new.ranks.items (values_b rows.new) passes.new.when.items result.a result.b }
     ensures passes { HavePassRoom net.now passes.new }
     ensures rows { AreRowsOfChange (network_of net.now) input.now start.now cap rows.new }
+    ensures marked { AreMarkedRows free.now.free rows.new }
 {
     // A getter of the network says that its circuit is one; the law says which words have a change.
     let _variables = net.len();
@@ -134,14 +137,13 @@ fn fill_rows(
         rows.a.as_mut_slice(),
         rows.b.as_mut_slice(),
     );
-    free.words_given_a(
+    let change = Change {
         net,
         start,
         input,
         cap,
-        rows.a.as_slice(),
-        rows.words.as_mut_slice(),
-    );
+    };
+    free.write_unknown(change, rows.a.as_slice(), rows.words.as_mut_slice());
     rounds
 }
 

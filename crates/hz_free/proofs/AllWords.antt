@@ -15,7 +15,7 @@ use Rattle.hz_word.specs.Capped.{capped_word}
 use Rattle.hz_free.specs.Chains.{IsFeedbackFree}
 use Rattle.hz_free.specs.FreePart.{FreePart, IsFreePart, AreMarks}
 use Rattle.hz_free.specs.VariableWords.{IsDrivenWord, AreCappedWords}
-use Rattle.hz_free.specs.CappedWords.{AreWordsSoFar, IsReady}
+use Rattle.hz_free.specs.CappedWords.{AreToldWords, IsReady}
 use Rattle.hz_lists.proofs.ListedLemmas.{listed-cases, listed-left, listed-one, unlisted-before, pushed-last, listed-at}
 use Rattle.hz_free.proofs.Kahn.{listed-push-other}
 
@@ -26,6 +26,15 @@ same-driven input start words words' i (Function kind first pins) word long same
     subst (λ (list : List (List Bool)). IsWordOf kind list word)
     (same-parts [] words words' first pins long (λ k few. same (first + k) (omega arith, omega arith))) driven
 same-driven input start words words' i (Source node) word long same driven = driven ∙ same node refl
+
+-- the words so far are told, and nothing is told of the other variables
+pub record AreWordsSoFar (net : List Driver) (input start : List Bool) (cap : ℕ) (placed : List ℕ) (told : List (Option Word)) (words : List (List Bool)) : Type 0 where
+  pub long : length words ≡ length net
+  pub told_long : length told ≡ length net
+  pub is_word : (i : ℕ) → is_listed placed i ≡ true → IsWord (get_or words i [])
+  pub driven : (i : ℕ) → is_listed placed i ≡ true → IsDrivenWord input start words i (driver_at net i) (get_or words i [])
+  pub tells : (i : ℕ) → is_listed placed i ≡ true → get_or told i None ≡ Some (capped_word cap (get_or words i []))
+  pub others : (i : ℕ) → is_listed placed i ≡ false → get_or told i None ≡ None
 
 -- what a feedback-free part says of its marks and its order, without the cycles
 pub record IsOrdered (netlist : Netlist) (part : FreePart) : Type 0 where
@@ -57,14 +66,6 @@ module _ (netlist : Netlist) (input start : List Bool) (cap : ℕ) (part : FreeP
       ]
 
   module _ (place : ℕ) (few : place < length part.order) (told : List (Option Word)) (words : List (List Bool)) (are : AreWordsSoFar (network_of netlist) input start cap (take place part.order) told words) where
-    unfoldable pub ready-words : IsReady (network_of netlist) input start cap told (get_or part.order place 0)
-    ready-words = record {
-      placed = take place part.order;
-      words = words;
-      are_told = are;
-      reads = λ j reads. is.after place j few reads;
-    }
-
     pub var-below : get_or part.order place 0 < length (network_of netlist)
     var-below = is.inside (get_or part.order place 0) (listed-at part.order place few)
 

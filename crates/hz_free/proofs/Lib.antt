@@ -56,3 +56,7 @@ pub mod Laws
 pub mod WordsExist
 -- The words one after the other, as the loop tells them
 pub mod ToldWords
+-- The words of variables of which some keep their value at the start.
+pub mod SeenLemmas
+-- The words of the variables that Algorithm A makes X
+pub mod UnknownWords

@@ -1,10 +1,11 @@
 -- The words in the making: which variables have one so far, and how a variable is driven by what it is.
-use Rattle.std.specs.Prelude.{◌≡◌, ℕ, ◌+◌, ◌<◌, ◌≤◌, Bool, false, Option, Some, None, List, [], length, map, IsTrue, slice_index_or}
+use Rattle.std.specs.Prelude.{◌≡◌, ℕ, ◌+◌, ◌<◌, ◌≤◌, Bool, Option, Some, None, List, [], length, map, IsTrue, slice_index_or}
 use Rattle.hz_core.specs.declared.kind.Kind.{Kind}
 use Rattle.hz_core.specs.Gate.{takes}
 use Rattle.hz_core.specs.Netlist.{Netlist, IsGateNumber, gate_at}
-use Rattle.hz_net.specs.Network.{Driver, External, Function, Source, network_of, driver_at, IsVariable}
+use Rattle.hz_net.specs.Network.{Driver, External, Function, Source, network_of, driver_at, IsVariable, IsInput}
 use Rattle.hz_net.specs.Reads.{Reads}
+use Rattle.hz_net.specs.Starts.{IsStableStart}
 use Rattle.hz_net.specs.Variables.{first_wire}
 use Rattle.hz_net.specs.declared.variable.VarKind.{VarKind}
 use Rattle.hz_net.specs.declared.variable.VarKind.TheVariants.{Input, Gate as GateVariable, Wire as WireVariable}
@@ -12,7 +13,7 @@ use Rattle.hz_lists.specs.Listed.{is_listed}
 use Rattle.hz_word.specs.declared.word.Word.{Word}
 use Rattle.hz_word.specs.Word.{IsWord, AreWords}
 use Rattle.hz_word.specs.Walk.{IsWordOf}
-use Rattle.hz_word.specs.Capped.{capped_word, IsWithinCap}
+use Rattle.hz_word.specs.Capped.{capped_word, greatest_cap, IsWithinCap}
 use Rattle.hz_free.specs.VariableWords.{IsDrivenWord}
 
 -- how a variable is driven, by what it is
@@ -26,21 +27,27 @@ IsDrivenAs netlist var (GateVariable kind) =
 IsDrivenAs netlist var (WireVariable gate pin source) =
     (driver_at (network_of netlist) var ≡ Source source) × (IsVariable netlist source)
 
--- Each placed variable has a word, made of those that it reads, and its capped form is told; the others are told nothing.
-pub record AreWordsSoFar (net : List Driver) (input start : List Bool) (cap : ℕ) (placed : List ℕ) (told : List (Option Word)) (words : List (List Bool)) : Type 0 where
+-- Each placed variable has a word, made of those that it reads, and its capped form is told.
+pub record AreToldWords (net : List Driver) (input start : List Bool) (cap : ℕ) (placed : List ℕ) (told : List (Option Word)) (words : List (List Bool)) : Type 0 where
   pub long : length words ≡ length net
   pub told_long : length told ≡ length net
   pub is_word : (i : ℕ) → IsTrue (is_listed placed i) → IsWord (slice_index_or words i [])
   pub driven : (i : ℕ) → IsTrue (is_listed placed i) → IsDrivenWord input start words i (driver_at net i) (slice_index_or words i [])
   pub tells : (i : ℕ) → IsTrue (is_listed placed i) → slice_index_or told i None ≡ Some (capped_word cap (slice_index_or words i []))
-  pub others : (i : ℕ) → is_listed placed i ≡ false → slice_index_or told i None ≡ None
 
 -- all variables that a variable reads are placed, and the placed variables have their words
 pub record IsReady (net : List Driver) (input start : List Bool) (cap : ℕ) (told : List (Option Word)) (var : ℕ) : Type 0 where
   pub placed : List ℕ
   pub words : List (List Bool)
-  pub are_told : AreWordsSoFar net input start cap placed told words
+  pub are_told : AreToldWords net input start cap placed told words
   pub reads : (j : ℕ) → Reads (driver_at net var) j → IsTrue (is_listed placed j)
+
+-- a change of a circuit whose words are counted up to a cap
+pub record IsChange (netlist : Netlist) (input start : List Bool) (cap : ℕ) : Type 0 where
+  pub begins : IsStableStart netlist start
+  pub input_long : IsInput netlist input
+  pub cap_low : 1 ≤ cap
+  pub cap_high : cap ≤ greatest_cap
 
 -- for all words that the placed variables have, among which are those that a variable reads, it has this word
 abbrev pub IsNextWord : List Driver → List Bool → List Bool → ℕ → List (Option Word) → ℕ → Word → Type 0

@@ -16,7 +16,9 @@
 -- MarksExist, WordsExist: there always are such marks and words
 -- occurrences i list: how often a list has a number
 -- IsOrdering readers variables place left unread order: a topological order so far
--- AreWordsSoFar net input start cap placed capped words: the words that were made so far
+-- AreToldWords net input start cap placed capped words: the words that were made so far
+-- seen_words start a words: words of which only those of variables that are X count
+-- IsChange netlist input start cap: the change of which words are made
 -- IsNextWord net input start cap capped i word: the word of variable i by those that it reads
 -- AreLinks links, LeadsTo links i next, IsPath links start path end: a list of links, and the paths along it
 -- AreChoices net choices, AreRooted choices choosers roots below: the choices as links, and where they end
@@ -27,6 +29,7 @@ pub mod VariableWords
 pub mod Order
 pub mod FreePart
 pub mod CappedWords
+pub mod SeenWords
 pub mod PackedWords
 pub mod Feedback
 pub mod Paths

@@ -1,7 +1,6 @@
-ghost use Rattle.std.specs.Prelude.{◌≡◌, ◌==◌, ◌<◌, ◌≤◌, ◌↔◌, ℕ, Bool, true, false, Option, List, [], length, map, Contains, IfOk, IfSome, IsTrue, MatchOption, Some, None, slice_index_or, slice_set};
+ghost use Rattle.std.specs.Prelude.{◌≡◌, ◌==◌, ◌<◌, ◌≤◌, ◌↔◌, ℕ, Bool, false, Option, List, [], length, map, is_some, Contains, IfOk, IsTrue, Some, None, slice_index_or, slice_set};
 ghost use Rattle.hz_core.specs.Netlist.{Netlist};
-ghost use Rattle.hz_core.specs.Ternary.{is_unknown};
-ghost use Rattle.hz_net.specs.Network.{network_of, bit_at, value_at, IsState, AreByVariable, IsInput, IsVariable};
+ghost use Rattle.hz_net.specs.Network.{network_of, bit_at, IsState, IsInput, IsVariable, AreByVariable};
 ghost use Rattle.hz_net.specs.Passes.{algorithm_a, IsResult};
 ghost use Rattle.hz_net.specs.Starts.{IsStableStart};
 ghost use Rattle.hz_net.specs.Reads.{readers_of};
@@ -9,14 +8,15 @@ ghost use Rattle.hz_free.specs.Chains.{IsFeedbackFree};
 ghost use Rattle.hz_free.specs.Feedback.{IsFeedbackCycle, IsCore};
 ghost use Rattle.hz_free.specs.Order.{AreReads};
 ghost use Rattle.hz_free.specs.FreePart.{IsFreePart};
-ghost use Rattle.hz_free.specs.CappedWords.{IsReady, IsNextWord};
+ghost use Rattle.hz_free.specs.CappedWords.{IsChange, IsReady, IsNextWord};
+ghost use Rattle.hz_free.specs.SeenWords.{seen_words};
 ghost use Rattle.hz_free.specs.VariableWords.{AreCappedWords};
 ghost use Rattle.hz_word.specs.Capped.{greatest_cap, IsWithinCap};
 
 use crate::feedback::{Feedback, find_feedback};
 use crate::order::{count_reads, place_all};
-use crate::packed::{PackedWord, StoredWord};
-use crate::words::{NO_WORD, constant_word, gate_word, input_word};
+use crate::packed::{PackedWord, Plain, Seen, ToldWords, at_rest, may_change};
+use crate::words::{NO_WORD, gate_word, input_word};
 use hz_core::{Memory, Tri};
 use hz_net::{Net, VarKind};
 use hz_word::Word;
@@ -126,130 +126,129 @@ impl Free {
         requires out { AreByVariable net.now out.old }
         ensures { AreCappedWords (network_of net.now) input.now start.now cap out.new }
     {
-        write_words(net, self.order.as_slice(), start, input, cap, None, out);
+        let change = Change {
+            net,
+            start,
+            input,
+            cap,
+        };
+        write_words(change, self.order.as_slice(), out);
     }
 
-    /// Writes the same words as [`words`](Free::words), given the result of Algorithm A: it folds only those of the variables that
-    /// are X there, since the others do not change.
-    pub fn words_given_a(
-        &self,
-        net: &Net,
-        start: &[bool],
-        input: &[bool],
-        cap: u64,
-        a: &[Tri],
-        out: &mut [PackedWord],
-    )
-        requires part { IsFreePart net.now self.now }
-        requires start { IsStableStart net.now start.now }
-        requires input { IsInput net.now input.now }
-        requires cap_low { 1 ≤ cap }
-        requires cap_high { cap ≤ greatest_cap }
-        requires a { IsResult (algorithm_a (network_of net.now) input.now start.now) a.now }
-        requires out { AreByVariable net.now out.old }
-        ensures { AreCappedWords (network_of net.now) input.now start.now cap out.new }
+    /// Words for all variables, of which none changes: those that are not feedback-free have none.
+    pub fn no_changes(&self, alloc: Global) -> Result<Vec<PackedWord>, Memory>
+        ensures { IfOk result (λ words. map is_some words.items ≡ self.now.free) }
     {
-        write_words(net, self.order.as_slice(), start, input, cap, Some(a), out);
+        at_rest(alloc, self.free.as_slice())
+    }
+
+    /// Writes the words of the feedback-free variables that are X in the result of Algorithm A, and leaves the others alone: these
+    /// variables keep their value at the start.
+    pub fn write_unknown(&self, change: Change, a: &[Tri], out: &mut [PackedWord])
+        requires part { IsFreePart change.net.now self.now }
+        requires change { IsChange change.net.now change.input.now change.start.now change.cap }
+        requires a { IsResult (algorithm_a (network_of change.net.now) change.input.now change.start.now) a.now }
+        requires out { map is_some out.old ≡ self.now.free }
+        ensures words { AreCappedWords (network_of change.entry.net.now) change.entry.input.now change.entry.start.now change.entry.cap
+            (seen_words change.entry.start.now a.now out.new) }
+        ensures out { map is_some out.new ≡ self.now.free }
+    {
+        fold_unknown(change, self.order.as_slice(), a, out);
     }
 }
 
-// The words of the variables of an order, one after the other. If the result of Algorithm A is given, a variable that is 0 or 1
-// there is known not to change.
-fn write_words<S: StoredWord>(
-    net: &Net,
-    order: &[u32],
-    start: &[bool],
-    input: &[bool],
-    cap: u64,
-    a: Option<&[Tri]>,
-    out: &mut [S],
-)
-    requires part { (free : List Bool) × (cycles : List (List ℕ)) × (cores : List (Option ℕ)) × IsFreePart net.now (record { free = free; order = order.now; cycles = cycles; cores = cores }) }
-    requires start { IsStableStart net.now start.now }
-    requires input { IsInput net.now input.now }
-    requires cap_low { 1 ≤ cap }
-    requires cap_high { cap ≤ greatest_cap }
-    requires a { IfSome a (λ a. IsResult (algorithm_a (network_of net.now) input.now start.now) a.now) }
-    requires out { AreByVariable net.now out.old }
-    ensures { AreCappedWords (network_of net.now) input.now start.now cap (map S.word_in out.new) }
+/// A change of a network: from a start, to a new input. The changes of words are counted up to the cap.
+#[derive(Clone, Copy, Debug)]
+pub struct Change<'a> {
+    pub net: &'a Net,
+    pub start: &'a [bool],
+    pub input: &'a [bool],
+    pub cap: u64,
+}
+
+// The words of the variables of an order, one after the other.
+fn write_words(change: Change, order: &[u32], out: &mut [Option<Word>])
+    requires part { (free : List Bool) × (cycles : List (List ℕ)) × (cores : List (Option ℕ)) × IsFreePart change.net.now (record { free = free; order = order.now; cycles = cycles; cores = cores }) }
+    requires change { IsChange change.net.now change.input.now change.start.now change.cap }
+    requires out { AreByVariable change.net.now out.old }
+    ensures { AreCappedWords (network_of change.entry.net.now) change.entry.input.now change.entry.start.now change.entry.cap out.new }
 {
     // A getter of the network says that its circuit is one.
-    let _variables = net.len();
+    let _variables = change.net.len();
     clear(out);
-    let mut pins = [NO_WORD; FEW_PINS];
+    let mut room = [NO_WORD; FEW_PINS];
+    for var in order {
+        let word = word_of(change, Plain { words: out }, &mut room, *var);
+        out[*var as usize] = Some(word);
+    }
+}
+
+// No variable has a word.
+fn clear(out: &mut [Option<Word>])
+    ensures { (i : ℕ) → slice_index_or out.new i None ≡ None }
+{
+    for word in out.iter_mut() {
+        *word = None;
+    }
+}
+
+// The words of those variables of an order that are X in the result of Algorithm A.
+fn fold_unknown(change: Change, order: &[u32], a: &[Tri], out: &mut [PackedWord])
+    requires part { (free : List Bool) × (cycles : List (List ℕ)) × (cores : List (Option ℕ)) × IsFreePart change.net.now (record { free = free; order = order.now; cycles = cycles; cores = cores }) × (map is_some out.old ≡ free) }
+    requires change { IsChange change.net.now change.input.now change.start.now change.cap }
+    requires a { IsResult (algorithm_a (network_of change.net.now) change.input.now change.start.now) a.now }
+    ensures words { AreCappedWords (network_of change.entry.net.now) change.entry.input.now change.entry.start.now change.entry.cap
+        (seen_words change.entry.start.now a.now out.new) }
+    ensures out { map is_some out.new ≡ map is_some out.old }
+{
+    // A getter of the network says that its circuit is one.
+    let _variables = change.net.len();
+    let mut room = [NO_WORD; FEW_PINS];
     for var in order {
         if may_change(a, *var) {
-            let word = word_of(net, start, input, cap, out, &mut pins, *var);
+            let seen = Seen {
+                start: change.start,
+                a,
+                words: out,
+            };
+            let word = word_of(change, seen, &mut room, *var);
             keep(out, *var, word);
-        } else {
-            keep(out, *var, constant_word(start[*var as usize]));
         }
     }
 }
 
 // Keeps the word of a variable.
-fn keep<S: StoredWord>(out: &mut [S], var: u32, word: Word)
+fn keep(out: &mut [PackedWord], var: u32, word: Word)
     requires var { var < length out.old }
     requires counted { IsWithinCap greatest_cap word.changes }
-    ensures { map S.word_in out.new ≡ slice_set (map S.word_in out.old) var (Some word) }
+    ensures { out.new ≡ slice_set out.old var (Some word) }
 {
-    out[var as usize] = S::of(word);
-}
-
-// Whether a variable may change: if the result of Algorithm A is given, where it is X.
-fn may_change(a: Option<&[Tri]>, var: u32) -> bool
-    requires { IfSome a (λ a. var < length a.now) }
-    ensures { MatchOption a.entry (result ≡ true) (λ a. result ≡ is_unknown (value_at a.now var)) }
-{
-    match a {
-        Some(a) => a[var as usize] == Tri::Unknown,
-        None => true,
-    }
+    out[var as usize] = PackedWord::of(word);
 }
 
 // Few gates have more pins.
 const FEW_PINS: usize = 16;
 
-// No variable has a word.
-fn clear<S: StoredWord>(out: &mut [S])
-    ensures { (i : ℕ) → slice_index_or (map S.word_in out.new) i None ≡ None }
+// The word of a variable, once all that it reads have one. The room is for the words of a gate's wires.
+fn word_of<T: ToldWords>(change: Change, told: T, room: &mut [Word], var: u32) -> Word
+    requires var { IsVariable change.net.now var }
+    requires start { IsState change.net.now change.start.now }
+    requires input { IsInput change.net.now change.input.now }
+    requires cap_low { 1 ≤ change.cap }
+    requires cap_high { change.cap ≤ greatest_cap }
+    requires ready { IsReady (network_of change.net.now) change.input.now change.start.now change.cap (T.told told) var }
+    ensures { IsNextWord (network_of change.entry.net.now) change.entry.input.now change.entry.start.now change.entry.cap (T.told told) var result }
 {
-    for word in out.iter_mut() {
-        *word = S::none();
-    }
-}
-
-// The word of a variable, once all that it reads have one.
-fn word_of<S: StoredWord>(
-    net: &Net,
-    start: &[bool],
-    input: &[bool],
-    cap: u64,
-    out: &[S],
-    pins: &mut [Word],
-    var: u32,
-) -> Word
-    requires var { IsVariable net.now var }
-    requires start { IsState net.now start.now }
-    requires input { IsInput net.now input.now }
-    requires cap_low { 1 ≤ cap }
-    requires cap_high { cap ≤ greatest_cap }
-    requires ready { IsReady (network_of net.now) input.now start.now cap (map S.word_in out.now) var }
-    ensures { IsNextWord (network_of net.now) input.now start.now cap (map S.word_in out.now) var result }
-{
-    let _variables = net.len();
-    match net.kind_of(var) {
-        VarKind::Input { number } => input_word(start[var as usize], input[number as usize]),
-        VarKind::Gate { kind } => {
-            let (first, count) = net.wires_in(var);
-            gate_word(
-                kind,
-                &out[first as usize..(first + count) as usize],
-                cap,
-                pins,
-            )
+    let _variables = change.net.len();
+    match change.net.kind_of(var) {
+        VarKind::Input { number } => {
+            input_word(change.start[var as usize], change.input[number as usize])
         }
-        VarKind::Wire { source, .. } => out[source as usize].get().unwrap(),
+        VarKind::Gate { kind } => {
+            let (first, count) = change.net.wires_in(var);
+            gate_word(kind, told, first, count, change.cap, room)
+        }
+        VarKind::Wire { source, .. } => told.word(source),
     }
 }
 

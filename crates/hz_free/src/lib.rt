@@ -34,7 +34,7 @@ mod order;
 mod packed;
 mod words;
 
-pub use free::Free;
+pub use free::{Change, Free};
 pub use packed::PackedWord;
 
 /// Along every run from a stable start under the new input, the word of a feedback-free variable covers its history.

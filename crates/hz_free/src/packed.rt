@@ -1,8 +1,15 @@
 //! Words as they are kept: a word or none, in as few bytes as it takes.
-ghost use Rattle.std.specs.Prelude.{◌≡◌, Some, None};
+ghost use Rattle.std.specs.Prelude.{◌≡◌, ◌<◌, Some, None, is_some, length, map, slice_index_or, option_map, IfOk, IsSome};
+ghost use Rattle.hz_core.specs.Ternary.{is_unknown};
+ghost use Rattle.hz_net.specs.Network.{value_at};
 ghost use Rattle.hz_word.specs.Capped.{IsWithinCap, greatest_cap};
+ghost use Rattle.hz_word.specs.Pairs.{constant_word};
+ghost use Rattle.hz_free.specs.SeenWords.{seen_word, seen_words};
 
+use crate::words::constant_word;
+use hz_core::{Memory, Tri};
 use hz_word::{Count, Word};
+use std::alloc::Global;
 use std::marker::Model;
 
 /// A word or none, in eight bytes.
@@ -73,58 +80,99 @@ impl PackedWord {
             }),
         }
     }
+
+    /// A word without a change in place of the word, if there is one.
+    pub fn unchanged(self, first: bool) -> Option<Word>
+        ensures { result ≡ option_map (λ _. constant_word first) self }
+    {
+        let word = Word {
+            first,
+            changes: Count::Exact(0),
+        };
+        match self.word {
+            Packed::None => None,
+            Packed::Exact { .. } => Some(word),
+            Packed::Many { .. } => Some(word),
+        }
+    }
 }
 
-// What keeps a word or none.
-pub(crate) trait StoredWord: Copy {
-    ghost use Rattle.std.specs.Prelude.{Option};
+// The words that some variables have so far.
+pub(crate) trait ToldWords: Copy {
+    ghost use Rattle.std.specs.Prelude.{Option, List};
     ghost use Rattle.hz_word.specs.declared.word.Word.{Word};
 
-    // The word, if there is one.
-    ghost word_in: { Self → Option Word };
+    // For each variable its word, if it has one.
+    ghost told: { Self → List (Option Word) };
 
-    // No word.
-    fn none() -> Self
-        ensures { word_in result ≡ None };
-
-    // A word whose number of changes, if it is exact, is at most the greatest cap.
-    fn of(word: Word) -> Self
-        requires { IsWithinCap greatest_cap word.changes }
-        ensures { word_in result ≡ Some word };
-
-    // The word, if there is one.
-    fn get(self) -> Option<Word>
-        ensures { result ≡ word_in self };
+    // The word of a variable that has one.
+    fn word(self, var: u32) -> Word
+        requires { IsSome (slice_index_or (told self) var None) }
+        ensures { slice_index_or (told self) var None ≡ Some result };
 }
 
-impl StoredWord for Option<Word> {
-    ghost word_in = { λ word. word };
+// Words as they stand.
+#[derive(Clone, Copy)]
+pub(crate) struct Plain<'a> {
+    pub words: &'a [Option<Word>],
+}
 
-    fn none() -> Option<Word> {
-        None
-    }
+impl<'a> ToldWords for Plain<'a> {
+    ghost told = { λ plain. plain.words.now };
 
-    fn of(word: Word) -> Option<Word> {
-        Some(word)
-    }
-
-    fn get(self) -> Option<Word> {
-        self
+    fn word(self, var: u32) -> Word {
+        self.words[var as usize].unwrap()
     }
 }
 
-impl StoredWord for PackedWord {
-    ghost word_in = { λ word. word };
+// Words of which only those count whose variable is X in a result of Algorithm A. The others keep their value at the start.
+#[derive(Clone, Copy)]
+pub(crate) struct Seen<'a> {
+    pub start: &'a [bool],
+    pub a: &'a [Tri],
+    pub words: &'a [PackedWord],
+}
 
-    fn none() -> PackedWord {
+impl<'a> ToldWords for Seen<'a> {
+    ghost told = { λ seen. seen_words seen.start.now seen.a.now seen.words.now };
+
+    fn word(self, var: u32) -> Word {
+        if may_change(self.a, var) {
+            self.words[var as usize].get().unwrap()
+        } else {
+            constant_word(self.start[var as usize])
+        }
+    }
+}
+
+// Whether a variable is X in a result of Algorithm A.
+pub(crate) fn may_change(a: &[Tri], var: u32) -> bool
+    requires { var < length a.now }
+    ensures { result ≡ is_unknown (value_at a.now var) }
+{
+    a[var as usize] == Tri::Unknown
+}
+
+// For each variable whether it is feedback-free: a word without a change, or none.
+pub(crate) fn at_rest(alloc: Global, free: &[bool]) -> Result<Vec<PackedWord>, Memory>
+    ensures { IfOk result (λ words. map is_some words.items ≡ free.now) }
+{
+    let Ok(mut words) = Vec::with_capacity(alloc, free.len()) else {
+        return Err(Memory);
+    };
+    for is_free in free {
+        words.push_reserved(word_at_rest(*is_free));
+    }
+    Ok(words)
+}
+
+// A word without a change, or none.
+fn word_at_rest(is_free: bool) -> PackedWord
+    ensures { is_some result ≡ is_free }
+{
+    if is_free {
+        PackedWord::of(constant_word(false))
+    } else {
         PackedWord::none()
-    }
-
-    fn of(word: Word) -> PackedWord {
-        PackedWord::of(word)
-    }
-
-    fn get(self) -> Option<Word> {
-        PackedWord::get(self)
     }
 }

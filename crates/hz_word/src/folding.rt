@@ -11,7 +11,6 @@ use hz_core::Kind;
 
 /// The word of a gate, given the words of its pins: how often the gate may change at most, in whatever order its
 /// pins change.
-#[inline(always)]
 pub fn fold(kind: Kind, pins: &[Word], cap: u64) -> Word
     requires pins { IsTrue (takes kind (length pins.now)) }
     requires counted { All (λ pin. IsWithinCap cap pin.changes) pins.now }
@@ -23,7 +22,6 @@ pub fn fold(kind: Kind, pins: &[Word], cap: u64) -> Word
 }
 
 // By its connective, pin by pin.
-#[inline(always)]
 fn pin_by_pin(kind: Kind, pins: &[Word], cap: u64) -> Word
     requires pins { IsTrue (takes kind (length pins.now)) }
     requires counted { All (λ pin. IsWithinCap cap pin.changes) pins.now }

@@ -1,5 +1,5 @@
 -- The rows are those of the lists that were written, which are known of the change.
-use Rattle.std.proofs.Common.{◌≡◌, ◌∙◌, sym, ap, subst, Bool, Option, List, length, arith}
+use Rattle.std.proofs.Common.{◌≡◌, ◌∙◌, sym, ap, subst, Bool, Option, List, length, map, arith}
 use Rattle.std.specs.Vec.{with_items}
 use Rattle.std.proofs.lemmas.List.{with_items_is}
 use Rattle.hz_core.specs.declared.tri.Tri.{Tri}
@@ -7,20 +7,26 @@ use Rattle.hz_net.specs.Network.{network_of}
 use Rattle.hz_word.specs.declared.word.Word.{Word}
 use Rattle.hz_desk.specs.declared.finding.Row.{Row}
 use Rattle.hz_desk.specs.Finding.{values_a, values_b}
+use Rattle.std.specs.Prelude.{is_some}
+use Rattle.std.proofs.lemmas.List.{length-map}
+use Rattle.hz_free.specs.SeenWords.{seen_words}
+use Rattle.hz_free.specs.VariableWords.{AreCappedWords}
+use Rattle.hz_desk.specs.FindingRoom.{AreMarkedRows}
+use Rattle.hz_desk.specs.RowsOf.{AreEquallyLong}
 use Rattle.hz_desk.specs.Filled.{AreRowsOfChange}
 use Rattle.hz_desk.specs.ResultsOfPasses.{ArePassResults}
 use Rattle.hz_desk.specs.Rows.{MayBeRows}
 use Rattle.hz_desk.proofs.RowFacts.{may-be-rows}
-use Rattle.hz_desk.proofs.RowLists.{length-rows, same-rows, results-in-rows, rows-of-change}
+use Rattle.hz_desk.proofs.RowLists.{length-stored, same-stored, results-in-rows, rows-of-change, marked-rows}
 use Rattle.hz_desk.proofs.room.fill_rows.Goals as goal
 
 pub copy_from_slice-requires : goal.copy_from_slice-requires
 copy_from_slice-requires c =
     let rows = c.rows.inside in
-    omega (arith, ap length c.as_mut_slice.ensures.value, length-rows rows.start.items rows.a.items rows.b.items rows.words.items, ap length c.rows.view_is, c.requires.rows, c.requires.start.long)
+    omega (arith, ap length c.as_mut_slice.ensures.value, length-stored rows.start.items rows.a.items rows.b.items rows.words.items c.rows.invariant, ap length c.rows.view_is, c.requires.rows, c.requires.start.long)
 
-pub words_given_a-requires-clause-a : goal.words_given_a-requires-clause-a
-words_given_a-requires-clause-a c =
+pub write_unknown-requires-clause-a : goal.write_unknown-requires-clause-a
+write_unknown-requires-clause-a c =
     let was = c.rows.inside in
     let a : List Tri = c.make-rounds.new.a in
     let passed = c.make-rounds.ensures.passed in
@@ -29,6 +35,21 @@ words_given_a-requires-clause-a c =
       passed.a_rounds,
       c.as_slice.ensures.value ∙ (a_is ∙ passed.a_result),
     )
+
+pub write_unknown-requires-clause-change : goal.write_unknown-requires-clause-change
+write_unknown-requires-clause-change c = record {
+  begins = c.requires.start;
+  input_long = c.requires.input;
+  cap_low = c.requires.cap_low;
+  cap_high = c.requires.cap_high;
+}
+
+pub write_unknown-requires-clause-out : goal.write_unknown-requires-clause-out
+write_unknown-requires-clause-out c =
+    let was = c.rows.inside in
+    ap (map is_some) c.as_mut_slice-4.ensures.value
+    ∙ (sym (marked-rows was.start.items was.a.items was.b.items was.words.items c.rows.invariant)
+    ∙ (ap (map (λ (row : Row). is_some row.changes)) c.rows.view_is ∙ c.requires.marked))
 
 pub returns : goal.returns
 returns c =
@@ -39,22 +60,31 @@ returns c =
     let start : List Bool = c.args.start.now in
     let a : List Tri = c.make-rounds.new.a in
     let b : List Tri = c.make-rounds.new.b in
-    let words : List (Option Word) = c.words_given_a.new.out in
+    let stored : List (Option Word) = c.write_unknown.new.out in
+    let words : List (Option Word) = seen_words start a stored in
     let passes = c.make-rounds.new.self in
     let rounds = c.make-rounds.result in
     let start_is : (with_items was.start c.copy_from_slice.new.self).items ≡ start =
     with_items_is was.start c.copy_from_slice.new.self (omega (arith, c.copy_from_slice.auto.self, c.as_mut_slice.ensures.len)) ∙ c.copy_from_slice.ensures.after in
     let a_is : (with_items was.a a).items ≡ a = with_items_is was.a a (omega (arith, c.make-rounds.auto.a, c.as_mut_slice-2.ensures.len)) in
     let b_is : (with_items was.b b).items ≡ b = with_items_is was.b b (omega (arith, c.make-rounds.auto.b, c.as_mut_slice-3.ensures.len)) in
-    let words_are : (with_items was.words words).items ≡ words = with_items_is was.words words (omega (arith, c.words_given_a.auto.out, c.as_mut_slice-4.ensures.len)) in
-    let same = same-rows start a b words (with_items was.start c.copy_from_slice.new.self).items (with_items was.a a).items (with_items was.b b).items (with_items was.words words).items start_is a_is b_is words_are in
+    let words_are : (with_items was.words stored).items ≡ stored = with_items_is was.words stored (omega (arith, c.write_unknown.auto.out, c.as_mut_slice-4.ensures.len)) in
+    let same = same-stored start a b stored (with_items was.start c.copy_from_slice.new.self).items (with_items was.a a).items (with_items was.b b).items (with_items was.words stored).items start_is a_is b_is words_are in
     let passed = c.make-rounds.ensures.passed in
+    let told : AreCappedWords net input start c.args.cap words =
+    subst (λ (list : List Tri). AreCappedWords net input start c.args.cap (seen_words start list stored)) (c.as_slice.ensures.value ∙ a_is) c.write_unknown.ensures.words in
     let may : MayBeRows (length net) start a b words =
     may-be-rows c.words_change.ensures netlist c.args.free.now.free input start c.args.cap a passes.ranks.items b passes.when.items rounds.a rounds.b words
-    c.len-variables.ensures.circuit c.len-variables.ensures.whole c.requires.free.marks c.requires.start passed c.words_given_a.ensures in
+    c.len-variables.ensures.circuit c.len-variables.ensures.whole c.requires.free.marks c.requires.start passed told in
+    let long : AreEquallyLong start a b stored = record {
+      a_long = may.a_long ∙ sym may.start_long;
+      b_long = may.b_long ∙ sym may.start_long;
+      words_long = sym (length-map stored is_some) ∙ (ap length c.write_unknown.ensures.out ∙ (c.requires.free.marks.long ∙ sym may.start_long));
+    } in
     record {
       passed = subst (λ (rows : List Row). ArePassResults netlist input start (values_a rows) passes.ranks.items (values_b rows) passes.when.items rounds.a rounds.b) (sym same)
           (results-in-rows start a b words (length net) may netlist input passes.ranks.items passes.when.items rounds.a rounds.b passed);
       passes = c.make-rounds.ensures.room;
-      rows = subst (AreRowsOfChange net input start c.args.cap) (sym same) (rows-of-change start a b words (length net) may net input c.args.cap c.words_given_a.ensures);
+      rows = subst (AreRowsOfChange net input start c.args.cap) (sym same) (rows-of-change start a b words (length net) may net input c.args.cap told);
+      marked = subst (AreMarkedRows c.args.free.now.free) (sym same) (marked-rows start a b stored long ∙ c.write_unknown.ensures.out);
     }

@@ -4,9 +4,7 @@ use Rattle.hz_free.proofs.KeptWords.{none-set, none-all}
 use Rattle.hz_free.proofs.free.clear.Goals as goal
 
 pub loop-word-preserved : goal.loop-word-preserved
-loop-word-preserved g c =
-    none-set g.S.StoredWord.word_in c.loop-word.out c.loop-word.word-index c.none.result c.none.ensures c.loop-word.invariant
+loop-word-preserved c = none-set c.loop-word.out c.loop-word.word-index c.loop-word.invariant
 
 pub returns : goal.returns
-returns g c =
-    none-all g.S.StoredWord.word_in c.loop-word.out (λ k few. c.loop-word.invariant k (omega (arith, few)))
+returns c = none-all c.loop-word.out (λ k few. c.loop-word.invariant k (omega (arith, few)))

@@ -3,35 +3,35 @@ use Rattle.std.proofs.Common.{◌≡◌, ◌∙◌, ◌<◌, sym, ap, subst, Lis
 use Rattle.std.specs.List.{slice_get}
 use Rattle.hz_desk.specs.declared.finding.Row.{Row}
 use Rattle.hz_desk.specs.RowsOf.{row_with}
-use Rattle.hz_desk.proofs.RowLists.{length-rows, row-read}
+use Rattle.hz_desk.proofs.RowLists.{length-stored, stored-row}
 use Rattle.hz_desk.proofs.finding.Rows.row.Goals as goal
+
+pub index-start-requires : goal.index-start-requires
+index-start-requires c =
+    let rows = c.self.inside in
+    omega (arith, ap length c.self.view_is, length-stored rows.start.items rows.a.items rows.b.items rows.words.items c.self.invariant, rows.start.ok.0)
+
+pub index-a-requires : goal.index-a-requires
+index-a-requires c =
+    let rows = c.self.inside in
+    omega (arith, ap length c.self.view_is, length-stored rows.start.items rows.a.items rows.b.items rows.words.items c.self.invariant, rows.a.ok.0)
 
 pub index-requires : goal.index-requires
 index-requires c =
     let rows = c.self.inside in
-    omega (arith, ap length c.self.view_is, length-rows rows.start.items rows.a.items rows.b.items rows.words.items, rows.start.ok.0)
+    omega (arith, ap length c.self.view_is, length-stored rows.start.items rows.a.items rows.b.items rows.words.items c.self.invariant, rows.b.ok.0)
 
 pub index-requires-2 : goal.index-requires-2
 index-requires-2 c =
     let rows = c.self.inside in
-    omega (arith, ap length c.self.view_is, length-rows rows.start.items rows.a.items rows.b.items rows.words.items, rows.a.ok.0)
-
-pub index-requires-3 : goal.index-requires-3
-index-requires-3 c =
-    let rows = c.self.inside in
-    omega (arith, ap length c.self.view_is, length-rows rows.start.items rows.a.items rows.b.items rows.words.items, rows.b.ok.0)
-
-pub index-requires-4 : goal.index-requires-4
-index-requires-4 c =
-    let rows = c.self.inside in
-    omega (arith, ap length c.self.view_is, length-rows rows.start.items rows.a.items rows.b.items rows.words.items, rows.words.ok.0)
+    omega (arith, ap length c.self.view_is, length-stored rows.start.items rows.a.items rows.b.items rows.words.items c.self.invariant, rows.words.ok.0)
 
 pub returns : goal.returns
 returns c =
     let rows = c.self.inside in
     let within : c.args.var < length rows.start.items =
-    omega (arith, c.requires, ap length c.self.view_is, length-rows rows.start.items rows.a.items rows.b.items rows.words.items) in
+    omega (arith, c.requires, ap length c.self.view_is, length-stored rows.start.items rows.a.items rows.b.items rows.words.items c.self.invariant) in
     subst (λ (list : List Row). slice_get list c.args.var ≡ Some c.row_of.result) c.self.view_is
-    (row-read rows.start.items rows.a.items rows.b.items rows.words.items c.self.invariant c.args.var c.index.result.now c.index-2.result.now c.index-3.result.now c.index-4.result.now within
-    c.index.ensures c.index-2.ensures c.index-3.ensures c.index-4.ensures
-    ∙ ap (λ (row : Row). Some row) (ap (row_with c.index.result.now c.index-2.result.now c.index-3.result.now) (sym c.get.ensures) ∙ sym c.row_of.ensures))
+    (stored-row rows.start.items rows.a.items rows.b.items rows.words.items c.self.invariant c.args.var c.index-start.result.now c.index-a.result.now c.index.result.now c.index-2.result.now within
+    c.index-start.ensures c.index-a.ensures c.index.ensures c.index-2.ensures
+    ∙ ap (λ (row : Row). Some row) (ap (row_with c.index-start.result.now c.index-a.result.now c.index.result.now) (sym c.seen.ensures) ∙ sym c.row_of.ensures))

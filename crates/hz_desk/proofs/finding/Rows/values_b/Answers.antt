@@ -1,11 +1,12 @@
 -- These are the values of all rows.
 use Rattle.std.proofs.Common.{◌∙◌, sym, ap}
 use Rattle.hz_desk.specs.Finding.{values_b}
-use Rattle.hz_desk.proofs.RowLists.{b-are}
+use Rattle.hz_free.specs.SeenWords.{seen_words}
+use Rattle.hz_desk.proofs.RowLists.{b-are, seen-long}
 use Rattle.hz_desk.proofs.finding.Rows.values_b.Goals as goal
 
 pub returns : goal.returns
 returns c =
     let rows = c.self.inside in
     c.as_slice.ensures.value
-    ∙ (sym (b-are rows.start.items rows.a.items rows.b.items rows.words.items c.self.invariant) ∙ ap values_b c.self.view_is)
+    ∙ (sym (b-are rows.start.items rows.a.items rows.b.items (seen_words rows.start.items rows.a.items rows.words.items) (seen-long rows.start.items rows.a.items rows.b.items rows.words.items c.self.invariant)) ∙ ap values_b c.self.view_is)

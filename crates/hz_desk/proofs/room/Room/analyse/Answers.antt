@@ -47,6 +47,7 @@ returns-clause-room c =
       finding = record {
         variables_are = c.requires.room.finding.variables_are;
         rows = sym (length-map rows (λ (row : Row). row.start)) ∙ (ap length are.starts ∙ c.requires.start.long);
+        marked = c.fill_rows-rounds.ensures.marked;
         input = ap length c.write.ensures ∙ c.requires.input;
         spread = c.make_runs-common.ensures.spread_room;
         settle = c.make_runs-common.ensures.settle_room;
