@@ -9,7 +9,7 @@ use Rattle.std.proofs.lemmas.List.FromFn.{length-range_with_len}
 use Rattle.std.proofs.lemmas.List.Sums.{sum_by-cons, count_by-le-length}
 use Rattle.hz_core.specs.declared.kind.Kind.{Kind}
 use Rattle.hz_core.specs.Netlist.{Netlist, IsCircuit}
-use Rattle.hz_net.specs.Network.{Driver, Function, Source, network_of, driver_at, driver_value, bit_at}
+use Rattle.hz_net.specs.Network.{Driver, Function, Source, network_of, driver_at, driver_value, bit_at, excitation}
 use Rattle.hz_net.specs.Variables.{fan_out_of}
 use Rattle.hz_net.specs.Reads.{IsWireInto, IsWired}
 use Rattle.hz_net.proofs.Places.{length-network_of, length-wires_of, first_wire-bound}
@@ -20,8 +20,8 @@ use Rattle.hz_gmw.specs.CurrentState.{AreCounts, with_readers}
 use Rattle.hz_gmw.proofs.GateOnes.{twice-not}
 use Rattle.hz_gmw.proofs.Flips.{state_after-one}
 use Rattle.hz_gmw.proofs.Counting.{weight, range-term, list-term, range-same, range-one, range-listed, list-same, list-one, list-turned, count-map}
-use Rattle.hz_gmw.proofs.DriverLemmas.{fan-driver, fan-above, fan-length, driver-fan, fan-once, around-once, around-inside}
-use Rattle.hz_gmw.proofs.Unchanged.{is_unstable-state_after, is_unstable-input}
+use Rattle.hz_gmw.proofs.DriverLemmas.{fan-driver, fan-above, fan-length, driver-fan, fan-once, around-wire, around-once, around-inside}
+use Rattle.hz_gmw.proofs.Unchanged.{is_unstable-state_after, is_unstable-input, excitation-node}
 use Rattle.hz_gmw.proofs.SetLemmas.{unmarked}
 use Rattle.hz_core.specs.Limits.{most_variables}
 
@@ -48,6 +48,41 @@ weights true false e = refl
 weights false true e = refl
 weights false false e = absurd (false≢true e)
 
+not-not-not : (b : Bool) → not (not (not b)) ≡ not b
+not-not-not true = refl
+not-not-not false = refl
+
+-- a node changes: each wire from it is unstable either before or after
+fan-turned : (netlist : Netlist) (input state : List Bool) (node : ℕ) → IsCircuit netlist → node < length netlist.names → length netlist.names ≤ length state → count_by (is_unstable (network_of netlist) input (set state node (not (bit_at state node)))) (fan_out_of netlist node) + count_by (is_unstable (network_of netlist) input state) (fan_out_of netlist node) ≡ length (fan_out_of netlist node)
+fan-turned netlist input state node circuit inside more =
+    let state' = set state node (not (bit_at state node)) in
+    let now : bit_at state' node ≡ not (bit_at state node) = get_or-set_same state node (not (bit_at state node)) false (omega (arith, inside, more)) in
+    list-turned (λ i. weight (is_unstable (network_of netlist) input state' i)) (λ i. weight (is_unstable (network_of netlist) input state i)) (fan_out_of netlist node) (λ wire there.
+    let above = fan-above netlist node wire there in
+    let driver = fan-driver netlist node wire circuit there in
+    let kept : bit_at state' wire ≡ bit_at state wire = get_or-set_other state node wire (not (bit_at state node)) false (λ e. omega (arith, above, inside, e)) in
+    let before = wire-unstable netlist input state wire node driver in
+    let after : is_unstable (network_of netlist) input state' wire ≡ not (beq (bit_at state wire) (not (bit_at state node))) =
+    wire-unstable netlist input state' wire node driver ∙ (ap (λ (b : Bool). not (beq b (bit_at state' node))) kept ∙ ap (λ (b : Bool). not (beq (bit_at state wire) b)) now) in
+    weights (is_unstable (network_of netlist) input state wire) (is_unstable (network_of netlist) input state' wire)
+    (before ∙ sym (ap not (after ∙ turned-right (bit_at state wire) (bit_at state node)) ∙ not-not-not (beq (bit_at state wire) (bit_at state node)))))
+
+-- and so is the node itself
+pub node-turned : (netlist : Netlist) (input state input' state' : List Bool) (node : ℕ) → IsCircuit netlist → node < length netlist.names → length netlist.names ≤ length state → input' ≡ input → state' ≡ set state node (not (bit_at state node)) → count_by (is_unstable (network_of netlist) input' state') (node ∷ fan_out_of netlist node) + count_by (is_unstable (network_of netlist) input state) (node ∷ fan_out_of netlist node) ≡ 1 + length (fan_out_of netlist node)
+node-turned netlist input state input' state' node circuit inside more input_is state_is =
+    let bit = bit_at state node in
+    let next = set state node (not bit) in
+    let unstable : List Bool → ℕ → Bool = is_unstable (network_of netlist) input in
+    let after : unstable next node ≡ not (unstable state node) =
+    ap (λ (b : Bool). not (beq b (excitation (network_of netlist) input next node))) (get_or-set_same state node (not bit) false (omega (arith, inside, more))) ∙
+    (ap (λ (b : Bool). not (beq (not bit) b)) (excitation-node netlist input state node (not bit) circuit inside) ∙ turned-left bit (excitation (network_of netlist) input state node)) in
+    let own : weight (unstable state node) + weight (unstable next node) ≡ 1 = weights (unstable next node) (unstable state node) after in
+    let wires = fan-turned netlist input state node circuit inside more in
+    let sum : count_by (unstable next) (node ∷ fan_out_of netlist node) + count_by (unstable state) (node ∷ fan_out_of netlist node) ≡ 1 + length (fan_out_of netlist node) =
+    omega (arith, own, wires, sum_by-cons (λ (i : ℕ). weight (unstable next i)) node (fan_out_of netlist node), sum_by-cons (λ (i : ℕ). weight (unstable state i)) node (fan_out_of netlist node)) in
+    ap (λ (values : List Bool). count_by (is_unstable (network_of netlist) input' values) (node ∷ fan_out_of netlist node) + count_by (unstable state) (node ∷ fan_out_of netlist node)) state_is ∙
+    (ap (λ (given : List Bool). count_by (is_unstable (network_of netlist) given next) (node ∷ fan_out_of netlist node) + count_by (unstable state) (node ∷ fan_out_of netlist node)) input_is ∙ sum)
+
 module _ (netlist : Netlist) (circuit : IsCircuit netlist) (input state : List Bool) (ones lagging : List ℕ) where
   net : List Driver
   net = network_of netlist
@@ -71,16 +106,7 @@ module _ (netlist : Netlist) (circuit : IsCircuit netlist) (input state : List B
             range-same (λ i. weight (bit_at state i)) (λ i. weight (bit_at state' i)) first pins (λ i from below. ap weight (sym (kept i (omega (arith, from, above, inside)))));
         wires = λ other few. elim (cases_eq other node) [
           | inl same ↦ (
-              let turned : (wire : ℕ) → is_listed (fan_out_of netlist node) wire ≡ true → weight (is_unstable (network_of netlist) input state' wire) + weight (is_unstable (network_of netlist) input state wire) ≡ 1 =
-              λ wire there.
-              let above = fan-above netlist node wire there in
-              let driver = fan-driver netlist node wire circuit there in
-              let before = wire-unstable netlist input state wire node driver in
-              let after : is_unstable (network_of netlist) input state' wire ≡ not (beq (bit_at state wire) (not (bit_at state node))) =
-              wire-unstable netlist input state' wire node driver ∙ (ap (λ (b : Bool). not (beq b (bit_at state' node))) (kept wire (omega (arith, above, inside))) ∙ ap (λ (b : Bool). not (beq (bit_at state wire) b)) now) in
-              weights (is_unstable (network_of netlist) input state wire) (is_unstable (network_of netlist) input state' wire)
-              (before ∙ sym (ap not (after ∙ turned-right (bit_at state wire) (bit_at state node)) ∙ not-not-not (beq (bit_at state wire) (bit_at state node)))) in
-              let total = list-turned (λ i. weight (is_unstable (network_of netlist) input state' i)) (λ i. weight (is_unstable (network_of netlist) input state i)) (fan_out_of netlist node) turned in
+              let total = fan-turned netlist input state node circuit inside more in
               let was = counts.wires node inside in
               let here : get_or (set lagging node count) other 0 ≡ count = ap (λ (n : ℕ). get_or (set lagging node count) n 0) same ∙ get_or-set_same lagging node count 0 within in
               let then : count ≡ count_by (is_unstable (network_of netlist) input state') (fan_out_of netlist node) = omega (arith, total, was, sum) in
@@ -96,10 +122,6 @@ module _ (netlist : Netlist) (circuit : IsCircuit netlist) (input state : List B
               (ap (λ (b : Bool). not (beq (bit_at state' wire) b)) (sym (kept other differ)) ∙ sym (wire-unstable netlist input state' wire other driver))))))
         ];
       }
-    where
-      not-not-not : (b : Bool) → not (not (not b)) ≡ not b
-      not-not-not true = refl
-      not-not-not false = refl
 
   -- a wire changes: one pin of its gate, and how it stands to its source
   pub AreCounts-wire : (wire gate source one lag : ℕ) → AreCounts netlist input state ones lagging → IsWireInto (network_of netlist) gate wire → driver_at (network_of netlist) wire ≡ Source source → wire < length state → length netlist.names ≤ wire → gate < length ones → source < length lagging → length lagging ≡ length netlist.names → one + weight (bit_at state wire) ≡ get_or ones gate 0 + weight (not (bit_at state wire)) → lag + weight (not (beq (bit_at state wire) (bit_at state source))) ≡ get_or lagging source 0 + weight (not (beq (not (bit_at state wire)) (bit_at state source))) → AreCounts netlist input (set state wire (not (bit_at state wire))) (set ones gate one) (set lagging source lag)
@@ -178,6 +200,39 @@ wire-above netlist circuit gate wire into =
     let place = (is_gate_of netlist circuit gate into.kind into.first into.pins into.driven).first_is in
     let lowest : into.first ≤ wire = into.above in
     omega (arith, place, lowest)
+
+-- a wire that changes turns: it is unstable if it was not
+pub wire-turned : (netlist : Netlist) (input state : List Bool) (wire source : ℕ) (bit low : Bool) → driver_at (network_of netlist) wire ≡ Source source → source < wire → wire < length state → bit ≡ bit_at state wire → low ≡ bit_at state source → (not (beq (not bit) low) ≡ is_unstable (network_of netlist) input (set state wire (not bit)) wire) × (is_unstable (network_of netlist) input state wire ≡ not (not (beq (not bit) low)))
+wire-turned netlist input state wire source bit low from less inside bit_is low_is =
+    let state' = set state wire (not bit) in
+    let now : bit_at state' wire ≡ not bit = get_or-set_same state wire (not bit) false inside in
+    let same : bit_at state' source ≡ low = get_or-set_other state wire source (not bit) false (λ e. omega (arith, less, e)) ∙ sym low_is in
+    let after : is_unstable (network_of netlist) input state' wire ≡ not (beq (not bit) low) =
+    wire-unstable netlist input state' wire source from ∙ (ap (λ (b : Bool). not (beq b (bit_at state' source))) now ∙ ap (λ (b : Bool). not (beq (not bit) b)) same) in
+    let before : is_unstable (network_of netlist) input state wire ≡ not (beq bit low) =
+    wire-unstable netlist input state wire source from ∙ (ap (λ (b : Bool). not (beq b (bit_at state source))) (sym bit_is) ∙ ap (λ (b : Bool). not (beq bit b)) (sym low_is)) in
+    (sym after, before ∙ sym (ap not (turned-left bit low) ∙ not-not-not (beq bit low)))
+
+-- how many are unstable among a wire and its gate, before the wire changes and after
+pub around-changed : (netlist : Netlist) (input state input' state' : List Bool) (wire gate : ℕ) (lags value before after : Bool) → IsCircuit netlist → IsWireInto (network_of netlist) gate wire → gate < length netlist.names → wire < length (network_of netlist) → input' ≡ input → state' ≡ set state wire (not (bit_at state wire)) → lags ≡ is_unstable (network_of netlist) input' state' wire → is_unstable (network_of netlist) input state wire ≡ not lags → value ≡ bit_at state' gate → before ≡ excitation (network_of netlist) input' state gate → after ≡ excitation (network_of netlist) input' state' gate → (cond (not lags) 1 0 + cond (not (beq value before)) 1 0 ≡ count_by (is_unstable (network_of netlist) input state) (with_readers netlist wire)) × (cond lags 1 0 + cond (not (beq value after)) 1 0 ≡ count_by (is_unstable (network_of netlist) input' state') (with_readers netlist wire))
+around-changed netlist input state input' state' wire gate lags value before after circuit into gate_in inside input_is state_is lags_is turned value_is before_is after_is =
+    let above = wire-above netlist circuit gate wire into in
+    let sum : (given values : List Bool) → count_by (is_unstable (network_of netlist) given values) (with_readers netlist wire) ≡ weight (is_unstable (network_of netlist) given values wire) + weight (is_unstable (network_of netlist) given values gate) =
+    λ given values.
+    let unstable : ℕ → ℕ = λ i. weight (is_unstable (network_of netlist) given values i) in
+    let list : count_by (is_unstable (network_of netlist) given values) (with_readers netlist wire) ≡ count_by (is_unstable (network_of netlist) given values) (wire ∷ gate ∷ []) =
+    ap (count_by (is_unstable (network_of netlist) given values)) (around-wire netlist circuit gate wire into above inside) in
+    let none : sum_by unstable [] ≡ 0 = refl in
+    omega (arith, list, none, sum_by-cons unstable wire (gate ∷ []), sum_by-cons unstable gate []) in
+    let kept : value ≡ bit_at state gate = value_is ∙ (ap (λ (values : List Bool). bit_at values gate) state_is ∙ get_or-set_other state wire gate (not (bit_at state wire)) false (λ e. omega (arith, above, gate_in, e))) in
+    let gate_before : cond (not (beq value before)) 1 0 ≡ weight (is_unstable (network_of netlist) input state gate) =
+    ap (λ (b : Bool). weight (not (beq b before))) kept ∙
+    (ap (λ (b : Bool). weight (not (beq (bit_at state gate) b))) before_is ∙ ap (λ (given : List Bool). weight (is_unstable (network_of netlist) given state gate)) input_is) in
+    let gate_after : cond (not (beq value after)) 1 0 ≡ weight (is_unstable (network_of netlist) input' state' gate) =
+    ap (λ (b : Bool). weight (not (beq b after))) value_is ∙ ap (λ (b : Bool). weight (not (beq (bit_at state' gate) b))) after_is in
+    let wire_before : cond (not lags) 1 0 ≡ weight (is_unstable (network_of netlist) input state wire) = ap weight (sym turned) in
+    let wire_after : cond lags 1 0 ≡ weight (is_unstable (network_of netlist) input' state' wire) = ap weight lags_is in
+    (omega (arith, sum input state, gate_before, wire_before), omega (arith, sum input' state', gate_after, wire_after))
 
 -- an input changes: the counts of nodes stay
 pub AreCounts-input : (netlist : Netlist) (input input' state : List Bool) (ones lagging : List ℕ) → IsCircuit netlist → AreCounts netlist input state ones lagging → AreCounts netlist input' state ones lagging

@@ -6,8 +6,12 @@ use Rattle.std.proofs.lemmas.Bool.{cases_eq, eq-eqb, ne_eqb}
 use Rattle.std.proofs.lemmas.List.{ext_get_or}
 use Rattle.std.proofs.lemmas.List.FromFn.{length-map-range_with_len, get_or-map-range_with_len}
 use Rattle.std.proofs.lemmas.List.Sums.{sum_by-cons, count_by-le-length}
-use Rattle.hz_core.specs.Gate.{every_pin, some_pin}
-use Rattle.hz_net.specs.Network.{bit_at}
+use Rattle.hz_core.specs.Gate.{every_pin, some_pin, gate_value}
+use Rattle.hz_core.specs.Netlist.{Netlist, gate_at}
+use Rattle.hz_core.specs.declared.kind.Kind.{Kind}
+use Rattle.hz_net.specs.Driven.{IsGateAt}
+use Rattle.hz_net.specs.Network.{network_of, bit_at, driver_value, excitation}
+use Rattle.hz_net.specs.Variables.{first_wire}
 use Rattle.hz_lists.proofs.PartLemmas.{length-part, at-part}
 use Rattle.hz_gmw.proofs.Counting.{weight, count-map}
 
@@ -47,6 +51,15 @@ some-ones (false ∷ bits) =
     let more = sum_by-cons weight false bits in
     let same : count_by (λ bit. bit) (false ∷ bits) ≡ count_by (λ bit. bit) bits = omega (arith, more) in
     some-ones bits ∙ sym (ap (λ (n : ℕ). not (nat_eq n 0)) same)
+
+-- a value that is right for any bits with so many ones is a gate's excitation where so many of its wires are 1
+pub excited-by-ones : (netlist : Netlist) (input state : List Bool) (gate : ℕ) (kind : Kind) (ones : ℕ) (value : Bool) → IsGateAt netlist gate kind → length state ≡ length (network_of netlist) → ones ≡ count_by (bit_at state) (range_with_len (first_wire netlist gate) (length (gate_at netlist gate).sources)) → ((bits : List Bool) → length bits ≡ length (gate_at netlist gate).sources → count_by (λ bit. bit) bits ≡ ones → value ≡ gate_value kind bits) → value ≡ excitation (network_of netlist) input state gate
+excited-by-ones netlist input state gate kind ones value at long counted right =
+    let first = first_wire netlist gate in
+    let pins = length (gate_at netlist gate).sources in
+    let fits : first + pins ≤ length state = omega (arith, at.inside, long) in
+    right (slice_range state first (first + pins)) (length-part state first pins (λ k few. omega (arith, few, fits)))
+    (part-ones state first pins fits ∙ sym counted) ∙ sym (ap (driver_value input state) at.driven)
 
 -- a conjunction and a disjunction by a count of ones
 pub and-value : (bits : List Bool) (ones pins : ℕ) → length bits ≡ pins → count_by (λ bit. bit) bits ≡ ones → nat_eq ones pins ≡ every_pin bits

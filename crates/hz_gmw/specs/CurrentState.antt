@@ -41,6 +41,13 @@ pub record AreCounts (netlist : Netlist) (input state : List Bool)
       slice_index_or lagging node 0
       ≡ count_by (is_unstable (network_of netlist) input state) (fan_out_of netlist node)
 
+-- a gate has that many wires that are 1 in a state
+abbrev pub AreOnes : Netlist → List Bool → ℕ → ℕ → Type 0
+AreOnes netlist state gate ones =
+    (kind : Kind) (first pins : ℕ) →
+    driver_at (network_of netlist) gate ≡ Function kind first pins →
+    ones ≡ count_by (bit_at state) (range_with_len first pins)
+
 -- the counts of nodes are right
 pub record IsCounted (netlist : Netlist) (current : CurrentState) : Type 0 where
   pub fits : Fits netlist current

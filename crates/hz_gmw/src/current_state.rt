@@ -10,9 +10,9 @@
 //! every `flip` and `set_input`.
 //!
 //! What breaks if you add a kind: one that is not symmetric in its pins (a multiplexer) has no value by a count of ones. If you
-//! add a kind of variable with readers of its own: `change_node`, `unstable_from` and `unstable_into` do not count them.
-ghost use Rattle.std.specs.Prelude.{◌≡◌, ◌<◌, ◌≤◌, ◌-◌, ◌+◌, ◌∷◌, true, false, not, length, count_by, sum_by, All, IfOk, slice_set, replicate, if◌then◌else◌};
-ghost use Rattle.hz_core.specs.Netlist.{IsCircuit};
+//! add a kind of variable with readers of its own: `change_node`, `unstable_from` and `flip_wire` do not count them.
+ghost use Rattle.std.specs.Prelude.{◌≡◌, ◌<◌, ◌≤◌, ◌-◌, ◌+◌, ◌∷◌, true, false, not, length, count_by, sum_by, All, IfOk, slice_set, replicate, List, Bool, if◌then◌else◌};
+ghost use Rattle.hz_core.specs.Netlist.{IsCircuit, IsGateNumber};
 ghost use Rattle.hz_net.specs.Network.{network_of, driver_at, excitation, Source, IsState, IsInput, IsVariable};
 ghost use Rattle.hz_net.specs.Reads.{IsWireInto};
 ghost use Rattle.hz_net.specs.Variables.{fan_out_of};
@@ -42,7 +42,7 @@ pub(crate) struct CurrentState {
 }
 
 impl CurrentState {
-    ghost use Rattle.hz_gmw.specs.CurrentState.{IsCounted, IsExact, lags_in, excitation_in, with_flip, with_readers, with_bits_of, unstable_from};
+    ghost use Rattle.hz_gmw.specs.CurrentState.{IsCounted, IsExact, lags_in, excitation_in, with_flip, with_bits_of, unstable_from, AreOnes};
 
     /// Every input and every variable is 0.
     pub(crate) fn new(alloc: Global, net: &Net) -> Result<CurrentState, Memory>
@@ -221,7 +221,8 @@ impl CurrentState {
         }
     }
 
-    // Changes a node. Its excitation stays, since a node doesn't read itself.
+    // Changes a node. Its excitation stays, since a node doesn't read itself. So what is unstable among it and the wires from it
+    // becomes stable, and the others unstable.
     fn flip_node(&mut self, net: &Net, node: u32, kind: VarKind)
         requires exact { IsExact net.now self.old }
         requires kind { IsDrivenAs net.now node kind }
@@ -231,9 +232,10 @@ impl CurrentState {
         ensures state { self.new.state.items ≡ with_flip self.old.state.items node }
     {
         let excited = self.excited_as(net, node, kind);
-        self.unstable -= self.unstable_from(net, node, excited);
-        self.change_node(net, node);
-        self.unstable += self.unstable_from(net, node, excited);
+        let unstable = self.unstable_from(net, node, excited);
+        let wires = self.change_node(net, node);
+        self.unstable -= unstable;
+        self.unstable += wires + 1 - unstable;
     }
 
     // Changes a wire. Only its gate reads it.
@@ -248,28 +250,34 @@ impl CurrentState {
         ensures input { self.new.input.items ≡ self.old.input.items }
         ensures state { self.new.state.items ≡ with_flip self.old.state.items wire }
     {
-        let kind = kind_at(net, gate);
-        self.unstable -= self.unstable_into(net, wire, source, gate, kind);
-        self.change_wire(net, wire, gate, source);
-        self.unstable += self.unstable_into(net, wire, source, gate, kind);
+        let ones = self.ones[gate as usize];
+        let unstable = self.change_wire(net, wire, gate, source);
+        let (before, after) = self.excited_around(net, gate, ones);
+        let value = self.state[gate as usize];
+        self.unstable -= one_if(!unstable) + one_if(value != before);
+        self.unstable += one_if(unstable) + one_if(value != after);
     }
 
-    // A node changes: of the wires from it the stable ones become unstable, and the others stable.
-    fn change_node(&mut self, net: &Net, node: u32)
+    // A node changes: of the wires from it the stable ones become unstable, and the others stable. Returns how many wires there
+    // are.
+    fn change_node(&mut self, net: &Net, node: u32) -> u32
         requires counted { IsCounted net.now self.old }
         requires node { node < length net.now.names }
         ensures counted { IsCounted net.now self.new }
         ensures input { self.new.input.items ≡ self.old.input.items }
         ensures state { self.new.state.items ≡ with_flip self.old.state.items node }
         ensures unstable { self.new.unstable ≡ self.old.unstable }
+        ensures wires { result ≡ length (fan_out_of net.now node) }
     {
         let wires = net.fan_out(node).len() as u32;
         self.state[node as usize] = !self.state[node as usize];
         self.unstable_wires[node as usize] = wires - self.unstable_wires[node as usize];
+        wires
     }
 
-    // A wire changes: its gate has one more pin at 1, or one less, and its source one more unstable wire, or one less.
-    fn change_wire(&mut self, net: &Net, wire: u32, gate: u32, source: u32)
+    // A wire changes: its gate has one more pin at 1, or one less, and its source one more unstable wire, or one less. Returns
+    // whether the wire is unstable now; it was not before, or the other way round.
+    fn change_wire(&mut self, net: &Net, wire: u32, gate: u32, source: u32) -> bool
         requires counted { IsCounted net.now self.old }
         requires into { IsWireInto (network_of net.now) gate wire }
         requires from { driver_at (network_of net.now) wire ≡ Source source }
@@ -280,6 +288,8 @@ impl CurrentState {
         ensures input { self.new.input.items ≡ self.old.input.items }
         ensures state { self.new.state.items ≡ with_flip self.old.state.items wire }
         ensures unstable { self.new.unstable ≡ self.old.unstable }
+        ensures lags { result ≡ lags_in net.now self.new wire }
+        ensures turned { lags_in net.now self.old wire ≡ not result }
     {
         let value = !self.state[wire as usize];
         let unstable = value != self.state[source as usize];
@@ -289,6 +299,7 @@ impl CurrentState {
             self.unstable_wires[source as usize],
             unstable,
         );
+        unstable
     }
 
     // The excitation of a variable: of a gate by its count of ones.
@@ -316,20 +327,25 @@ impl CurrentState {
         }
     }
 
-    // How many variables are unstable among a wire and its gate.
-    fn unstable_into(&self, net: &Net, wire: u32, source: u32, gate: u32, kind: VarKind) -> u32
+    // The excitation of a gate in a state in which that many of its wires are 1, and its excitation now.
+    fn excited_around(&self, net: &Net, gate: u32, ones: u32) -> (bool, bool)
         requires counted { IsCounted net.now self.now }
-        requires into { IsWireInto (network_of net.now) gate wire }
-        requires from { driver_at (network_of net.now) wire ≡ Source source }
-        requires source { source < length net.now.names }
-        requires wire { IsVariable net.now wire }
-        requires kind { IsDrivenAs net.now gate kind }
-        requires gate { gate < length net.now.names }
-        ensures { result ≡ count_by (lags_in net.now self.now) (with_readers net.now wire) }
+        requires gate { IsGateNumber net.now gate }
+        ensures before { (state : List Bool) → IsState net.now state
+            → AreOnes net.now state gate ones
+            → result.0 ≡ excitation (network_of net.now) self.now.input.items state gate }
+        ensures now { result.1 ≡ excitation_in net.now self.now gate }
     {
-        let excited = self.excited_as(net, gate, kind);
-        one_if(self.state[wire as usize] != self.state[source as usize])
-            + one_if(self.state[gate as usize] != excited)
+        match kind_at(net, gate) {
+            VarKind::Gate { kind } => {
+                let (_, pins) = net.wires_in(gate);
+                let before = value_of_ones(kind, ones, pins);
+                let now = value_of_ones(kind, self.ones[gate as usize], pins);
+                (before, now)
+            }
+            VarKind::Input { .. } => unreachable!(),
+            VarKind::Wire { .. } => unreachable!(),
+        }
     }
 
     // How many variables are unstable among a node, with its excitation, and the wires from it.

@@ -49,3 +49,6 @@ returns-clause-counted c =
           (AreCounts-node netlist fits.circuit current.input.items state current.ones.items lagging node count c.requires.counted.counts c.requires.node fits.state
           (omega (arith, more, fits.state)) fits.wires (omega (arith, was, long, few, counted)));
     }
+
+pub returns-clause-wires : goal.returns-clause-wires
+returns-clause-wires c = ap (length {A = ℕ}) c.fan_out.ensures

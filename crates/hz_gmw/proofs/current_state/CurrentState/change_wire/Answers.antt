@@ -3,7 +3,7 @@ use Rattle.std.specs.Bool.{beq}
 use Rattle.std.proofs.lemmas.Bool.{not-false}
 use Rattle.std.proofs.lemmas.List.{length-set, get_or_read}
 use Rattle.hz_net.specs.Network.{bit_at}
-use Rattle.hz_gmw.proofs.Counts.{changed-wire, nodes-among, ones-bound, lag-bound, ones-some, lag-some}
+use Rattle.hz_gmw.proofs.Counts.{changed-wire, nodes-among, wire-above, wire-turned, ones-bound, lag-bound, ones-some, lag-some}
 use Rattle.hz_gmw.proofs.current_state.CurrentState.change_wire.Goals as goal
 
 pub index-requires-2 : goal.index-requires-2
@@ -68,3 +68,27 @@ returns-clause-counted c =
       counts = changed-wire netlist current.input.items state current.ones.items current.unstable_wires.items c.args.wire c.args.gate c.args.source c.counted.result c.counted-2.result c.index-3.result.now c.index-4.result.now c.index.result.now c.index-2.result.now
           fits.circuit c.requires.counted.counts c.requires.into c.requires.from (omega (arith, c.requires.wire, fits.state)) (omega (arith, c.requires.gate, fits.ones)) (omega (arith, c.requires.source, fits.wires)) fits.wires bit low one lag c.counted.ensures c.counted-2.ensures;
     }
+
+pub returns-clause-lags : goal.returns-clause-lags
+returns-clause-lags c =
+    let netlist = c.args.net.now in
+    let current = c.args.self.now in
+    let fits = c.requires.counted.fits in
+    let state = current.state.items in
+    let more = nodes-among netlist fits.circuit in
+    let above = wire-above netlist fits.circuit c.args.gate c.args.wire c.requires.into in
+    let bit : c.index.result.now ≡ bit_at state c.args.wire = get_or_read state c.args.wire c.index.result.now (omega (arith, c.requires.wire, fits.state)) c.index.ensures _ in
+    let low : c.index-2.result.now ≡ bit_at state c.args.source = get_or_read state c.args.source c.index-2.result.now (omega (arith, c.requires.source, more, fits.state)) c.index-2.ensures _ in
+    (wire-turned netlist current.input.items state c.args.wire c.args.source c.index.result.now c.index-2.result.now c.requires.from (omega (arith, c.requires.source, above)) (omega (arith, c.requires.wire, fits.state)) bit low).0
+
+pub returns-clause-turned : goal.returns-clause-turned
+returns-clause-turned c =
+    let netlist = c.args.net.now in
+    let current = c.args.self.now in
+    let fits = c.requires.counted.fits in
+    let state = current.state.items in
+    let more = nodes-among netlist fits.circuit in
+    let above = wire-above netlist fits.circuit c.args.gate c.args.wire c.requires.into in
+    let bit : c.index.result.now ≡ bit_at state c.args.wire = get_or_read state c.args.wire c.index.result.now (omega (arith, c.requires.wire, fits.state)) c.index.ensures _ in
+    let low : c.index-2.result.now ≡ bit_at state c.args.source = get_or_read state c.args.source c.index-2.result.now (omega (arith, c.requires.source, more, fits.state)) c.index-2.ensures _ in
+    (wire-turned netlist current.input.items state c.args.wire c.args.source c.index.result.now c.index-2.result.now c.requires.from (omega (arith, c.requires.source, above)) (omega (arith, c.requires.wire, fits.state)) bit low).1
