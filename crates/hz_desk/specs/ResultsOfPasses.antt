@@ -4,6 +4,8 @@ use Rattle.hz_core.specs.declared.tri.Tri.{Tri}
 use Rattle.hz_core.specs.Netlist.{Netlist}
 use Rattle.hz_net.specs.Network.{network_of, IsState, AreByVariable}
 use Rattle.hz_net.specs.Passes.{algorithm_a, algorithm_b, AreRounds, AreRanks, AreSettlingRounds}
+use Rattle.hz_reach.specs.declared.change.Change.{Change}
+use Rattle.hz_cycle.specs.declared.settling.Results.{Results}
 use Rattle.hz_desk.specs.declared.passes.Passes.{Passes}
 
 -- there is a place for each variable
@@ -25,9 +27,9 @@ pub record ArePassResults (netlist : Netlist) (input start : List Bool) (a : Lis
   pub b_bound : rounds_b ≤ length (network_of netlist) + 1
   pub settling : AreSettlingRounds (algorithm_b (network_of netlist) input a) a b when
 
--- these are the results of both passes, and a room for passes holds the rest
-abbrev pub HasPassResults : Netlist → List Bool → List Bool → List Tri → List Tri → Passes → Type 0
-HasPassResults netlist input start a b passes =
+-- these are the results of both passes for a change, after some rounds
+abbrev pub ComeFromPasses : Change → Results → Type 0
+ComeFromPasses change results =
     (rounds_a rounds_b : ℕ)
-    × ArePassResults netlist input start a passes.ranks.items b passes.when.items rounds_a
-    rounds_b
+    × ArePassResults change.net.now change.input.now change.start.now results.a.now
+    results.ranks.now results.b.now results.when.now rounds_a rounds_b

@@ -9,6 +9,7 @@ ghost use Rattle.hz_desk.specs.RunProgress.{IsShortRun, BeginAlike, most_short_s
 ghost use Rattle.hz_desk.specs.Filled.{AreRacesOf};
 
 use hz_gmw::{Follower, Run};
+use hz_reach::Change;
 
 /// How many states of each run are race states.
 #[derive(Clone, Copy)]
@@ -22,28 +23,27 @@ pub(crate) struct Races {
 // follower makes once.
 pub(crate) fn count_races(
     follower: &mut Follower,
-    input: &[bool],
-    start: &[bool],
+    change: &Change,
     spread: &Run,
     settle: &Run,
     cycle: &Run,
     common: usize,
 ) -> Races
-    requires input { IsInput follower.old.circuit input.now }
-    requires start { IsState follower.old.circuit start.now }
-    requires spread { IsShortRun (network_of follower.old.circuit) input.now start.now
+    requires input { IsInput follower.old.circuit change.now.input.now }
+    requires start { IsState follower.old.circuit change.now.start.now }
+    requires spread { IsShortRun (network_of follower.old.circuit) change.now.input.now change.now.start.now
         spread.now.steps }
-    requires settle { IsShortRun (network_of follower.old.circuit) input.now start.now
+    requires settle { IsShortRun (network_of follower.old.circuit) change.now.input.now change.now.start.now
         settle.now.steps }
-    requires cycle { IsShortRun (network_of follower.old.circuit) input.now
-        (end_of start.now settle.now.steps) cycle.now.steps }
+    requires cycle { IsShortRun (network_of follower.old.circuit) change.now.input.now
+        (end_of change.now.start.now settle.now.steps) cycle.now.steps }
     requires common { BeginAlike spread.now.steps settle.now.steps common }
-    ensures races { AreRacesOf (network_of follower.old.circuit) input.now start.now
+    ensures races { AreRacesOf (network_of follower.old.circuit) change.now.input.now change.now.start.now
         spread.now.steps settle.now.steps cycle.now.steps result.spread
         result.settle result.cycle }
     ensures circuit { follower.new.circuit ≡ follower.old.circuit }
 {
-    follower.begin(input, start);
+    follower.begin(change.input, change.start);
     let shared = races_before(follower, settle, 0, common);
     let spread = shared + last_races(follower, spread, common);
     let settle = shared + run_races(follower, settle, common);

@@ -15,11 +15,11 @@ use crate::passes::{Passes, Rounds};
 use crate::races::count_races;
 use crate::runs::make_runs;
 use hz_core::Memory;
-use hz_cycle::runs_show_b;
+use hz_cycle::{Results, runs_show_b};
 use hz_free::{Free, words_change, words_cover};
 use hz_gmw::{Follower, a_covers, b_covers};
 use hz_net::Net;
-use hz_reach::{Scratch, a_is_exact};
+use hz_reach::{Change, Scratch, a_is_exact};
 use std::alloc::Global;
 
 /// What an analysis works with, and the finding that it fills.
@@ -65,11 +65,10 @@ impl<'n> Room<'n> {
         // A getter of the network says that its circuit is one.
         let _variables = net.len();
         filled_is_right();
+        let change = Change { net, start, input };
         let rounds = fill_rows(
-            net,
+            &change,
             &self.free,
-            start,
-            input,
             cap,
             &mut self.passes,
             &mut self.finding.rows,
@@ -77,12 +76,15 @@ impl<'n> Room<'n> {
         self.finding.rounds_a = rounds.a;
         self.finding.rounds_b = rounds.b;
         self.finding.input.write(input);
+        let results = Results {
+            a: self.finding.rows.values_a(),
+            ranks: self.passes.ranks.as_slice(),
+            b: self.finding.rows.values_b(),
+            when: self.passes.when.as_slice(),
+        };
         let common = make_runs(
-            net,
-            start,
-            input,
-            &self.passes,
-            &self.finding.rows,
+            &change,
+            &results,
             &mut self.scratch,
             &mut self.finding.spread,
             &mut self.finding.settle,
@@ -90,8 +92,7 @@ impl<'n> Room<'n> {
         );
         let races = count_races(
             &mut self.follower,
-            input,
-            start,
+            &change,
             &self.finding.spread,
             &self.finding.settle,
             &self.finding.cycle,
@@ -104,43 +105,29 @@ impl<'n> Room<'n> {
 }
 
 // Writes what the rows are made of: the start, the results of both passes and the words.
-fn fill_rows(
-    net: &Net,
-    free: &Free,
-    start: &[bool],
-    input: &[bool],
-    cap: u64,
-    passes: &mut Passes,
-    rows: &mut Rows,
-) -> Rounds
-    requires free { IsFreePart net.now free.now }
-    requires start { IsStableStart net.now start.now }
-    requires input { IsInput net.now input.now }
+fn fill_rows(change: &Change, free: &Free, cap: u64, passes: &mut Passes, rows: &mut Rows) -> Rounds
+    requires free { IsFreePart change.now.net.now free.now }
+    requires start { IsStableStart change.now.net.now change.now.start.now }
+    requires input { IsInput change.now.net.now change.now.input.now }
     requires cap_low { 1 ≤ cap }
     requires cap_high { cap ≤ greatest_cap }
-    requires passes { HavePassRoom net.now passes.old }
-    requires rows { AreByVariable net.now rows.old }
-    ensures passed { ArePassResults net.now input.now start.now (values_a rows.new)
+    requires passes { HavePassRoom change.now.net.now passes.old }
+    requires rows { AreByVariable change.now.net.now rows.old }
+    ensures passed { ArePassResults change.now.net.now change.now.input.now change.now.start.now (values_a rows.new)
         passes.new.ranks.items (values_b rows.new) passes.new.when.items result.a
         result.b }
-    ensures passes { HavePassRoom net.now passes.new }
-    ensures rows { AreRowsOfChange (network_of net.now) input.now start.now cap rows.new }
+    ensures passes { HavePassRoom change.now.net.now passes.new }
+    ensures rows { AreRowsOfChange (network_of change.now.net.now) change.now.input.now change.now.start.now cap rows.new }
 {
     // A getter of the network says that its circuit is one; the law says which words have a change.
-    let _variables = net.len();
+    let _variables = change.net.len();
     words_change();
-    rows.start.as_mut_slice().copy_from_slice(start);
-    let rounds = passes.make(
-        net,
-        start,
-        input,
-        rows.a.as_mut_slice(),
-        rows.b.as_mut_slice(),
-    );
+    rows.start.as_mut_slice().copy_from_slice(change.start);
+    let rounds = passes.make(change, rows.a.as_mut_slice(), rows.b.as_mut_slice());
     free.words_given_a(
-        net,
-        start,
-        input,
+        change.net,
+        change.start,
+        change.input,
         cap,
         rows.a.as_slice(),
         rows.words.as_mut_slice(),

@@ -150,12 +150,16 @@ impl Run {
     }
 }
 
-// Appends. There is room.
+// Appends. There is room. Most steps have one flip, which is pushed without a copy of many.
 fn append<T: Copy>(list: &mut Vec<T>, more: &[T])
     requires { vec_len list.old + length more.now ≤ vec_capacity list.old }
     ensures items { list.new.items ≡ list.old.items ++ more.now }
     ensures len { vec_len list.new ≡ vec_len list.old + length more.now }
     ensures capacity { vec_capacity list.old ≤ vec_capacity list.new }
 {
-    list.extend_from_slice(more).unwrap();
+    if let [one] = more {
+        list.push_reserved(*one);
+    } else {
+        list.extend_from_slice(more).unwrap();
+    }
 }

@@ -13,14 +13,14 @@ use Rattle.hz_desk.proofs.races.count_races.Goals as goal
 pub races_before-shared-requires-clause-run : goal.races_before-shared-requires-clause-run
 races_before-shared-requires-clause-run c =
     let net = network_of c.args.follower.now.circuit in
-    let cut = cut-second net c.args.input.now c.args.start.now c.args.spread.now.steps c.args.settle.now.steps c.args.common c.requires.common c.requires.settle in
+    let cut = cut-second net c.args.change.now.input.now c.args.change.now.start.now c.args.spread.now.steps c.args.settle.now.steps c.args.common c.requires.common c.requires.settle in
     subst (λ (f : FollowerOf). IsShortRun (network_of f.circuit) f.input f.state (slice_range c.args.settle.now.steps 0 c.args.common)) (sym c.begin.ensures) cut.short_front
 
 pub last_races-requires-clause-run : goal.last_races-requires-clause-run
 last_races-requires-clause-run c =
     let net = network_of c.args.follower.now.circuit in
     let shared = slice_range c.args.settle.now.steps 0 c.args.common in
-    let cut = cut-first net c.args.input.now c.args.start.now c.args.spread.now.steps c.args.settle.now.steps c.args.common c.requires.common c.requires.spread in
+    let cut = cut-first net c.args.change.now.input.now c.args.change.now.start.now c.args.spread.now.steps c.args.settle.now.steps c.args.common c.requires.common c.requires.spread in
     let at = at-end c.begin.new.self c.races_before-shared.new.follower shared c.begin.ensures c.races_before-shared.ensures.circuit c.races_before-shared.ensures.input c.races_before-shared.ensures.ends in
     subst (λ (f : FollowerOf). IsRun (network_of f.circuit) f.input f.state (drop c.args.common c.args.spread.now.steps)) (sym at) cut.short_back.run
 
@@ -28,7 +28,7 @@ pub run_races-requires-clause-run : goal.run_races-requires-clause-run
 run_races-requires-clause-run c =
     let net = network_of c.args.follower.now.circuit in
     let shared = slice_range c.args.settle.now.steps 0 c.args.common in
-    let cut = cut-second net c.args.input.now c.args.start.now c.args.spread.now.steps c.args.settle.now.steps c.args.common c.requires.common c.requires.settle in
+    let cut = cut-second net c.args.change.now.input.now c.args.change.now.start.now c.args.spread.now.steps c.args.settle.now.steps c.args.common c.requires.common c.requires.settle in
     let at = c.last_races.ensures.back ∙ at-end c.begin.new.self c.races_before-shared.new.follower shared c.begin.ensures c.races_before-shared.ensures.circuit c.races_before-shared.ensures.input c.races_before-shared.ensures.ends in
     subst (λ (f : FollowerOf). IsShortRun (network_of f.circuit) f.input f.state (drop c.args.common c.args.settle.now.steps)) (sym at) cut.short_back
 
@@ -36,16 +36,16 @@ pub cycle_races-cycle-requires : goal.cycle_races-cycle-requires
 cycle_races-cycle-requires c =
     let net = network_of c.args.follower.now.circuit in
     let shared = slice_range c.args.settle.now.steps 0 c.args.common in
-    let cut = cut-second net c.args.input.now c.args.start.now c.args.spread.now.steps c.args.settle.now.steps c.args.common c.requires.common c.requires.settle in
+    let cut = cut-second net c.args.change.now.input.now c.args.change.now.start.now c.args.spread.now.steps c.args.settle.now.steps c.args.common c.requires.common c.requires.settle in
     let at = c.last_races.ensures.back ∙ at-end c.begin.new.self c.races_before-shared.new.follower shared c.begin.ensures c.races_before-shared.ensures.circuit c.races_before-shared.ensures.input c.races_before-shared.ensures.ends in
-    let last = at-end c.last_races.new.follower c.run_races.new.follower (drop c.args.common c.args.settle.now.steps) at c.run_races.ensures.circuit c.run_races.ensures.input c.run_races.ensures.ends ∙ ap (follower_at c.args.follower.now.circuit c.args.input.now) cut.ends in
+    let last = at-end c.last_races.new.follower c.run_races.new.follower (drop c.args.common c.args.settle.now.steps) at c.run_races.ensures.circuit c.run_races.ensures.input c.run_races.ensures.ends ∙ ap (follower_at c.args.follower.now.circuit c.args.change.now.input.now) cut.ends in
     subst (λ (f : FollowerOf). IsShortRun (network_of f.circuit) f.input f.state c.args.cycle.now.steps) (sym last) c.requires.cycle
 
 pub returns-clause-races : goal.returns-clause-races
 returns-clause-races c =
     let net = network_of c.args.follower.now.circuit in
-    let input = c.args.input.now in
-    let start = c.args.start.now in
+    let input = c.args.change.now.input.now in
+    let start = c.args.change.now.start.now in
     let spread = c.args.spread.now.steps in
     let settle = c.args.settle.now.steps in
     let common = c.args.common in

@@ -32,11 +32,11 @@ words_given_a-requires-clause-a c =
 
 pub returns : goal.returns
 returns c =
-    let netlist = c.args.net.now in
+    let netlist = c.args.change.now.net.now in
     let net = network_of netlist in
-    let input = c.args.input.now in
+    let input = c.args.change.now.input.now in
     let was = c.rows.inside in
-    let start : List Bool = c.args.start.now in
+    let start : List Bool = c.args.change.now.start.now in
     let a : List Tri = c.make-rounds.new.a in
     let b : List Tri = c.make-rounds.new.b in
     let words : List (Option Word) = c.words_given_a.new.out in

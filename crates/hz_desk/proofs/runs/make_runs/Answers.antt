@@ -2,7 +2,6 @@
 use Rattle.std.proofs.Common.{◌∙◌, sym, ap, subst, length, arith}
 use Rattle.hz_net.specs.Network.{network_of}
 use Rattle.hz_gmw.proofs.CoverB.{length-end_of}
-use Rattle.hz_desk.specs.Finding.{values_a, values_b}
 use Rattle.hz_desk.proofs.RowFacts.{long-a, long-b}
 use Rattle.hz_desk.specs.RunProgress.{BeginAlike}
 use Rattle.hz_desk.proofs.CommonSteps.{alike-more}
@@ -11,14 +10,13 @@ use Rattle.hz_desk.proofs.runs.make_runs.Goals as goal
 
 pub returns-clause-scratch : goal.returns-clause-scratch
 returns-clause-scratch c = record {
-  long = ap length (c.cycle_in_order.ensures.state ∙ c.settle_from.ensures.state) ∙ (length-end_of c.args.start.now c.settle_from.new.run.steps ∙ c.requires.start.long);
+  long = ap length (c.cycle_in_order.ensures.state ∙ c.settle_from.ensures.state) ∙ (length-end_of c.args.change.now.start.now c.settle_from.new.run.steps ∙ c.requires.start.long);
   none_marked = c.cycle_in_order.ensures.marked;
 }
 
 pub settle_from-requires-clause-change : goal.settle_from-requires-clause-change
 settle_from-requires-clause-change c =
     let passed = c.requires.passed in
-    rw (c.values_a-a.ensures, c.as_slice-ranks.ensures.value, c.values_b-b.ensures, c.as_slice-when.ensures.value)
     record {
       of_a = record {
         begins = c.requires.start;
@@ -33,10 +31,9 @@ settle_from-requires-clause-change c =
 pub cycle_in_order-requires-clause-change : goal.cycle_in_order-requires-clause-change
 cycle_in_order-requires-clause-change c =
     let passed = c.requires.passed in
-    rw (c.as_slice-ranks.ensures.value, c.values_b-b.ensures)
     record {
-      start = c.args.start.now;
-      a = values_a c.args.rows.now;
+      start = c.args.change.now.start.now;
+      a = c.args.results.now.a.now;
       of_a = record {
         begins = c.requires.start;
         input_long = c.requires.input;
@@ -48,20 +45,17 @@ cycle_in_order-requires-clause-change c =
 
 pub returns-clause-runs : goal.returns-clause-runs
 returns-clause-runs c =
-    let passes = c.args.passes.now in
     let passed = c.requires.passed in
-    let a_is = c.values_a-a.ensures in
-    let b_is = c.values_b-b.ensures in
     let spread = c.make_spread.ensures.spread in
     let settle = c.settle_from.ensures.run in
     let cycle = c.cycle_in_order.ensures.cycle in
     let few = c.len-variables.ensures.bound in
-    are-runs c.run_counts.ensures.steps c.spread_flips.ensures (network_of c.args.net.now) c.args.input.now c.args.start.now (values_a c.args.rows.now) (values_b c.args.rows.now)
+    are-runs c.run_counts.ensures.steps c.spread_flips.ensures (network_of c.args.change.now.net.now) c.args.change.now.input.now c.args.change.now.start.now c.args.results.now.a.now c.args.results.now.b.now
     c.make_spread.new.spread.steps c.settle_from.new.run.steps c.cycle_in_order.new.run.steps
     (omega (arith, few, c.len-variables.ensures.len))
-    (long-a c.args.net.now c.args.input.now c.args.start.now (values_a c.args.rows.now) passes.ranks.items (values_b c.args.rows.now) passes.when.items passed.0 passed.1 c.requires.start passed.2)
-    (long-b c.args.net.now c.args.input.now c.args.start.now (values_a c.args.rows.now) passes.ranks.items (values_b c.args.rows.now) passes.when.items passed.0 passed.1 c.requires.start passed.2)
-    (rw a_is at spread) (rw (a_is, b_is) at settle) (rw (b_is, c.settle_from.ensures.state) at cycle)
+    (long-a c.args.change.now.net.now c.args.change.now.input.now c.args.change.now.start.now c.args.results.now.a.now c.args.results.now.ranks.now c.args.results.now.b.now c.args.results.now.when.now passed.0 passed.1 c.requires.start passed.2)
+    (long-b c.args.change.now.net.now c.args.change.now.input.now c.args.change.now.start.now c.args.results.now.a.now c.args.results.now.ranks.now c.args.results.now.b.now c.args.results.now.when.now passed.0 passed.1 c.requires.start passed.2)
+    spread settle (rw c.settle_from.ensures.state at cycle)
 
 pub returns-clause-common : goal.returns-clause-common
 returns-clause-common c =

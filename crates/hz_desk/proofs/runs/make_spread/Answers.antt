@@ -12,32 +12,32 @@ pub sort-requires : goal.sort-requires
 sort-requires c =
     c.requires.change.ranked.long
     ∙ (ap (length {A = Tri}) c.requires.change.a_result.2
-    ∙ (length-algorithm_a (network_of c.args.net.now) c.args.input.now c.args.start.now c.requires.change.begins.long c.requires.change.a_result.0 ∙ sym c.requires.scratch.long))
+    ∙ (length-algorithm_a (network_of c.args.change.now.net.now) c.args.change.now.input.now c.args.change.now.start.now c.requires.change.begins.long c.requires.change.a_result.0 ∙ sym c.requires.scratch.long))
 
 pub copy_from-requires-clause-room_for_flips : goal.copy_from-requires-clause-room_for_flips
 copy_from-requires-clause-room_for_flips c =
     let sparing = c.sparing_in_order.ensures.sparing in
-    let few : flip_count c.sparing_in_order.new.run.steps ≤ 1 * length (network_of c.args.net.now) =
-    c.run_counts.ensures.variables (network_of c.args.net.now) c.args.input.now c.args.start.now c.sparing_in_order.new.run.steps 1 sparing.run sparing.wires in
+    let few : flip_count c.sparing_in_order.new.run.steps ≤ 1 * length (network_of c.args.change.now.net.now) =
+    c.run_counts.ensures.variables (network_of c.args.change.now.net.now) c.args.change.now.input.now c.args.change.now.start.now c.sparing_in_order.new.run.steps 1 sparing.run sparing.wires in
     omega (arith, few, c.requires.settle_room.flips)
 
 pub copy_from-requires-clause-room_for_steps : goal.copy_from-requires-clause-room_for_steps
 copy_from-requires-clause-room_for_steps c =
     let sparing = c.sparing_in_order.ensures.sparing in
-    let few : flip_count c.sparing_in_order.new.run.steps ≤ 1 * length (network_of c.args.net.now) =
-    c.run_counts.ensures.variables (network_of c.args.net.now) c.args.input.now c.args.start.now c.sparing_in_order.new.run.steps 1 sparing.run sparing.wires in
+    let few : flip_count c.sparing_in_order.new.run.steps ≤ 1 * length (network_of c.args.change.now.net.now) =
+    c.run_counts.ensures.variables (network_of c.args.change.now.net.now) c.args.change.now.input.now c.args.change.now.start.now c.sparing_in_order.new.run.steps 1 sparing.run sparing.wires in
     let fewer : length c.sparing_in_order.new.run.steps ≤ flip_count c.sparing_in_order.new.run.steps =
-    c.run_counts.ensures.steps (network_of c.args.net.now) c.args.input.now c.args.start.now c.sparing_in_order.new.run.steps sparing.run in
+    c.run_counts.ensures.steps (network_of c.args.change.now.net.now) c.args.change.now.input.now c.args.change.now.start.now c.sparing_in_order.new.run.steps sparing.run in
     omega (arith, few, fewer, c.requires.settle_room.steps)
 
 pub add_unused-requires-clause-a : goal.add_unused-requires-clause-a
 add_unused-requires-clause-a c =
     ap (length {A = Tri}) c.requires.change.a_result.2
-    ∙ length-algorithm_a (network_of c.args.net.now) c.args.input.now c.args.start.now c.requires.change.begins.long c.requires.change.a_result.0
+    ∙ length-algorithm_a (network_of c.args.change.now.net.now) c.args.change.now.input.now c.args.change.now.start.now c.requires.change.begins.long c.requires.change.a_result.0
 
 pub add_unused-requires-clause-scratch : goal.add_unused-requires-clause-scratch
 add_unused-requires-clause-scratch c = record {
-  long = ap (length {A = Bool}) c.sparing_in_order.ensures.state ∙ (length-end_of c.args.start.now c.sparing_in_order.new.run.steps ∙ c.requires.change.begins.long);
+  long = ap (length {A = Bool}) c.sparing_in_order.ensures.state ∙ (length-end_of c.args.change.now.start.now c.sparing_in_order.new.run.steps ∙ c.requires.change.begins.long);
   none_marked = c.sparing_in_order.ensures.marked;
 }
 

@@ -8,6 +8,12 @@ use Rattle.hz_desk.specs.Finding.{values_a, values_b}
 use Rattle.hz_desk.specs.Filled.{AreRacesOf}
 use Rattle.hz_desk.proofs.room.Room.analyse.Goals as goal
 
+pub make_runs-common-requires-clause-passed : goal.make_runs-common-requires-clause-passed
+make_runs-common-requires-clause-passed c =
+    let rounds = c.fill_rows-rounds.result in
+    rw (c.values_a.ensures, c.as_slice.ensures.value, c.values_b.ensures, c.as_slice-2.ensures.value)
+    (rounds.a, rounds.b, c.fill_rows-rounds.ensures.passed)
+
 pub returns-clause-right : goal.returns-clause-right
 returns-clause-right c =
     let netlist = c.args.net.now in
@@ -27,7 +33,7 @@ returns-clause-right c =
       b = values_b rows;
       when = passes.when.items;
       passed = c.fill_rows-rounds.ensures.passed;
-      runs = c.make_runs-common.ensures.runs;
+      runs = rw (c.values_a.ensures, c.values_b.ensures) at c.make_runs-common.ensures.runs;
       words = c.fill_rows-rounds.ensures.rows.words;
       are_words = c.fill_rows-rounds.ensures.rows.are_words;
       rows = c.fill_rows-rounds.ensures.rows.are_rows;
