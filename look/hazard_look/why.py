@@ -8,7 +8,7 @@ from .errors import DONE, OUTPUT_FAILED, WRONG_WORDS, Failure
 from .network import Network
 from .one_edge import one_edge
 from .runtext import Run
-from .script import must_be_written_out
+from .script import NO_CHANGE, must_be_written_out
 from .search import Edges, Searcher
 from .summary import is_clean, meaning
 from .waves import LEGEND, drawn, waves
@@ -43,10 +43,11 @@ def run(words, out):
     shown = _shown(searcher, row, is_clean(row, edges))
     text = searcher.text.of([Run(searcher.named(one.lead), _named_cycle(searcher, one)) for one in shown])
     words.program.must_accept(words.netlist, text)
+    # before the waveforms, of which a reader may want the first lines alone
+    if words.save is not None:
+        _save(words.save, text.text())
     for one in shown:
         _write(out, searcher, row.name, one)
-    if words.save:
-        _save(words.save, text.text())
     return DONE
 
 
@@ -64,7 +65,7 @@ def _change(words, report, circuit):
         if edge is None or edge.rows[words.node].kind == "steady":
             edge = change
     if words.change is not None or edge is None:
-        raise Failure(f"the script has no change {words.change}" if words.change else "the script has no change", WRONG_WORDS)
+        raise Failure(NO_CHANGE if words.change is None else f"{NO_CHANGE} {words.change}", WRONG_WORDS)
     return edge
 
 
