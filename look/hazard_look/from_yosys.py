@@ -16,7 +16,7 @@ _NOT_IN_NAMES = re.compile(r"[^!-~]|[(),=#]")
 # What `rename -enumerate` calls a node that the source text does not name.
 _ENUMERATED = re.compile(r"_\d+_$")
 # What reading a part of another shape raises.
-_STRANGE = (AttributeError, IndexError, KeyError, TypeError, ValueError)
+_STRANGE = (AttributeError, IndexError, KeyError, RecursionError, TypeError, ValueError)
 # Cells that are no circuit.
 _SILENT = ("$scopeinfo",)
 

@@ -2,7 +2,7 @@
 import re
 
 from .circuit import load
-from .errors import DONE
+from .errors import DONE, NETLIST_FAULT, Failure
 
 # Names that synthesis gives to inner nodes; a designer knows the others.
 _INNER = re.compile(r"[_$]|.*\\|(new_)?n\d+_?$")
@@ -11,7 +11,10 @@ _INNER = re.compile(r"[_$]|.*\\|(new_)?n\d+_?$")
 def run(words, out):
     """Writes the line for a netlist that `hazard` accepts."""
     words.program.must_read(words.netlist)
-    out.write(line(load(words.netlist), {}, ()) + "\n")
+    circuit = load(words.netlist)
+    if not circuit.nodes:
+        raise Failure(f"{words.netlist}: the netlist has no node, so a start has nothing to list", NETLIST_FAULT)
+    out.write(line(circuit, {}, ()) + "\n")
     return DONE
 
 
