@@ -74,6 +74,7 @@ def parser():
     job = _plain_job(jobs, "from-yosys", from_yosys.run, "a netlist from what yosys' `write_json` gives after `synth`")
     job.add_argument("design", metavar="DESIGN.json", help="the design, flattened and of simple gates")
     job.add_argument("--top", metavar="MODULE", help="the module to take, if the design has several")
+    job.add_argument("--join", action="store_true", help="make gates one again that yosys split: a NAND, or three pins")
     return top
 
 
