@@ -2,7 +2,7 @@
 from typing import List, NamedTuple
 
 from . import runtext
-from .causes import events_of, races, sentence
+from .causes import MOST_NAMED, events_of, races, sentence
 from .circuit import load
 from .errors import DONE, OUTPUT_FAILED, WRONG_WORDS, Failure
 from .network import Network
@@ -48,6 +48,8 @@ def run(words, out):
         _save(words.save, text.text())
     for one in shown:
         _write(out, searcher, row.name, one)
+    if row.kind == "unsettled":
+        _write_in_front(out, searcher.network, change.rows, row.name)
     return DONE
 
 
@@ -93,6 +95,15 @@ def _endless(searcher, node):
         numbers = searcher.network.number
         turning = [[[numbers[name] for name in step] for step in steps] for steps in (printed.lead, printed.cycle)]
     return shown + [Shown("it can go on for ever", *turning)]
+
+
+def _write_in_front(out, network, rows, node):
+    """Names the static nodes on which an unsettled node depends: a loop may have stored the pulse of one of them."""
+    cone = network.cone(network.number[node])
+    static = [row.name for row in rows.values() if row.kind == "static" and network.number[row.name] in cone]
+    if static:
+        more = f" and {len(static) - MOST_NAMED} more" if len(static) > MOST_NAMED else ""
+        out.write(f"\nstatic on the way to {node}: {', '.join(static[:MOST_NAMED])}{more}; `why` says of these which wires have to be slow\n")
 
 
 def _named_cycle(searcher, shown):
