@@ -103,7 +103,8 @@ def _write_in_front(out, network, rows, node):
     static = [row.name for row in rows.values() if row.kind == "static" and network.number[row.name] in cone]
     if static:
         more = f" and {len(static) - MOST_NAMED} more" if len(static) > MOST_NAMED else ""
-        out.write(f"\nstatic on the way to {node}: {', '.join(static[:MOST_NAMED])}{more}; `why` says of these which wires have to be slow\n")
+        named = ", ".join(static[:MOST_NAMED]) + more
+        out.write(f"\nstatic on the way to {node}: {named}; `why` says of these which wires have to be slow\n")
 
 
 def _named_cycle(searcher, shown):
