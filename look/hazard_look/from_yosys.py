@@ -30,6 +30,8 @@ def run(words, out):
         text = design.text(words.join)
     except _STRANGE as fault:
         raise _not_a_design(words) from fault
+    if not text.strip():
+        raise Failure(f"{words.design}: the module has neither ports nor cells", NETLIST_FAULT)
     out.write(text)
     sys.stderr.write(design.start_line(netlist.read(text)) + "\n")
     return DONE
@@ -42,6 +44,8 @@ def _module(words):
         tops = [name for name, module in modules.items() if int(module.get("attributes", {}).get("top", "0"), 2)]
     except _STRANGE as fault:
         raise _not_a_design(words) from fault
+    if not modules:
+        raise Failure(f"{words.design}: the design has no module", NETLIST_FAULT)
     chosen = [words.top] if words.top else tops or list(modules)
     if len(chosen) != 1 or chosen[0] not in modules:
         raise Failure(f"{words.design}: name one of its modules by --top: {', '.join(modules)}", NETLIST_FAULT)

@@ -48,6 +48,8 @@ def _files(folder, run, write, files):
     deep = write(folder, "deep.json", "[" * 200_000)
     for name, path, status in (("an empty design", empty, 3), ("a folder for a design", "folder", 6), ("a design that is too deep", deep, 3)):
         yield name, _ends(run(["from-yosys", path], folder), status, path), True
+    for text, part in (('{"modules":{}}', "has no module"), ('{"modules":{"t":{"ports":{},"cells":{},"netnames":{}}}}', "neither ports nor cells")):
+        yield f"a design {text}", _ends(run(["from-yosys", write(folder, "e.json", text)], folder), 3, part), True
     yield "a design for a netlist", _ends(run(["summary", write(folder, "d.json", "{}"), files[1]], folder), 3, "hazard-look from-yosys"), True
 
 
