@@ -14,7 +14,7 @@ _hazard_look() {
     case $job in
       summary) COMPREPLY=($(compgen -W '--help --hazard --only --all' -- "$word")) ;;
       why) COMPREPLY=($(compgen -W '--help --hazard --save' -- "$word")) ;;
-      from-yosys) COMPREPLY=($(compgen -W '--help --top' -- "$word")) ;;
+      from-yosys) COMPREPLY=($(compgen -W '--help --top --join' -- "$word")) ;;
       *) COMPREPLY=($(compgen -W '--help --hazard' -- "$word")) ;;
     esac
     return

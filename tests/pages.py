@@ -14,6 +14,7 @@ HERE = os.path.dirname(os.path.abspath(__file__))
 ROOT = os.path.dirname(HERE)
 USING = "docs/USING.md"
 MANUAL = "docs/hazard.1"
+LOOK_MANUAL = "docs/hazard-look.1"
 # other names of a tool
 NAMES = {"abc": ("abc", "yosys-abc", "berkeley-abc")}
 STAND_INS = {
@@ -164,6 +165,18 @@ def refused_lines(program, companion, folder):
     yield f"refused lines of {USING}", tried > 8, True
 
 
+def look_examples(program, companion, folder):
+    """The examples of the manual page of `hazard-look`."""
+    env = tools(program, companion, folder)
+    page = read(ROOT, LOOK_MANUAL).replace("\\-", "-")
+    netlist, script, *calls = re.findall(r"^\.nf\n(.*?)^\.fi$", page[page.index(".SH EXAMPLES"):], re.S | re.M)
+    write(folder, "mux.bench", netlist)
+    write(folder, "mux.txt", script)
+    for text in calls:
+        yield f"{LOOK_MANUAL}: {text}", shell(text, folder, env), 0
+    yield f"calls of {LOOK_MANUAL}", len(calls) > 1, True
+
+
 def manual_examples(program, companion, folder):
     """The examples of the manual page; and its line that saves runs, on each change of a script of which some are stopped."""
     env = tools(program, companion, folder)
@@ -186,4 +199,4 @@ def manual_examples(program, companion, folder):
             yield f"{MANUAL}: runs of change {change}, replayed", shell("hazard replay latch.bench latch.runs", folder, env), 0
 
 
-PARTS = (shell_blocks, synthesis_rows, refused_lines, manual_examples)
+PARTS = (shell_blocks, synthesis_rows, refused_lines, manual_examples, look_examples)

@@ -60,10 +60,24 @@ class _Writer:
         unsettled = next((row.name for row in found.rows.values() if row.b == "X"), None)
         if unsettled:
             raise Failure(f"script line {number}: {unsettled} does not settle after `change{spelt(values)}`", DOES_NOT_HOLD)
+        self._warn_of_pulses(found.rows, number)
         self.values = {row.name: int(row.b) for row in found.rows.values()}
         reset = self._reset()
         if reset:
             self._short(reset, "  # reset", number)
+
+    def _warn_of_pulses(self, rows, number):
+        """Warns of clocks and resets that may pulse: a flip-flop may take a pulse for an edge or a reset, and the script does not."""
+        found = {}
+        for cut in self.circuit.cuts:
+            clock, reset = _CLOCK.search(cut.comment), _RESET.search(cut.comment)
+            if clock and rows[clock[1]].kind in ("static", "maybe-dynamic"):
+                found.setdefault(f"the clock {clock[1]} may pulse, and the script has no edge for it", []).append(cut.name)
+            if reset and rows[reset[1]].kind == "static" and rows[reset[1]].start != reset[2]:
+                found.setdefault(f"the reset {reset[1]} may pulse, and the script resets nothing", []).append(cut.name)
+        for what, (first, *others) in found.items():
+            more = f" and {len(others)} more" if others else ""
+            sys.stderr.write(f"hazard-look: script line {number}: {what}: flip-flop {first}{more}\n")
 
     def _reset(self):
         """The flip-flops that a reset is to change, with their new values."""

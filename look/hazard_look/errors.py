@@ -1,4 +1,5 @@
 """What ends a job before it is done, and the statuses that go with it."""
+import os
 
 DONE = 0
 DOES_NOT_HOLD = 1
@@ -7,8 +8,10 @@ NETLIST_FAULT = 3
 SCRIPT_FAULT = 4
 FILE_NOT_READ = 6
 OUTPUT_FAILED = 8
+NAME_NOT_READ = 10
 NOT_ACCEPTED = 70
 NO_PROGRAM = 127
+INTERRUPTED = 130
 
 
 class Failure(Exception):
@@ -26,3 +29,10 @@ def read_file(path):
             return file.read()
     except OSError as fault:
         raise Failure(f"{path}: {fault.strerror or fault}", FILE_NOT_READ) from fault
+
+
+def must_be_plain(path):
+    """Fails for a pipe or a device, which can be read once: `hazard` and this program both read each file. What is wrong with a path
+    that names nothing, or a folder, `hazard` says."""
+    if os.path.exists(path) and not os.path.isfile(path) and not os.path.isdir(path):
+        raise Failure(f"{path}: not a plain file; it is read more than once, so a pipe can't stand for it", FILE_NOT_READ)

@@ -72,7 +72,8 @@ def run(words, out):
 def expectations(text, circuit):
     """The expectations of a script. One that stands before the first change is of each change."""
     found, change, faults = [], None, []
-    for statement in script.read(text):
+    statements = list(script.read(text))
+    for statement in statements:
         if statement.keyword == "change":
             change = (change or 0) + 1
         if script.is_edge(statement):
@@ -86,6 +87,7 @@ def expectations(text, circuit):
                     found.append(Expectation(what, " ".join(item.split()), statement.number, change))
     if faults:
         raise Failure("; ".join(faults), WRONG_WORDS)
+    script.must_have_a_change(statements)
     return found
 
 

@@ -10,13 +10,14 @@ import sys
 from . import netlist
 from .cells import GATES, expansion_of
 from .errors import DONE, NETLIST_FAULT, Failure, read_file
+from .join import joined
 from .start import line
 
 _NOT_IN_NAMES = re.compile(r"[^!-~]|[(),=#]")
 # What `rename -enumerate` calls a node that the source text does not name.
 _ENUMERATED = re.compile(r"_\d+_$")
 # What reading a part of another shape raises.
-_STRANGE = (AttributeError, IndexError, KeyError, TypeError, ValueError)
+_STRANGE = (AttributeError, IndexError, KeyError, RecursionError, TypeError, ValueError)
 # Cells that are no circuit.
 _SILENT = ("$scopeinfo",)
 
@@ -26,9 +27,11 @@ def run(words, out):
     module = _module(words)
     try:
         design = _Design(module)
-        text = design.text()
+        text = design.text(words.join)
     except _STRANGE as fault:
         raise _not_a_design(words) from fault
+    if not text.strip():
+        raise Failure(f"{words.design}: the module has neither ports nor cells", NETLIST_FAULT)
     out.write(text)
     sys.stderr.write(design.start_line(netlist.read(text)) + "\n")
     return DONE
@@ -41,6 +44,8 @@ def _module(words):
         tops = [name for name, module in modules.items() if int(module.get("attributes", {}).get("top", "0"), 2)]
     except _STRANGE as fault:
         raise _not_a_design(words) from fault
+    if not modules:
+        raise Failure(f"{words.design}: the design has no module", NETLIST_FAULT)
     chosen = [words.top] if words.top else tops or list(modules)
     if len(chosen) != 1 or chosen[0] not in modules:
         raise Failure(f"{words.design}: name one of its modules by --top: {', '.join(modules)}", NETLIST_FAULT)
@@ -59,18 +64,21 @@ class _Design:
         self.used, self.name_of, self.faults = set(), {}, []
         self.constants = {}
         self.initial, self.latches = {}, []
+        self.unnamed, self.plain = set(), set()
         self._name_bits()
 
     def _name_bits(self):
         """The name of each bit: that of an input, else of an output, else another of the source text, else yosys' own."""
         ports = {name: port["direction"] for name, port in self.module["ports"].items()}
+        is_hidden = lambda name, net: bool(net.get("hide_name", 0) or _ENUMERATED.match(name))
         rank = lambda item: (("input", "output").index(ports[item[0]]) if ports.get(item[0]) in ("input", "output") else 2,
-                             item[1].get("hide_name", 0) or bool(_ENUMERATED.match(item[0])))
+                             is_hidden(*item))
         for name, net in sorted(self.module["netnames"].items(), key=rank):
             init = net.get("attributes", {}).get("init", "")
             for place, bit in enumerate(net["bits"]):
                 if isinstance(bit, int) and bit not in self.name_of:
                     self.name_of[bit] = self.fresh(_bit_name(name, net, place))
+                    self.unnamed |= {self.name_of[bit]} if is_hidden(name, net) else set()
                 if init[::-1][place:place + 1] in ("0", "1"):
                     self.initial[bit] = init[::-1][place]
 
@@ -95,8 +103,8 @@ class _Design:
         self.faults.append(f"{reader} reads {bit}, which is no value")
         return "x"
 
-    def text(self):
-        """The text of the netlist."""
+    def text(self, join=False):
+        """The text of the netlist. `join` makes gates one again that yosys split."""
         ports = self.module["ports"].items()
         inputs = [bit for _, port in ports if port["direction"] == "input" for bit in port["bits"]]
         self.faults += [f"port {name} is an inout" for name, port in ports if port["direction"] == "inout"]
@@ -104,9 +112,21 @@ class _Design:
         outputs = [line for name, port in ports if port["direction"] == "output" for line in self._output(name, port)]
         lines = [f"INPUT({self.name_of[bit]})" for bit in inputs]
         lines += [f"INPUT({name})  # always {bit}" for bit, name in sorted(self.constants.items())]
-        lines += outputs + cells
+        lines += outputs + (list(self._joined(cells, netlist.read("\n".join(outputs + cells)))) if join and not self.faults else cells)
         self._refuse_undriven(lines)
         return "\n".join(lines) + "\n"
+
+    def _joined(self, cells, circuit):
+        """The lines of the cells after `join`. A gate of a cell of several gates stays, and so does what it reads."""
+        read = {source for gate in circuit.gates if gate.name not in self.plain for source in gate.sources}
+        fixed = set(circuit.nodes) - self.unnamed | read | set(circuit.outputs) | {cut.data for cut in circuit.cuts}
+        left = {gate.name: gate for gate in joined([gate for gate in circuit.gates if gate.name in self.plain], fixed)}
+        for line in cells:
+            name = line.partition(" = ")[0]
+            if name not in self.plain:
+                yield line
+            elif name in left:
+                yield f"{name} = {left[name].kind}({', '.join(left[name].sources)})"
 
     def _output(self, name, port):
         """The lines of an output port. A bit that has the name of another port is said to be that one."""
@@ -121,7 +141,9 @@ class _Design:
             return
         if kind in GATES:
             sources = [self.node(pins[pin][0], f"cell {name}") for pin in ("A", "B") if pin in pins]
-            yield f"{self.node(pins['Y'][0], name)} = {GATES[kind]}({', '.join(sources)})"
+            output = self.node(pins["Y"][0], name)
+            self.plain.add(output)
+            yield f"{output} = {GATES[kind]}({', '.join(sources)})"
             return
         expansion = expansion_of(kind)
         if expansion is None:

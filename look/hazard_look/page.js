@@ -1,8 +1,6 @@
-"use strict";
-// The program of a page of `hazard-look`. DATA has the circuit, and for each change the rows of the report and its runs, which
-// `hazard replay` has accepted. A variable is the number of a node, or, after the nodes, of a wire, by gate and pin.
+// The program of a page of `hazard-look`, behind `layout.js`. DATA has the circuit, and for each change the rows of the report and its
+// runs, which `hazard replay` has accepted. A variable is the number of a node, or, after the nodes, of a wire, by gate and pin.
 
-const BOX = { width: 112, height: 46, across: 62, down: 26 };
 const MOST_NEAR = 60, MOST_LISTED = 200, MOST_WAVES = 40, WINDOW = 120, ROW = 20;
 const LOOKS = ["still", "once", "pulses", "pulses", "pulses", "open", "once"];
 const view = { change: 0, node: 0, run: 0, step: 0, only: false, timer: null };
@@ -69,66 +67,6 @@ function drawnNodes() {
   return [...near].sort((a, b) => a - b);
 }
 
-// ---- the layout ----
-
-/** The place of each drawn node: that of Graphviz, or one by layers. */
-function placesOf(nodes) {
-  if (DATA.places) {
-    const onScreen = ([x, y]) => ({ x: x * 112 - 36, y: y * 80 - 4 });
-    return new Map(nodes.map(node => [node, onScreen(DATA.places[node])]));
-  }
-  const layers = layersOf(nodes), places = new Map();
-  const tallest = Math.max(...layers.map(layer => layer.length));
-  layers.forEach((layer, column) => layer.forEach((node, at) => places.set(node, {
-    x: 24 + column * (BOX.width + BOX.across),
-    y: 16 + (at + (tallest - layer.length) / 2) * (BOX.height + BOX.down),
-  })));
-  return places;
-}
-
-/** The nodes by layers: each after those that it reads, but for the wires that close a loop. */
-function layersOf(nodes) {
-  const shown = new Set(nodes), depth = new Map(), open = new Set();
-  for (const root of nodes) {
-    const waiting = [root];
-    while (waiting.length) {
-      const node = waiting[waiting.length - 1];
-      open.add(node);
-      const isNext = source => shown.has(source) && !depth.has(source) && !open.has(source);
-      const next = depth.has(node) ? undefined : DATA.sources[node].find(isNext);
-      if (next !== undefined) {
-        waiting.push(next);
-        continue;
-      }
-      const before = DATA.sources[node].filter(source => depth.has(source)).map(source => depth.get(source) + 1);
-      if (!depth.has(node)) depth.set(node, Math.max(0, ...before));
-      waiting.pop();
-    }
-  }
-  const layers = [];
-  for (const node of nodes) (layers[depth.get(node)] = layers[depth.get(node)] || []).push(node);
-  return ordered(layers.filter(Boolean));
-}
-
-/** Layers whose nodes stand near those that they read and that read them. */
-function ordered(layers) {
-  const place = new Map();
-  const settle = layer => layer.forEach((node, at) => place.set(node, at - layer.length / 2));
-  layers.forEach(settle);
-  for (let round = 0; round < 6; round++) {
-    const neighbours = round % 2 ? node => readers[node] : node => DATA.sources[node];
-    for (const layer of round % 2 ? [...layers].reverse() : layers) {
-      const weight = new Map(layer.map(node => {
-        const near = neighbours(node).filter(other => place.has(other)).map(other => place.get(other));
-        return [node, near.length ? near.reduce((sum, at) => sum + at, 0) / near.length : place.get(node)];
-      }));
-      layer.sort((a, b) => weight.get(a) - weight.get(b));
-      settle(layer);
-    }
-  }
-  return layers;
-}
-
 // ---- the drawing ----
 
 function make(tag, attributes, text) {
@@ -151,9 +89,9 @@ function drawCircuit() {
   const nodes = drawnNodes(), places = placesOf(nodes);
   const value = valuesAfter(view.step), moved = new Set(view.step ? steps()[view.step - 1] : []);
   const xs = [...places.values()].map(place => place.x), ys = [...places.values()].map(place => place.y);
-  const width = Math.max(...xs) + BOX.width + 40, height = Math.max(...ys) + BOX.height + 44;
+  const width = Math.max(...xs) + BOX.width + ROOM.left + ROOM.right, height = Math.max(...ys) + BOX.height + ROOM.above + ROOM.below;
   const scale = Math.min(1.3, Math.max(0.6, (main.clientWidth - 12) / width));
-  const svg = make("svg", { width: width * scale, height: height * scale, viewBox: `0 0 ${width} ${height}` });
+  const svg = make("svg", { width: width * scale, height: height * scale, viewBox: `${-ROOM.left} ${-ROOM.above} ${width} ${height}` });
   for (const node of nodes) {
     DATA.sources[node].forEach((source, pin) => svg.append(wire(node, source, pin, places, value, moved)));
   }
@@ -169,36 +107,10 @@ function wire(node, source, pin, places, value, moved) {
     DATA.loops[node] && DATA.loops[node] === DATA.loops[source] && "loop"].filter(Boolean).join(" ");
   if (!from) return make("path", { class: looks, d: `M${x2 - 18} ${y2}H${x2}` });
   const x1 = from.x + BOX.width, y1 = from.y + BOX.height / 2;
-  const between = [...places.values()].filter(place => place.x + BOX.width > x2 - 20 && place.x < x1 + 20);
-  const low = x2 > x1 ? 0 : Math.max(...between.map(place => place.y)) + BOX.height + 10 + 6 * pin;
-  const path = x2 > x1 ? `M${x1} ${y1}${forward(x1, y1, x2, y2, pin, places)}`
-    : `M${x1} ${y1}C${x1 + 46} ${y1} ${x1 + 40} ${low} ${x1 - 20} ${low}H${x2 + 20}`
-      + `C${x2 - 40} ${low} ${x2 - 46} ${y2} ${x2} ${y2}`;
+  const path = x2 > x1 ? forward(x1, y1, x2, y2, pin, places) : backward(x1, y1, x2, y2, variable % 3, places);
   const made = make("path", { class: looks, d: path });
   made.append(make("title", {}, `${nameOf(variable)}, the wire from ${DATA.names[source]}: ${value[variable]}`));
   return made;
-}
-
-/** The curves of a wire that goes on to the right: level at each column of boxes, and there between them. */
-function forward(x1, y1, x2, y2, pin, places) {
-  const columns = new Map(), room = 9 + 4 * (pin % 4);
-  for (const { x, y } of places.values()) {
-    if (x > x1 && x + BOX.width < x2) columns.set(Math.round(x), [...(columns.get(Math.round(x)) || []), y]);
-  }
-  let at = { x: x1, y: y1 }, path = "";
-  const curve = (x, y) => {
-    const bend = Math.max(8, Math.min(60, (x - at.x) / 2));
-    return `C${at.x + bend} ${at.y} ${x - bend} ${y} ${x} ${y}`;
-  };
-  for (const [x, tops] of [...columns].sort((one, other) => one[0] - other[0])) {
-    const straight = at.y + (y2 - at.y) * (x + BOX.width / 2 - at.x) / (x2 - at.x);
-    const near = [straight, ...tops.flatMap(top => [top - room, top + BOX.height + room])]
-      .filter(y => tops.every(top => y < top - 5 || y > top + BOX.height + 5));
-    const y = near.reduce((best, one) => (Math.abs(one - straight) < Math.abs(best - straight) ? one : best));
-    path += curve(x, y) + `H${x + BOX.width}`;
-    at = { x: x + BOX.width, y };
-  }
-  return path + curve(x2, y2);
 }
 
 function box(node, place, value, moved) {

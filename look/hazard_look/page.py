@@ -1,6 +1,6 @@
 """The job `page`: one self-contained page with the circuit, its hazards, and a player of the runs.
 
-The page's program is `page.js`; here its data are gathered. Variables are numbered as in the complete network.
+The page's program is `layout.js` and `page.js`; here its data are gathered. Variables are numbered as in the complete network.
 """
 import json
 import os
@@ -39,7 +39,7 @@ def run(words, out):
         "places": _places(circuit) if len(circuit.nodes) <= MOST_DRAWN else None,
         "changes": list(_changes(words, report, network)),
     }
-    out.write(_filled("page.html", style=_part("page.css"), program=_part("page.js"), data=_as_script(data)))
+    out.write(_filled("page.html", style=_part("page.css"), program=_part("layout.js") + _part("page.js"), data=_as_script(data)))
     return DONE
 
 

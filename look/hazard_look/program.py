@@ -1,4 +1,5 @@
 """The proved program: where it is found, and how it is called."""
+import contextlib
 import os
 import re
 import shutil
@@ -6,7 +7,7 @@ import subprocess
 import tempfile
 
 from . import report
-from .errors import NO_PROGRAM, NOT_ACCEPTED, SCRIPT_FAULT, Failure
+from .errors import NAME_NOT_READ, NO_PROGRAM, NOT_ACCEPTED, OUTPUT_FAILED, SCRIPT_FAULT, Failure
 
 VARIABLE = "HAZARD"
 # What helps after a refusal: how its line goes on behind `refused: `, and a remark for the same line.
@@ -15,6 +16,9 @@ HINTS = (
     (r"netlist line \d+: constant", "let it be an input, which the script never changes; `hazard-look from-yosys` does so"),
     (r"netlist line \d+: undefined name", "nothing drives it; an input has a line `INPUT(NAME)`, or stands behind `.inputs`"),
     (r"script line \d+: unknown name", "a start assigns nodes of the netlist, a change inputs and flip-flops alone"),
+    (r"script line 0: order", "no line is a statement; a script begins with a line `start`, which `hazard-look start` writes"),
+    (r"script line \d+: order", "the first statement is the start, and all others are changes"),
+    (r"script line \d+: form", "a line is `start NAME=BIT ..` or `change NAME=BIT ..`; a comment begins with #"),
     (r"script line \d+: bit", "a value is 0 or 1, so each `?` of `hazard-look start` is to be filled in"),
     (r"script: no value for ", "the start lists each input; `hazard-look start` writes such a line"),
     (r"start: open ", "the inputs do not decide its value, so the start lists it; `hazard-look start` names all such gates"),
@@ -49,31 +53,42 @@ class Program:
 
     def analyse(self, netlist, script):
         """The report of two files. Its changes are read while the program writes them."""
-        return report.read(self._lines(["analyse", netlist, script]))
+        with self._understood():
+            found = report.read(self._lines(["analyse", netlist, script]))
+        return found._replace(changes=self._changes(found.changes))
+
+    def _changes(self, changes):
+        with self._understood():
+            yield from changes
+
+    @contextlib.contextmanager
+    def _understood(self):
+        """Fails if what is read is no report, as another program with this name may write."""
+        try:
+            yield
+        except report.STRANGE as fault:
+            raise Failure(f"{self.path} does not write a report, so it is not `hazard`", NO_PROGRAM) from fault
 
     def analyse_text(self, netlist, script):
         """The whole report on a netlist in a file and a script in a text: its start, and a list of its changes."""
-        with tempfile.TemporaryDirectory() as folder:
-            path = _write(folder, script)
+        with _file_of(script) as path:
             answer = self.analyse(netlist, path)
             return answer.start, list(answer.changes)
 
     def must_read(self, netlist):
         """Fails with the program's refusal unless it reads a netlist. A script that is none is only looked at after that."""
-        with tempfile.TemporaryDirectory() as folder:
+        with _file_of("") as path:
             try:
-                self.analyse(netlist, _write(folder, ""))
+                self.analyse(netlist, path)
             except Failure as failure:
                 if failure.status != SCRIPT_FAULT:
                     raise
 
     def replay(self, netlist, run_text):
         """Whether the program accepts each run of a run text, and the line that it answers."""
-        with tempfile.TemporaryDirectory() as folder:
-            path = _write(folder, run_text.text())
-            done = subprocess.run([self.path, "replay", netlist, path], stdin=subprocess.DEVNULL,
-                                  stdout=subprocess.PIPE, check=False)
-        return done.returncode == 0, done.stdout.decode().strip()
+        with _file_of(run_text.text()) as path, self._running(["replay", netlist, path]) as running:
+            line = running.stdout.read().strip()
+        return running.returncode == 0, line
 
     def must_accept(self, netlist, run_text):
         """Fails unless the program accepts each run: what is shown afterwards has been checked."""
@@ -83,13 +98,22 @@ class Program:
 
     def _lines(self, words):
         """The lines that the program writes. A refusal, or an end before the end, is a failure."""
-        with subprocess.Popen([self.path] + words, stdin=subprocess.DEVNULL, stdout=subprocess.PIPE, text=True) as running:
+        with self._running(words) as running:
             for number, line in enumerate(running.stdout):
                 if number == 0 and line.startswith("refused: "):
                     raise Failure(f"hazard: {line.strip()}{_hint(line, words[1])}", running.wait())
                 yield line.rstrip("\n")
             if running.wait() != 0:
-                raise Failure(f"hazard ended with status {running.returncode}", max(running.returncode, 1))
+                ended = f"with status {running.returncode}" if running.returncode > 0 else f"by signal {-running.returncode}"
+                what = "; the name of a file is no text" if running.returncode == NAME_NOT_READ else ""
+                raise Failure(f"hazard ended {ended}{what}", max(running.returncode, 1))
+
+    def _running(self, words):
+        """The program, started with some words."""
+        try:
+            return subprocess.Popen([self.path] + words, stdin=subprocess.DEVNULL, stdout=subprocess.PIPE, text=True)
+        except OSError as fault:
+            raise Failure(f"{self.path} can't be started: {fault.strerror or fault}", NO_PROGRAM) from fault
 
 
 def _hint(line, netlist):
@@ -97,11 +121,19 @@ def _hint(line, netlist):
     refusal = line.removeprefix("refused: ")
     if refusal.startswith("netlist ") and netlist.lower().endswith((".v", ".sv")):
         return "; Verilog goes by way of Yosys: see `hazard-look from-yosys --help`"
+    if refusal.startswith("netlist ") and netlist.lower().endswith(".json"):
+        return "; `hazard-look from-yosys` makes a netlist of what `write_json` of Yosys writes"
     return next((f"; {hint}" for form, hint in HINTS if re.match(form, refusal)), "")
 
 
-def _write(folder, text):
-    path = os.path.join(folder, "text")
-    with open(path, "w", encoding="utf-8") as file:
-        file.write(text)
-    return path
+@contextlib.contextmanager
+def _file_of(text):
+    """The path of a file with a text, which is there as long as the program needs it."""
+    with contextlib.ExitStack() as stack:
+        try:
+            path = os.path.join(stack.enter_context(tempfile.TemporaryDirectory()), "text")
+            with open(path, "w", encoding="utf-8") as file:
+                file.write(text)
+        except OSError as fault:
+            raise Failure(f"no file can be made for `hazard` to read: {fault.strerror or fault}", OUTPUT_FAILED) from fault
+        yield path

@@ -3,6 +3,8 @@ from typing import Dict, Iterator, List, NamedTuple, Optional
 
 from .lines import assignments
 
+# What reading a text that is no report raises.
+STRANGE = (IndexError, KeyError, RuntimeError, StopIteration, ValueError)
 CLASSES = ("steady", "single", "static", "maybe-dynamic", "change", "unsettled")
 
 

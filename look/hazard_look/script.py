@@ -5,6 +5,9 @@ from .errors import SCRIPT_FAULT, WRONG_WORDS, Failure, read_file
 from .lines import assigned, lines_of
 
 
+NO_CHANGE = "the script has no change"
+
+
 class Statement(NamedTuple):
     """A line of a script: `start`, `change`, or nothing but a comment; its assignments, its comment, and the line itself."""
 
@@ -28,10 +31,19 @@ def read(text):
 
 
 def must_be_written_out(path):
-    """Fails if a script, which `hazard` has accepted, has edges `#clock ..`: for `hazard` they are comments, so nothing would happen."""
-    for statement in read(read_file(path)):
+    """Fails if a script, which `hazard` has accepted, has edges `#clock ..`: for `hazard` they are comments, so nothing would happen.
+    It also fails if it has no change."""
+    statements = list(read(read_file(path)))
+    for statement in statements:
         if is_edge(statement):
             raise Failure(not_written_out(statement), WRONG_WORDS)
+    must_have_a_change(statements)
+
+
+def must_have_a_change(statements):
+    """Fails if no statement is a change: then there is nothing to say."""
+    if all(statement.keyword != "change" for statement in statements):
+        raise Failure(f"{NO_CHANGE}, so there is nothing to say: write a line `change INPUT=BIT` behind the start", WRONG_WORDS)
 
 
 def is_edge(statement):

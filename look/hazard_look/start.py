@@ -2,17 +2,29 @@
 import re
 
 from .circuit import load
-from .errors import DONE
+from .errors import DONE, NETLIST_FAULT, Failure, read_file
+from .lines import lines_of
 
 # Names that synthesis gives to inner nodes; a designer knows the others.
 _INNER = re.compile(r"[_$]|.*\\|(new_)?n\d+_?$")
+_ALWAYS = re.compile(r"# always ([01])\s*$")
 
 
 def run(words, out):
     """Writes the line for a netlist that `hazard` accepts."""
     words.program.must_read(words.netlist)
-    out.write(line(load(words.netlist), {}, ()) + "\n")
+    circuit = load(words.netlist)
+    known = {} if words.netlist.lower().endswith(".blif") else _always(read_file(words.netlist))
+    if not circuit.nodes:
+        raise Failure(f"{words.netlist}: the netlist has no node, so a start has nothing to list", NETLIST_FAULT)
+    out.write(line(circuit, known, ()) + "\n")
     return DONE
+
+
+def _always(text):
+    """The inputs that are constants, as the comments that `from-yosys` writes say."""
+    found = ((row.tokens, _ALWAYS.match(row.comment)) for row in lines_of(text))
+    return {tokens[2]: bit[1] for tokens, bit in found if bit and len(tokens) == 4 and tokens[0].upper() == "INPUT"}
 
 
 def line(circuit, known, preferred):

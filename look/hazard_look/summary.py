@@ -37,10 +37,10 @@ def run(words, out):
 
 def _chosen(only, circuit):
     """The nodes that the summary speaks of: those that are named, or all."""
-    names = only.split(",") if only else circuit.nodes
+    names = circuit.nodes if only is None else only.split(",")
     strange = sorted(set(names) - set(circuit.nodes))
     if strange:
-        raise Failure(f"--only: no node is named {', '.join(strange)}", WRONG_WORDS)
+        raise Failure(f"--only: no node is named {', '.join(name or '``' for name in strange)}", WRONG_WORDS)
     return set(names)
 
 

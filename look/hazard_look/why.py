@@ -2,13 +2,13 @@
 from typing import List, NamedTuple
 
 from . import runtext
-from .causes import events_of, races, sentence
+from .causes import MOST_NAMED, events_of, races, sentence
 from .circuit import load
 from .errors import DONE, OUTPUT_FAILED, WRONG_WORDS, Failure
 from .network import Network
 from .one_edge import one_edge
 from .runtext import Run
-from .script import must_be_written_out
+from .script import NO_CHANGE, must_be_written_out
 from .search import Edges, Searcher
 from .summary import is_clean, meaning
 from .waves import LEGEND, drawn, waves
@@ -43,10 +43,13 @@ def run(words, out):
     shown = _shown(searcher, row, is_clean(row, edges))
     text = searcher.text.of([Run(searcher.named(one.lead), _named_cycle(searcher, one)) for one in shown])
     words.program.must_accept(words.netlist, text)
+    # before the waveforms, of which a reader may want the first lines alone
+    if words.save is not None:
+        _save(words.save, text.text())
     for one in shown:
         _write(out, searcher, row.name, one)
-    if words.save:
-        _save(words.save, text.text())
+    if row.kind == "unsettled":
+        _write_in_front(out, searcher.network, change.rows, row.name)
     return DONE
 
 
@@ -64,7 +67,7 @@ def _change(words, report, circuit):
         if edge is None or edge.rows[words.node].kind == "steady":
             edge = change
     if words.change is not None or edge is None:
-        raise Failure(f"the script has no change {words.change}" if words.change else "the script has no change", WRONG_WORDS)
+        raise Failure(NO_CHANGE if words.change is None else f"{NO_CHANGE} {words.change}", WRONG_WORDS)
     return edge
 
 
@@ -92,6 +95,16 @@ def _endless(searcher, node):
         numbers = searcher.network.number
         turning = [[[numbers[name] for name in step] for step in steps] for steps in (printed.lead, printed.cycle)]
     return shown + [Shown("it can go on for ever", *turning)]
+
+
+def _write_in_front(out, network, rows, node):
+    """Names the static nodes on which an unsettled node depends: a loop may have stored the pulse of one of them."""
+    cone = network.cone(network.number[node])
+    static = [row.name for row in rows.values() if row.kind == "static" and network.number[row.name] in cone]
+    if static:
+        more = f" and {len(static) - MOST_NAMED} more" if len(static) > MOST_NAMED else ""
+        named = ", ".join(static[:MOST_NAMED]) + more
+        out.write(f"\nstatic on the way to {node}: {named}; `why` says of these which wires have to be slow\n")
 
 
 def _named_cycle(searcher, shown):

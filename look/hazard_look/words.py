@@ -4,13 +4,14 @@ import os
 import sys
 
 from . import clock, expect, from_yosys, page, program, start, summary, why
-from .errors import OUTPUT_FAILED, WRONG_WORDS, Failure
+from .errors import INTERRUPTED, OUTPUT_FAILED, WRONG_WORDS, Failure, must_be_plain
 
 ABOUT = """The companion of `hazard`: it shows what a circuit does, asks why, and keeps it as a test. Each value and class
 that it prints is read from a report of `hazard analyse`, and `hazard replay` has accepted each run that it shows."""
 STATUSES = """status: 0 done; 1 an expectation does not hold, or a change does not settle (clock); 2 wrong words, or an
-expectation that can't be read; 3 to 9 as `hazard` has them, whose refusal is passed on; 70 a run that was to be
-shown is not accepted by `hazard replay`, which is a fault of this program; 127 no program `hazard` is found"""
+expectation that can't be read; 3 to 10 as `hazard` has them, whose refusal is passed on; 70 a run that was to be
+shown is not accepted by `hazard replay`, which is a fault of this program; 127 no program `hazard` is found;
+130 interrupted"""
 
 
 def main(words, home):
@@ -20,20 +21,39 @@ def main(words, home):
         parser().print_help(sys.stderr)
         return WRONG_WORDS
     asked = parser().parse_args(words)
+    if sys.stdout is None:
+        return _failed("standard output is closed", OUTPUT_FAILED)
+    try:
+        return _answered(asked, home)
+    except KeyboardInterrupt:
+        return INTERRUPTED
+    except OSError as fault:
+        # What Python would flush at the end goes nowhere. If the reader has gone, nobody has to be told.
+        os.dup2(os.open(os.devnull, os.O_WRONLY), sys.stdout.fileno())
+        gone = isinstance(fault, BrokenPipeError)
+        return OUTPUT_FAILED if gone else _failed(f"standard output can't be written: {fault.strerror or fault}", OUTPUT_FAILED)
+
+
+def _answered(asked, home):
+    """Does a job, and answers the status; what goes wrong with standard output is left to the caller."""
     try:
         if "hazard" in asked:
             asked.program = program.find(asked.hazard, home)
+            must_be_plain(asked.netlist)
+        if "script" in asked:
+            must_be_plain(asked.script)
         status = asked.job(asked, sys.stdout)
         sys.stdout.flush()
         return status
     except Failure as failure:
         sys.stdout.flush()
-        print(f"hazard-look: {failure}", file=sys.stderr)
-        return failure.status
-    except OSError:
-        # Nobody reads the output: what Python would flush at the end goes nowhere.
-        os.dup2(os.open(os.devnull, os.O_WRONLY), sys.stdout.fileno())
-        return OUTPUT_FAILED
+        return _failed(failure, failure.status)
+
+
+def _failed(line, status):
+    """Writes why a job is not done, and answers the status."""
+    print(f"hazard-look: {line}", file=sys.stderr)
+    return status
 
 
 def parser():
@@ -54,6 +74,7 @@ def parser():
     job = _plain_job(jobs, "from-yosys", from_yosys.run, "a netlist from what yosys' `write_json` gives after `synth`")
     job.add_argument("design", metavar="DESIGN.json", help="the design, flattened and of simple gates")
     job.add_argument("--top", metavar="MODULE", help="the module to take, if the design has several")
+    job.add_argument("--join", action="store_true", help="make gates one again that yosys split: a NAND, or three pins")
     return top
 
 

@@ -5,11 +5,12 @@ The files NAME.json come from `yosys -p "read_verilog NAME.v; synth -flatten -to
 """
 import json
 import os
+import random
 import shutil
 import subprocess
 from itertools import product
 
-from hazard_look import cells, lines, netlist, network, script
+from hazard_look import cells, join, lines, netlist, network, script
 
 ROOM = os.path.join(os.path.dirname(os.path.abspath(__file__)), "designs")
 NAMES = ("gate", "latch", "counter", "synchroniser", "select")
@@ -42,6 +43,8 @@ def rows(folder, call, run, hazard, expected):
     yield from _latches()
     yield from _refused(folder, run)
     yield from _enumerated(folder, run)
+    yield from _joined_at_random()
+    yield from _joined(folder, run)
 
 
 def _beside_iverilog(folder, name, written, bench, hazard):
@@ -221,3 +224,47 @@ def _enumerated(folder, run):
         json.dump({"modules": {"top": module}}, file)
     yield "names of the source text first", run(["from-yosys", path], folder), (
         0, "INPUT(a)\nOUTPUT(y)\ninner = NOT(a)\ny = NOT(inner)\n", "start a=?\n")
+
+
+def _joined_at_random():
+    """Gates that are joined keep the functions of those that stay."""
+    chance, wrong, fewer = random.Random(11), [], 0
+    for number in range(300):
+        names, gates = ["a", "b", "c", "d"], []
+        for at in range(chance.randint(2, 12)):
+            kind = chance.choice(["AND", "OR", "XOR", "NAND", "NOR", "XNOR", "NOT"])
+            gates.append(netlist.Gate(f"g{at}", kind, [chance.choice(names[-6:]) for _ in range(1 if kind == "NOT" else 2)]))
+            names.append(f"g{at}")
+        fixed = {gate.name for gate in gates if chance.random() < 0.3} | {gates[-1].name}
+        kept = join.joined(gates, fixed)
+        fewer += len(gates) - len(kept)
+        before, after = _functions(gates), _functions(kept)
+        if not fixed <= set(after) or any(before[name] != bits for name, bits in after.items()):
+            wrong.append(number)
+    yield "joined gates", (wrong, fewer > 50), ([], True)
+    ring = [netlist.Gate("x", "NOT", ["y"]), netlist.Gate("y", "AND", ["x", "a"])]
+    yield "a ring of gates without names", join.joined(ring, set()) in ([netlist.Gate("x", "NAND", ["x", "a"])], [netlist.Gate("y", "NAND", ["y", "a"])]), True
+
+
+def _functions(gates):
+    """The values of each gate of a circuit without loops, for all values of its four inputs."""
+    values = {name: [state >> at & 1 for state in range(16)] for at, name in enumerate("abcd")}
+    for gate in gates:
+        pins = zip(*(values[source] for source in gate.sources))
+        values[gate.name] = [network.gate_value(gate.kind, sum(bits), len(bits)) for bits in pins]
+    return values
+
+
+def _joined(folder, run):
+    """A flip-flop of NANDs, which yosys splits, comes back as it was written."""
+    if not shutil.which("yosys"):
+        print("skipped: joined gates of yosys: it is not installed")
+        return
+    wanted = {"sb": "NAND(rb, s)", "s": "NAND(sb, ck, clear)", "r": "NAND(s, ck, rb)", "rb": "NAND(r, d, clear)", "q": "NAND(s, qb)", "qb": "NAND(q, r, clear)"}
+    text = "".join(f"  nand ({name}, {pins.removeprefix('NAND(')};\n" for name, pins in wanted.items())
+    with open(os.path.join(folder, "join.v"), "w", encoding="ascii") as file:
+        file.write(f"module top(input ck, d, clear, output q, qb);\n  wire s, sb, r, rb;\n{text}endmodule\n")
+    words = "read_verilog join.v; synth -flatten -noabc -top top; opt_clean; rename -enumerate; write_json join.json"
+    subprocess.run(["yosys", "-q", "-p", words], cwd=folder, stdout=subprocess.DEVNULL, stderr=subprocess.DEVNULL, check=True)
+    status, found, _ = run(["from-yosys", "--join", "join.json"], folder)
+    yield "joined gates of yosys", (status, dict(line.split(" = ") for line in found.splitlines() if " = " in line)), (0, wanted)
