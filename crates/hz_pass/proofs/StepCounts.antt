@@ -155,7 +155,7 @@ pub record StepsSoFar (rule : Rule) (netlist : Netlist) (start : List Tri) (firs
 module _
     {rule : Rule} {input : List Bool} {state next : List Tri} {changed : List ℕ} (netlist : Netlist) (circuit : IsCircuit netlist)
     (round : IsRound rule (network_of netlist) input state next changed) where
-  pub steps-begin : {first begun now : ℕ} → length state ≡ length (network_of netlist) → now ≡ begun + first → begun + length changed ≤ now →
+  pub steps-begin : {first begun now : ℕ} → length state ≡ length (network_of netlist) → now ≤ begun + first → begun + length changed ≤ now →
       StepsSoFar rule netlist state first begun now next changed
   steps-begin long counted some = record {
     least = omega (arith, some, round.balance (λ i. 1), sum_by-ones changed);

@@ -1,5 +1,5 @@
 -- The words of a round and of a pass, as the code has them: what each begins with, and what it makes.
-use Rattle.std.specs.Prelude.{◌≡◌, ℕ, ◌<◌, ◌≤◌, List, length}
+use Rattle.std.specs.Prelude.{ℕ, ◌<◌, ◌≤◌, List, length}
 use Rattle.hz_core.specs.declared.tri.Tri.{Tri}
 use Rattle.hz_net.specs.Network.{network_of, IsState, IsInput, IsVariable}
 use Rattle.hz_pass.specs.declared.round.Round.{Round}
@@ -16,6 +16,10 @@ pub record CanBeMade (round : Round) : Type 0 where
 abbrev pub IsMadeIn : Round → List Tri → ℕ → Type 0
 IsMadeIn round next i =
     IsMade round.rule (network_of round.net.now) round.input.now round.state.now next i
+
+-- and so have the variables from one number on and below another
+abbrev pub AreMadeIn : ℕ → ℕ → Round → List Tri → Type 0
+AreMadeIn from below round next = (i : ℕ) → from ≤ i → i < below → IsMadeIn round next i
 
 -- what was made is still made
 abbrev pub KeepsMade : Round → List Tri → List Tri → Type 0

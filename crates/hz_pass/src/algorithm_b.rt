@@ -19,7 +19,7 @@ use std::sync::ledger::Ledger;
 ///
 /// Turns `state` into the result, writes into `when` the first round in which a variable that was X is 0 or 1, and 0
 /// for every other variable, and returns the rounds, the last one included, which changes nothing. The first round
-/// evaluates every variable, a later one only the readers of what the round before changed: all rounds together evaluate at
+/// looks at every variable, a later one only at the readers of what the round before changed: all rounds together evaluate at
 /// most as many variables as there are, and two for each wire. `work` is room for a round. All slices but `input` have one
 /// element for each variable. It takes no memory.
 pub fn settle<L: Ledger>(

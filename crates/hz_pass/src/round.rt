@@ -1,9 +1,9 @@
 //! One round of a pass, which evaluates some of the variables.
-ghost use Rattle.std.specs.Prelude.{◌≡◌, ◌+◌, ◌<◌, ◌≤◌, [], length, not, fold, slice_set, sum_by, vec_capacity, All};
+ghost use Rattle.std.specs.Prelude.{◌≡◌, ℕ, ◌+◌, ◌<◌, ◌≤◌, [], false, IsTrue, length, not, fold, slice_set, sum_by, vec_capacity, All};
 ghost use Rattle.hz_core.specs.Netlist.{IsCircuit};
-ghost use Rattle.hz_net.specs.Network.{network_of, IsVariable};
+ghost use Rattle.hz_net.specs.Network.{network_of, value_at, IsVariable};
 ghost use Rattle.hz_pass.specs.Frontier.{next_value, is_open, reader_count, with_values_of};
-ghost use Rattle.hz_pass.specs.InRound.{CanBeMade, IsMadeIn, IsQuietIn, KeepsMade, LeavesFrom, Makes, MakesSoFar};
+ghost use Rattle.hz_pass.specs.InRound.{AreMadeIn, CanBeMade, IsMadeIn, IsQuietIn, KeepsMade, LeavesFrom, Makes, MakesSoFar};
 
 use hz_core::Tri;
 use hz_lists::Steps;
@@ -39,6 +39,19 @@ impl Rule {
             Rule::Replace => value != Tri::Unknown,
         }
     }
+
+    // Whether this is so of sixteen values. It has no branch between two of them.
+    fn are_final(self, values: &[Tri], first: usize) -> bool
+        requires { first + 16 ≤ length values.now }
+        ensures { IsTrue result → (i : ℕ) → i < 16
+            → is_open self (value_at values.now (first + i)) ≡ false }
+    {
+        let mut all = true;
+        for place in 0..16 {
+            all &= self.is_final(values[first + place]);
+        }
+        all
+    }
 }
 
 /// A round from a state. What it makes is written into another list, so no evaluation sees a value of this round.
@@ -51,7 +64,7 @@ pub(crate) struct Round<'a> {
 }
 
 impl Round<'_> {
-    /// Evaluates the variables below a number. The round leaves all others as they are.
+    /// Evaluates the variables below a number, but for blocks of final values. The round leaves all others as they are.
     pub(crate) fn evaluate_first<L: Ledger>(
         &self,
         count: u32,
@@ -67,10 +80,65 @@ impl Round<'_> {
         requires room { length (network_of self.now.net.now) ≤ vec_capacity changed.old }
         ensures round { Makes self.now next.new changed.new.items }
         ensures room { vec_capacity changed.new ≡ vec_capacity changed.old }
-        ensures steps { steps.new ≡ steps.old + count }
+        ensures steps { steps.new ≤ steps.old + count }
         ensures counted { steps.old + length changed.new.items ≤ steps.new }
     {
-        for var in 0..count {
+        for block in 0..count / 16 {
+            self.evaluate_block(block * 16, next, changed, steps);
+        }
+        self.evaluate_range(count / 16 * 16, count, next, changed, steps);
+    }
+
+    // Evaluates sixteen variables. Nothing is left to do if the values of all are final.
+    fn evaluate_block<L: Ledger>(
+        &self,
+        var: u32,
+        next: &mut [Tri],
+        changed: &mut Vec<u32>,
+        steps: &mut Steps<L>,
+    )
+        requires round { CanBeMade self.now }
+        requires inside { var + 16 ≤ length (network_of self.now.net.now) }
+        requires fits { var + 16 < 4294967296 }
+        requires so_far { MakesSoFar self.now next.old changed.old.items }
+        requires room { length (network_of self.now.net.now) ≤ vec_capacity changed.old }
+        ensures so_far { MakesSoFar self.now next.new changed.new.items }
+        ensures made { AreMadeIn var (var + 16) self.now next.new }
+        ensures kept { KeepsMade self.now next.old next.new }
+        ensures room { vec_capacity changed.new ≡ vec_capacity changed.old }
+        ensures steps { steps.new ≤ steps.old + 16 }
+        ensures counted { steps.old + length changed.new.items
+            ≤ steps.new + length changed.old.items }
+    {
+        if self.rule.are_final(next, var as usize) {
+            return;
+        }
+        self.evaluate_range(var, var + 16, next, changed, steps);
+    }
+
+    // Evaluates the variables from one number on and below another.
+    fn evaluate_range<L: Ledger>(
+        &self,
+        from: u32,
+        below: u32,
+        next: &mut [Tri],
+        changed: &mut Vec<u32>,
+        steps: &mut Steps<L>,
+    )
+        requires round { CanBeMade self.now }
+        requires from { from ≤ below }
+        requires inside { below ≤ length (network_of self.now.net.now) }
+        requires so_far { MakesSoFar self.now next.old changed.old.items }
+        requires room { length (network_of self.now.net.now) ≤ vec_capacity changed.old }
+        ensures so_far { MakesSoFar self.now next.new changed.new.items }
+        ensures made { AreMadeIn from below self.now next.new }
+        ensures kept { KeepsMade self.now next.old next.new }
+        ensures room { vec_capacity changed.new ≡ vec_capacity changed.old }
+        ensures steps { steps.new + from ≡ steps.old + below }
+        ensures counted { steps.old + length changed.new.items
+            ≤ steps.new + length changed.old.items }
+    {
+        for var in from..below {
             self.evaluate(var, next, changed, steps);
         }
     }
