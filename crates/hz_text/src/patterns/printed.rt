@@ -12,7 +12,7 @@ use std::alloc::Global;
 const BLOCK_BYTES: usize = 4096;
 
 // A text of so many bytes is read in two parts. A shorter one takes little memory.
-const LONG_TEXT: usize = 4_194_304;
+const LONG_TEXT: usize = 8_388_608;
 
 // The patterns of the first lines of a text: how many they are, how many bytes their lines have, and their bits.
 #[derive(Drop)]
