@@ -1,9 +1,8 @@
 //! The second text: it is read, and then a job does its part with the value, or its least fault is written.
-ghost use Rattle.std.specs.Prelude.{◌≤◌, ℕ, List, length, vec_len, IfOk, IfErr, OnOk};
+ghost use Rattle.std.specs.Prelude.{◌≤◌, ℕ, List, length, vec_len};
 ghost use Rattle.hz_core.specs.Netlist.{Netlist, IsCircuit};
 ghost use Rattle.hz_line.specs.Line.{most_text_bytes};
-ghost use Rattle.hz_text.specs.PatternFault.{IsPatternFaultless, IsPatternRefusal};
-ghost use Rattle.hz_text.specs.PatternText.{ArePatternsFor, IsPatternsValue};
+ghost use Rattle.hz_text.specs.PatternText.{ArePatternsFor};
 ghost use Rattle.hz_text.specs.PatternValue.{PatternsOf};
 ghost use Rattle.hz_text.specs.RunText.{IsRunTextFor};
 ghost use Rattle.hz_text.specs.RunValue.{RunTextOf};
@@ -18,7 +17,7 @@ use crate::status::Status;
 use hz_core::Circuit;
 use hz_net::Net;
 use hz_outside::Sink;
-use hz_text::{Patterns, RunText, Script, TextFault, read_patterns, read_run, read_script};
+use hz_text::{Patterns, RunText, Script, read_owned_patterns, read_run, read_script};
 use std::alloc::Global;
 
 /// What a job does with a script. `judges` says which text comes with which status.
@@ -98,7 +97,7 @@ pub fn on_runs<J: OnRuns, K: Sink>(
     }
 }
 
-// Reads patterns, and does a job with them.
+// Reads patterns, whose text is freed by then, and does a job with them.
 pub fn on_patterns<J: OnPatterns, K: Sink>(
     alloc: Global,
     job: &J,
@@ -111,19 +110,8 @@ pub fn on_patterns<J: OnPatterns, K: Sink>(
         out.new result }
 {
     let circuit = net.circuit();
-    match read_and_free(alloc, circuit, text) {
+    match read_owned_patterns(alloc, circuit, text) {
         Ok(patterns) => job.with_patterns(alloc, net, &patterns, out),
         Err(fault) => refuse_text(out, b"patterns", circuit, fault),
     }
-}
-
-// Reads patterns and frees their text: they have bits of their own, and the job that follows takes memory.
-fn read_and_free(alloc: Global, circuit: &Circuit, text: Vec<u8>) -> Result<Patterns, TextFault>
-    requires { vec_len text ≤ most_text_bytes }
-    ensures value { IfOk result (IsPatternsValue circuit.now text.items) }
-    ensures usable { IfOk result (ArePatternsFor circuit.now) }
-    ensures faultless { OnOk result (IsPatternFaultless circuit.now text.items) }
-    ensures fault { IfErr result (IsPatternRefusal circuit.now text.items) }
-{
-    read_patterns(alloc, circuit, text.as_slice())
 }

@@ -1,10 +1,10 @@
 -- A text whose first lines are printed patterns: its faults and its value, by what is read of the rest.
-use Rattle.std.proofs.Common.{◌≡◌, ◌∙◌, ℕ, ◌+◌, ◌-◌, ◌≤◌, Bool, true, false, nat_eq, List, [], ◌∷◌, ◌++◌, Option, Some, None, suc, length, take, drop, map, refl, ap, sym, subst, inl, inr, arith}
+use Rattle.std.proofs.Common.{◌≡◌, ◌∙◌, ℕ, ◌+◌, ◌-◌, ◌*◌, ◌≤◌, Bool, true, false, nat_eq, List, [], ◌∷◌, ◌++◌, Option, Some, None, suc, length, take, drop, map, refl, ap, sym, subst, inl, inr, arith}
 use Rattle.std.specs.List.{flat_map, range_with_len, All}
 use Rattle.std.specs.Prelude.{slice_get, if◌then◌else◌}
 use Rattle.std.specs.Option.{option_map, option_or}
 use Rattle.std.proofs.lemmas.Bool.Decides.{nat_tests}
-use Rattle.std.proofs.lemmas.List.{map-append, length-map, length-drop, take_all, take-append-drop}
+use Rattle.std.proofs.lemmas.List.{map-append, length-map, length-drop, take_all}
 use Rattle.std.proofs.lemmas.List.Elements.{All-map}
 use Rattle.std.proofs.lemmas.Option.{slice_get_past, slice_get-map}
 use Rattle.hz_core.specs.Netlist.{Netlist}
@@ -21,7 +21,7 @@ use Rattle.hz_text.specs.PatternFault.{resolved_pattern_statements, HasPatternFa
 use Rattle.hz_text.specs.PatternText.{held_first, behind_hold, pattern_statement, ArePatternsBy, IsPatternsValue, IsPatternOf, ArePatternsFor}
 use Rattle.hz_text.specs.PatternRules.{holds_node_twice, first_late_hold, last_beyond, pattern_rules, first_pattern_fault, late_hold_behind, beyond_behind, rules_behind, fault_behind, ArePatternsBehind}
 use Rattle.hz_text.specs.PatternPrinted.{pattern_text}
-use Rattle.hz_text.specs.PatternModel.{AreInFront}
+use Rattle.hz_text.specs.PatternModel.{text_behind}
 use Rattle.hz_text.specs.PatternInside.{patterns_in}
 use Rattle.hz_text.specs.PatternValue.{PatternOf, PatternsOf}
 use Rattle.hz_text.proofs.LeastFault.{unanswered, checked-none}
@@ -186,46 +186,45 @@ pub rest-whole : (end : ℕ) (text : List ℕ) → take (length text - end) (dro
 rest-whole end text = take_all (length text - end) (drop end text) (omega (arith, length-drop end text))
 
 -- a text whose first lines are printed patterns
-module _ (netlist : Netlist) (count end : ℕ) (bits : List Bool) (text : List ℕ) (is : AreInFront netlist.inputs count end bits text) where
+module _ (netlist : Netlist) (count : ℕ) (bits : List Bool) (rest : List ℕ) (few : count ≤ most_patterns) (size : length bits ≡ count * (2 * netlist.inputs)) where
   abbrev front : List PatternOf
   front = patterns_in count netlist.inputs bits
 
-  abbrev rest : List ℕ
-  rest = drop end text
+  abbrev text : List ℕ
+  text = text_behind netlist.inputs count bits rest
 
   long : length front ≡ count
   long = length-patterns count netlist.inputs bits
 
   right : All (IsPatternOf netlist.inputs) front
-  right = all-patterns_in count netlist.inputs bits is.printed.long
+  right = all-patterns_in count netlist.inputs bits size
 
   read : IsReadBehind (resolve_pattern_tokens netlist) count (map pattern_statement front) rest text
   read =
-      let whole : flat_map pattern_text front ++ rest ≡ text = ap (λ (first : List ℕ). first ++ rest) is.printed.lines ∙ take-append-drop end text in
       let P : ℕ → Type 0 = λ lines. IsReadBehind (resolve_pattern_tokens netlist) lines (map pattern_statement front) rest text in
-      subst P (length-map front pattern_statement ∙ long) (read-behind (resolve_pattern_tokens netlist) (flat_map pattern_text front) rest text (map pattern_statement front) (patterns_read netlist front) whole)
+      subst P (length-map front pattern_statement ∙ long) (read-behind (resolve_pattern_tokens netlist) (flat_map pattern_text front) rest text (map pattern_statement front) (patterns_read netlist front) refl)
 
   passes : first_fault_in (pattern_rules netlist.inputs) (numbered_statements (resolve_pattern_tokens netlist) text) ≡ option_map (fault_behind count) (first_fault_in (rules_behind count netlist.inputs) (numbered_statements (resolve_pattern_tokens netlist) rest))
   passes =
       let statements = numbered_statements (resolve_pattern_tokens netlist) rest in
       ap (first_fault_in (pattern_rules netlist.inputs)) read.statements
-      ∙ passes-behind netlist.inputs count front statements right (omega (arith, long, is.few))
+      ∙ passes-behind netlist.inputs count front statements right (omega (arith, long, few))
       ∙ ap (λ (k : ℕ). option_map (fault_behind count) (first_fault_in (rules_behind k netlist.inputs) statements)) long
 
   first_fault : first_fault_of (resolve_pattern_tokens netlist) (pattern_rules netlist.inputs) text ≡ option_map (fault_behind count) (first_fault_of (resolve_pattern_tokens netlist) (rules_behind count netlist.inputs) rest)
   first_fault = or-behind count Form _ _ _ _ (λ place. refl) read.malformed (λ formed. passes)
 
   -- the fault of the rest is the least of the text
-  pub refusal-behind : (fault : TextFault) → IsFaultOrMemory (option_map (fault_behind count) (first_fault_of (resolve_pattern_tokens netlist) (rules_behind count netlist.inputs) (drop end text))) fault → IsPatternRefusal netlist text fault
+  pub refusal-behind : (fault : TextFault) → IsFaultOrMemory (option_map (fault_behind count) (first_fault_of (resolve_pattern_tokens netlist) (rules_behind count netlist.inputs) rest)) fault → IsPatternRefusal netlist (text_behind netlist.inputs count bits rest) fault
   refusal-behind fault (inl memory) = inl memory
   refusal-behind fault (inr found) = refusal netlist text fault (inr (first_fault ∙ found))
 
   -- a rest in which the passes find nothing
-  module _ (statements : List (Numbered ResolvedPatternStatement)) (h : IsChecked (resolve_pattern_tokens netlist) (rules_behind count netlist.inputs) (drop end text) statements) where
+  module _ (statements : List (Numbered ResolvedPatternStatement)) (h : IsChecked (resolve_pattern_tokens netlist) (rules_behind count netlist.inputs) rest statements) where
     none : first_fault_of (resolve_pattern_tokens netlist) (pattern_rules netlist.inputs) text ≡ None
     none = first_fault ∙ ap (option_map (fault_behind count)) (checked-none (resolve_pattern_tokens netlist) (rules_behind count netlist.inputs) rest statements h)
 
-    pub faultless-behind : IsPatternFaultless netlist text
+    pub faultless-behind : IsPatternFaultless netlist (text_behind netlist.inputs count bits rest)
     faultless-behind = unanswered (HasPatternFault netlist text) _ (patterns-outcome netlist text) none
 
     clear : IsClear netlist.inputs (resolved_pattern_statements netlist text)
@@ -243,7 +242,7 @@ module _ (netlist : Netlist) (count end : ℕ) (bits : List Bool) (text : List �
         ap (λ (k : ℕ). late_hold_behind k statements) long ∙ (none_parts Order (late_hold_behind count statements) _ c.1).0
 
     -- the value of the text, and what holds of it
-    pub value_is-behind : (value : PatternsOf) → ArePatternsBehind (patterns_in count netlist.inputs bits) (length netlist.names) statements value → IsPatternsValue netlist text value
+    pub value_is-behind : (value : PatternsOf) → ArePatternsBehind (patterns_in count netlist.inputs bits) (length netlist.names) statements value → IsPatternsValue netlist (text_behind netlist.inputs count bits rest) value
     value_is-behind value built =
         let P : List (Numbered ResolvedPatternStatement) → Type 0 = λ all. ArePatternsBy (length netlist.names) all value in
         let same : all_statements count front statements ≡ resolved_pattern_statements netlist text =

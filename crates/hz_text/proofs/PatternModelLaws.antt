@@ -5,12 +5,12 @@ use Rattle.std.proofs.Math.Nat.{add-mul, suc-mul, zero-mul}
 use Rattle.std.proofs.lemmas.Nat.{mul-le}
 use Rattle.std.proofs.lemmas.Bool.{and_parts}
 use Rattle.std.proofs.lemmas.Bool.Decides.{nat_tests}
-use Rattle.std.proofs.lemmas.List.{append-nil, drop-drop, drop-take, take-take, drop-append-le, take-append-le, drop-map, take-map, length-map, length-take-le, length-drop, length-replicate, take-append-drop}
+use Rattle.std.proofs.lemmas.List.{append-nil, drop-drop, drop-take, take-take, drop-append-le, take-append-le, drop-map, take-map, length-map, length-take-le, length-drop, length-replicate, take-append-drop, take_all}
 use Rattle.std.proofs.lemmas.List.Elements.{All-nil, All-cons}
 use Rattle.std.proofs.lemmas.Grind.{flat_map-append}
 use Rattle.hz_text.specs.Limits.{most_patterns}
 use Rattle.hz_text.specs.PatternText.{IsPatternOf}
-use Rattle.hz_text.specs.PatternModel.{agrees, AgreesWith, model_line, model_lines, bits_at, ArePrintedBits, AreInFront}
+use Rattle.hz_text.specs.PatternModel.{agrees, AgreesWith, model_line, model_lines, bits_at, ArePrintedBits, AreAddedBits, AreInFront}
 use Rattle.hz_text.specs.PatternPrinted.{pattern_text}
 use Rattle.hz_text.specs.PatternInside.{patterns_in}
 use Rattle.hz_text.specs.PatternValue.{PatternOf}
@@ -275,11 +275,72 @@ all-patterns_in (suc count) n bits e =
     let rest = all-patterns_in count n (drop (2 * n) bits) (length-drop (2 * n) bits ∙ omega (arith, e, sum)) in
     All-cons (IsPatternOf n) (record { from = take n bits; to = take n (drop n bits) }) (patterns_in count n (drop (2 * n) bits)) (record { from = from; to = to }) rest
 
--- the lines that agree so far stand in front of the text
-pub in_front : (n start most : ℕ) (bits : List Bool) (text : List ℕ) → start ≤ most → most ≤ most_patterns → most * (10 + 2 * n) ≤ length text → ArePrintedBits n start bits (take (start * (10 + 2 * n)) text) →
-    AreInFront n start (start * (10 + 2 * n)) bits text
-in_front n start most bits text up few room printed = record {
-  few = omega (arith, up, few);
-  inside = omega (arith, room, mul-le start (10 + 2 * n) most (10 + 2 * n) up (omega arith));
-  printed = printed;
+-- no bits more
+pub added-none : (n : ℕ) (bits : List Bool) (text : List ℕ) → AreAddedBits n 0 bits bits (take (0 * (10 + 2 * n)) text)
+added-none n bits text = record {
+  behind = λ before front is.
+      let none : 0 * (10 + 2 * n) ≡ 0 = zero-mul (10 + 2 * n) in
+      let same : front ≡ front ++ take (0 * (10 + 2 * n)) text = rw none (sym (append-nil front)) in
+      let count : before ≡ before + 0 = omega arith in
+      let P : ℕ → Type 0 = λ k. ArePrintedBits n k bits (front ++ take (0 * (10 + 2 * n)) text) in
+      let Q : List ℕ → Type 0 = λ lines. ArePrintedBits n before bits lines in
+      subst P count (subst Q same is);
 }
+
+-- the bits of a block of lines more
+pub added-more :
+    (n start end : ℕ) (old bits more : List Bool) (front block whole : List ℕ) → start ≤ end → AreAddedBits n start old bits front → ArePrintedBits n (end - start) more block → front ++ block ≡ whole →
+    AreAddedBits n end old (bits ++ more) whole
+added-more n start end old bits more front block whole up h k e = record {
+  behind = λ before first is.
+      let all = printed-append (before + start) (end - start) n bits more (first ++ front) block (h.behind before first is) k in
+      let sum : before + start + (end - start) ≡ before + end = omega (arith, up) in
+      let text : first ++ front ++ block ≡ first ++ whole = append_assoc first front block ∙ ap (λ (later : List ℕ). first ++ later) e in
+      let P : ℕ → Type 0 = λ count. ArePrintedBits n count (bits ++ more) (first ++ whole) in
+      let Q : List ℕ → Type 0 = λ lines. ArePrintedBits n (before + start + (end - start)) (bits ++ more) lines in
+      subst P sum (subst Q text all);
+}
+
+-- the first bits of all
+printed_first : (n count : ℕ) (bits : List Bool) (text : List ℕ) → AreAddedBits n count [] bits text → ArePrintedBits n count bits text
+printed_first n count bits text h =
+    let P : ℕ → Type 0 = λ k. ArePrintedBits n k bits text in
+    subst P (zero-add count) (h.behind 0 [] (record { long = sym (zero-mul (2 * n)); lines = refl }))
+
+-- lines that are read stand in front of the text
+pub in_front : (n count : ℕ) (bits : List Bool) (text : List ℕ) → count ≤ most_patterns → AreAddedBits n count [] bits (take (count * (10 + 2 * n)) text) → AreInFront n count bits (drop (count * (10 + 2 * n)) text) text
+in_front n count bits text few h =
+    let end = count * (10 + 2 * n) in
+    let is = printed_first n count bits (take end text) h in
+    record { few = few; long = is.long; whole = ap (λ (front : List ℕ). front ++ drop end text) is.lines ∙ take-append-drop end text }
+
+-- the same of two readings, one after the other
+pub in_front-twice :
+    (n first second : ℕ) (some bits : List Bool) (text : List ℕ) → first + second ≤ most_patterns → AreAddedBits n first [] some (take (first * (10 + 2 * n)) text) →
+    AreAddedBits n second some bits (take (second * (10 + 2 * n)) (drop (first * (10 + 2 * n)) text)) → AreInFront n (first + second) bits (drop (second * (10 + 2 * n)) (drop (first * (10 + 2 * n)) text)) text
+in_front-twice n first second some bits text few h k =
+    let a = first * (10 + 2 * n) in
+    let b = second * (10 + 2 * n) in
+    let left = drop a text in
+    let is = k.behind first (take a text) (printed_first n first some (take a text) h) in
+    record {
+      few = few;
+      long = is.long;
+      whole =
+          ap (λ (front : List ℕ). front ++ drop b left) is.lines
+          ∙ append_assoc (take a text) (take b left) (drop b left)
+          ∙ ap (λ (later : List ℕ). take a text ++ later) (take-append-drop b left)
+          ∙ take-append-drop a text;
+    }
+
+-- the rest is no longer than the text
+pub rest-short : (n count : ℕ) (bits : List Bool) (rest text : List ℕ) → AreInFront n count bits rest text → length rest ≤ length text
+rest-short n count bits rest text is = omega (arith, length-append (flat_map pattern_text (patterns_in count n bits)) rest, ap length is.whole)
+
+-- what stands at the end of a text that is split into no more bytes in front than this end is behind
+pub moved_down : (from left : ℕ) (bytes behind : List ℕ) → left + from ≡ length bytes → left ≤ from → behind ≡ drop left bytes → take (length behind - (from - left)) (drop (from - left) behind) ≡ drop from bytes
+moved_down from left bytes behind sum few is =
+    take_all (length behind - (from - left)) (drop (from - left) behind) (omega (arith, length-drop (from - left) behind))
+    ∙ ap (drop (from - left)) is
+    ∙ drop-drop (from - left) left bytes
+    ∙ ap (λ (k : ℕ). drop k bytes) (omega (arith, few))

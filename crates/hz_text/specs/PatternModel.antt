@@ -41,8 +41,17 @@ pub record ArePrintedBits (inputs count : ℕ) (bits : List Bool) (text : List �
   pub long : length bits ≡ count * (2 * inputs)
   pub lines : flat_map pattern_text (patterns_in count inputs bits) ≡ text
 
--- the printed lines of so many patterns of these bits are the first so many bytes of a text
-pub record AreInFront (inputs count end : ℕ) (bits : List Bool) (text : List ℕ) : Type 0 where
+-- bits with those of so many patterns more, whose printed lines are a text
+pub record AreAddedBits (inputs count : ℕ) (old new : List Bool) (text : List ℕ) : Type 0 where
+  pub behind : (before : ℕ) (front : List ℕ) → ArePrintedBits inputs before old front
+      → ArePrintedBits inputs (before + count) new (front ++ text)
+
+-- the printed lines of so many patterns of these bits, and what stands behind them
+abbrev pub text_behind : ℕ → ℕ → List Bool → List ℕ → List ℕ
+text_behind inputs count bits rest = flat_map pattern_text (patterns_in count inputs bits) ++ rest
+
+-- the printed lines of so many patterns of these bits stand in front of the rest of a text
+pub record AreInFront (inputs count : ℕ) (bits : List Bool) (rest text : List ℕ) : Type 0 where
   pub few : count ≤ most_patterns
-  pub inside : end ≤ length text
-  pub printed : ArePrintedBits inputs count bits (take end text)
+  pub long : length bits ≡ count * (2 * inputs)
+  pub whole : text_behind inputs count bits rest ≡ text

@@ -1,8 +1,8 @@
 // The first lines of a text of patterns, where they are as they are printed.
 
-ghost use Rattle.std.specs.Prelude.{◌≡◌, ◌+◌, ◌*◌, ◌^◌, ◌<◌, ◌≤◌, ◌++◌, ◌&&◌, [], true, nat_eq, length, map, replicate, IfOk, OnOk};
+ghost use Rattle.std.specs.Prelude.{◌≡◌, ◌+◌, ◌-◌, ◌*◌, ◌^◌, ◌<◌, ◌≤◌, ◌++◌, ◌&&◌, [], true, nat_eq, length, vec_len, take, drop, map, replicate, IfOk, OnOk};
 ghost use Rattle.hz_text.specs.Limits.{most_patterns};
-ghost use Rattle.hz_text.specs.PatternModel.{AgreesWith, agrees, slack_by, bits_at, model_line, model_lines, AreInFront};
+ghost use Rattle.hz_text.specs.PatternModel.{AgreesWith, agrees, slack_by, bits_at, model_line, model_lines, AreAddedBits, AreInFront};
 
 use crate::patterns::value::MAX_PATTERNS;
 use hz_core::Memory;
@@ -10,6 +10,9 @@ use std::alloc::Global;
 
 // How many bytes are compared at once, if a line is shorter.
 const BLOCK_BYTES: usize = 4096;
+
+// A text of so many bytes is read in two parts. A shorter one takes little memory.
+const LONG_TEXT: usize = 8_388_608;
 
 // The patterns of the first lines of a text: how many they are, how many bytes their lines have, and their bits.
 #[derive(Drop)]
@@ -19,41 +22,118 @@ pub(crate) struct Front {
     pub(crate) bits: Vec<bool>,
 }
 
-// The first lines of a text that are as they are printed. They have one length, so blocks of lines are compared with a model,
-// in which all bits are 0, up to the first block with another line. Of the rest nothing is known.
-#[tactic(auto, using(crate::proofs::PatternModelLaws::in_front))]
+// The first lines of a text that are as they are printed. Of the rest nothing is known.
 pub(crate) fn read_front(alloc: Global, inputs: usize, text: &[u8]) -> Result<Front, Memory>
     requires few { inputs < 2 ^ 32 }
-    ensures { IfOk result
-        (λ front. AreInFront inputs front.count front.end front.bits.items text.now) }
+    ensures inside { IfOk result (λ front. front.end ≤ length text.now) }
+    ensures front { IfOk result
+        (λ front. AreInFront inputs front.count front.bits.items (drop front.end text.now)
+        text.now) }
 {
     let width = 10 + 2 * inputs;
     let most = most_lines(text, inputs, width);
+    let mut bits = Vec::with_capacity(alloc, most * (2 * inputs))?;
+    let count = push_front(alloc, &mut bits, inputs, text, most)?;
+    Ok(Front {
+        count,
+        end: count * width,
+        bits,
+    })
+}
+
+// The same of a text that is read in two parts. The first one is freed before the second one is read, if its lines are as they
+// are printed. The front ends so far into what is left.
+pub(crate) fn read_front_by_parts(
+    alloc: Global,
+    inputs: usize,
+    text: &mut Vec<u8>,
+) -> Result<Front, Memory>
+    requires few { inputs < 2 ^ 32 }
+    ensures inside { IfOk result (λ front. front.end ≤ vec_len text.new) }
+    ensures front { IfOk result
+        (λ front. AreInFront inputs front.count front.bits.items (drop front.end text.new.items)
+        text.old.items) }
+{
+    let width = 10 + 2 * inputs;
+    let most = most_lines(text.as_slice(), inputs, width);
+    let part = first_part(text.len(), most);
+    let mut bits = Vec::with_capacity(alloc, most * (2 * inputs))?;
+    let first = push_front(alloc, &mut bits, inputs, text.as_slice(), part)?;
+    let end = first * width;
+    if end < text.len() - end {
+        return Ok(Front {
+            count: first,
+            end,
+            bits,
+        });
+    }
+    free_first(text, end);
+    let second = push_front(alloc, &mut bits, inputs, text.as_slice(), most - first)?;
+    Ok(Front {
+        count: first + second,
+        end: second * width,
+        bits,
+    })
+}
+
+// How many lines are read before their memory is freed: three quarters of a long text, since what is left has to be moved.
+fn first_part(len: usize, most: usize) -> usize
+    ensures { result ≤ most }
+{
+    if len < LONG_TEXT {
+        return most;
+    }
+    most - most / 4
+}
+
+// Takes so many bytes off the front, at least half of all, and frees their memory.
+fn free_first(bytes: &mut Vec<u8>, count: usize)
+    requires inside { count ≤ vec_len bytes.old }
+    requires half { vec_len bytes.old ≤ 2 * count }
+    ensures { bytes.new.items ≡ drop count bytes.old.items }
+{
+    let left = bytes.len() - count;
+    let (front, behind) = bytes.as_mut_slice().split_at_mut(left);
+    front.copy_from_slice(&behind[count - left..]);
+    bytes.truncate(left);
+    bytes.shrink_to_fit();
+}
+
+// Adds the bits of the first lines of a text that are as they are printed, so many at most, and returns how many they are.
+// They have one length, so blocks of lines are compared with a model, in which all bits are 0, up to the first block with
+// another line.
+fn push_front(
+    alloc: Global,
+    bits: &mut Vec<bool>,
+    inputs: usize,
+    text: &[u8],
+    most: usize,
+) -> Result<usize, Memory>
+    requires few { inputs < 2 ^ 32 }
+    requires room { most * (10 + 2 * inputs) ≤ length text.now }
+    requires some { 1 ≤ most → 1 ≤ inputs }
+    ensures count { IfOk result (λ count. count ≤ most) }
+    ensures added { IfOk result
+        (λ count. AreAddedBits inputs count bits.old.items bits.new.items
+        (take (count * (10 + 2 * inputs)) text.now)) }
+{
+    let width = 10 + 2 * inputs;
     let lines = (BLOCK_BYTES / width).max(1);
     let model = model_of(alloc, inputs, lines)?;
     let slack = slack_of(alloc, model.as_slice())?;
     let mut ones = Vec::new(alloc);
-    let mut bits = Vec::with_capacity(alloc, most * (2 * inputs))?;
     let mut start = 0;
     while start < most {
         let end = most.min(start + lines);
         let block = &text[start * width..end * width];
         if !agree(block, model.as_slice(), slack.as_slice()) {
-            return Ok(Front {
-                count: start,
-                end: start * width,
-                bits,
-            });
+            return Ok(start);
         }
         mark_ones(&mut ones, block)?;
-        push_lines(&mut bits, ones.as_slice(), inputs, end - start)?;
+        push_lines(bits, ones.as_slice(), inputs, end - start)?;
         start = end;
     }
-    Ok(Front {
-        count: start,
-        end: start * width,
-        bits,
-    })
+    Ok(start)
 }
 
 // How many lines of so many bytes a text has room for. Without inputs none is read so, and none of a text that has room for

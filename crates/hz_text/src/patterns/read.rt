@@ -1,10 +1,11 @@
 //! Reading patterns.
 
-ghost use Rattle.std.specs.Prelude.{◌≡◌, ◌≤◌, ◌⊎◌, length, All, IfOk, IfErr, IfSome, OnOk, IsErrOf, MatchResult};
+ghost use Rattle.std.specs.Prelude.{◌≡◌, ◌*◌, ◌≤◌, ◌⊎◌, length, vec_len, All, IfOk, IfErr, IfSome, OnOk, IsErrOf, MatchResult};
 ghost use Rattle.std.specs.Option.{option_map};
 ghost use Rattle.hz_text.specs.declared.fault.TextFault.TheVariants as told;
 ghost use Rattle.hz_text.specs.Limits.{most_patterns};
 ghost use Rattle.hz_text.specs.PatternFault.{IsLeastPatternFault, IsPatternFaultless, IsPatternRefusal};
+ghost use Rattle.hz_text.specs.PatternModel.{text_behind};
 ghost use Rattle.hz_text.specs.PatternResolution.{numbered_pattern_resolutions, resolve_pattern_tokens};
 ghost use Rattle.hz_text.specs.PatternRules.{AssignsBelow, rules_behind, fault_behind};
 ghost use Rattle.hz_text.specs.PatternText.{IsPatternsValue, ArePatternsFor};
@@ -14,7 +15,7 @@ ghost use Rattle.hz_line.specs.OrThat.{OrThat};
 
 use crate::fault::TextFault;
 use crate::patterns::build::build;
-use crate::patterns::printed::read_front;
+use crate::patterns::printed::{Front, read_front, read_front_by_parts};
 use crate::patterns::statement::{Entry, Statements};
 use crate::patterns::value::Patterns;
 use crate::text::read_text;
@@ -38,6 +39,54 @@ pub fn read_patterns(alloc: Global, circuit: &Circuit, text: &[u8]) -> Result<Pa
 {
     let front = read_front(alloc, circuit.inputs() as usize, text)?;
     let rest = &text[front.end..];
+    read_behind(alloc, circuit, front, rest)
+}
+
+/// Reads patterns as [`read_patterns`] does, and frees their text. If the lines of a long text are as they are printed, it frees
+/// most of them before it reads the others, so that the whole text and all bits are never there at the same time.
+pub fn read_owned_patterns(
+    alloc: Global,
+    circuit: &Circuit,
+    text: Vec<u8>,
+) -> Result<Patterns, TextFault>
+    requires { vec_len text ≤ most_text_bytes }
+    ensures value { IfOk result (IsPatternsValue circuit.now text.items) }
+    ensures usable { IfOk result (ArePatternsFor circuit.now) }
+    ensures faultless { OnOk result (IsPatternFaultless circuit.now text.items) }
+    ensures fault { IfErr result (IsPatternRefusal circuit.now text.items) }
+    ensures exact { (fault : TextFault) → IsLeastPatternFault circuit.now text.items fault
+        → IsErrOf result fault ⊎ IsErrOf result TextFault.Memory }
+{
+    let mut text = text;
+    let front = read_front_by_parts(alloc, circuit.inputs() as usize, &mut text)?;
+    let rest = &text.as_slice()[front.end..];
+    read_behind(alloc, circuit, front, rest)
+}
+
+// Reads what stands behind the first lines, and builds the patterns of both.
+fn read_behind(
+    alloc: Global,
+    circuit: &Circuit,
+    front: Front,
+    rest: &[u8],
+) -> Result<Patterns, TextFault>
+    requires long { length rest.now ≤ most_text_bytes }
+    requires few { front.count ≤ most_patterns }
+    requires bits { length front.bits.items ≡ front.count * (2 * circuit.now.inputs) }
+    ensures value { IfOk result
+        (IsPatternsValue circuit.now
+        (text_behind circuit.now.inputs front.count front.bits.items rest.now)) }
+    ensures usable { IfOk result (ArePatternsFor circuit.now) }
+    ensures faultless { OnOk result
+        (IsPatternFaultless circuit.now
+        (text_behind circuit.now.inputs front.count front.bits.items rest.now)) }
+    ensures fault { IfErr result
+        (IsPatternRefusal circuit.now
+        (text_behind circuit.now.inputs front.count front.bits.items rest.now)) }
+    ensures exact { (fault : TextFault) → IsLeastPatternFault circuit.now
+        (text_behind circuit.now.inputs front.count front.bits.items rest.now) fault
+        → IsErrOf result fault ⊎ IsErrOf result TextFault.Memory }
+{
     let entries = read_rest(alloc, circuit, front.count, rest)?;
     let patterns = build(alloc, circuit, front, entries.as_slice())?;
     Ok(patterns)

@@ -1,48 +1,20 @@
--- A block of lines more.
-use Rattle.std.proofs.Common.{◌≡◌, ◌∙◌, ◌++◌, ◌+◌, ◌*◌, ◌-◌, ◌≤◌, ap, arith, List, Bool, length, map, take, drop}
+use Rattle.std.proofs.Common.{◌≡◌, ◌+◌, ◌*◌, [], arith, rules}
 use Rattle.std.proofs.lemmas.Nat.{mul-le}
-use Rattle.std.proofs.lemmas.List.{length-map}
-use Rattle.hz_text.specs.PatternModel.{bits_at}
-use Rattle.hz_text.proofs.PatternModelLaws.{is_one, block_is, block_fits, lines_agree, printed-append}
+use Rattle.hz_text.proofs.PatternModelLaws.{in_front}
 use Rattle.hz_text.proofs.patterns.printed.read_front.Goals as goal
+
+pub returns-clause-inside : goal.returns-clause-inside
+returns-clause-inside c =
+    let w = 10 + 2 * c.args.inputs in
+    omega (arith, c.most_lines-most.ensures.room, mul-le c.in_ok-count.count w c.most_lines-most.result w c.in_ok-count.ensures.count (omega arith))
+
+pub returns-clause-front : goal.returns-clause-front
+returns-clause-front c =
+    let none : c.in_ok-bits.bits.items ≡ [] = search rules in
+    in_front c.args.inputs c.in_ok-count.count c.push_front.new.bits.items c.args.text.now (omega (arith, c.in_ok-count.ensures.count, c.most_lines-most.ensures.few)) (rw none at c.in_ok-count.ensures.added)
 
 pub overflow_mul-width : goal.overflow_mul-width
 overflow_mul-width c = omega (arith, c.requires)
 
 pub overflow_add-width : goal.overflow_add-width
 overflow_add-width c = omega (arith, c.requires)
-
-pub agree-requires-clause-fits : goal.agree-requires-clause-fits
-agree-requires-clause-fits c =
-    let w = 10 + 2 * c.args.inputs in
-    let is = block_is c.loop-start.start c.min-end.result w c.args.text.now (omega (arith, c.min-end.ensures, c.loop-start-test.true))
-    (omega (arith, c.most_lines-most.ensures.room, mul-le c.min-end.result w c.most_lines-most.result w (omega (arith, c.min-end.ensures)) (omega arith))) in
-    rw (c.as_slice-in-loop-start.ensures.value, c.in_ok-model.ensures)
-    (omega (arith, is.long, block_fits c.args.inputs c.loop-start.start c.min-end.result c.max-lines.result (omega (arith, c.min-end.ensures))))
-
-pub push_lines-requires : goal.push_lines-requires
-push_lines-requires c =
-    let w = 10 + 2 * c.args.inputs in
-    let is = block_is c.loop-start.start c.min-end.result w c.args.text.now (omega (arith, c.min-end.ensures, c.loop-start-test.true))
-    (omega (arith, c.most_lines-most.ensures.room, mul-le c.min-end.result w c.most_lines-most.result w (omega (arith, c.min-end.ensures)) (omega arith))) in
-    ap length (c.as_slice-in-loop-start-3.ensures.value ∙ c.in_ok-mark_ones.ensures) ∙ length-map _ is_one ∙ is.long
-
-pub loop-start-preserved : goal.loop-start-preserved
-loop-start-preserved c =
-    let n = c.args.inputs in
-    let w = 10 + 2 * n in
-    let start = c.loop-start.start in
-    let end = c.min-end.result in
-    let most = c.most_lines-most.result in
-    let text = c.args.text.now in
-    let up : start ≤ end = omega (arith, c.min-end.ensures, c.loop-start-test.true) in
-    let below : end ≤ most = omega (arith, c.min-end.ensures) in
-    let is = block_is start end w text up (omega (arith, c.most_lines-most.ensures.room, mul-le end w most w below (omega arith))) in
-    let block = take (end * w - start * w) (drop (start * w) text) in
-    let some : 1 ≤ n = c.most_lines-most.ensures.some (omega (arith, c.loop-start-test.true)) in
-    let agrees = rw (c.as_slice-in-loop-start.ensures.value, c.in_ok-model.ensures) at (c.agree.ensures c.if-not-agree.false) in
-    let fresh = lines_agree n (end - start) c.max-lines.result block some (omega (arith, c.min-end.ensures)) is.long agrees in
-    let all = printed-append start (end - start) n c.loop-start.bits.items (bits_at n (end - start) (map is_one block)) (take (start * w) text) block c.loop-start.invariant.1 fresh in
-    let bits : c.push_lines.new.bits.items ≡ c.loop-start.bits.items ++ bits_at n (end - start) (map is_one block) =
-    c.in_ok-push_lines.ensures ∙ ap (λ (ones : List Bool). c.loop-start.bits.items ++ bits_at n (end - start) ones) (c.as_slice-in-loop-start-3.ensures.value ∙ c.in_ok-mark_ones.ensures) in
-    let sum : start + (end - start) ≡ end = omega (arith, up) in (below, rw (bits, ← is.whole) (rw sum at all))
