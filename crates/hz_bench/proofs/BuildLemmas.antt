@@ -5,9 +5,10 @@ use Rattle.hz_core.specs.Netlist.{Netlist}
 use Rattle.hz_netlist.specs.Build.{MayAddCut, MayAddGate, MayAddInput, MayAddNode}
 use Rattle.hz_bench.specs.declared.entry.Entry.{Entry}
 use Rattle.hz_bench.specs.declared.forms.Form.TheVariants as form
-use Rattle.hz_bench.specs.Elements.{element_of, element_of_entry}
+use Rattle.hz_bench.specs.Elements.{element_of_entry}
 use Rattle.hz_bench.specs.Entry.{statement_of_entry}
 use Rattle.hz_bench.specs.Form.{form_of}
+use Rattle.hz_bench.specs.Netlist.{element_of}
 use Rattle.hz_bench.specs.Statement.{Statement, Input, Output, FlipFlop, Gate, name_of}
 use Rattle.hz_bench.proofs.EntryLemmas.{entry-formed, entry-named}
 

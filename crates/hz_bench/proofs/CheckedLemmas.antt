@@ -10,17 +10,18 @@ use Rattle.std.proofs.lemmas.List.Folds.{list_any-append}
 use Rattle.std.proofs.lemmas.Slice.Eq.{bytes_eq-Decides}
 use Rattle.hz_line.specs.Statement.{Numbered}
 use Rattle.hz_netlist.specs.Build.{Apart, AreKnown}
+use Rattle.hz_netlist.specs.Circuit.{all_inputs, node_names}
+use Rattle.hz_netlist.specs.Element.{input_names, cut_names, gate_names, variable_total}
 use Rattle.hz_netlist.proofs.Tests.{either, not-false, same_name}
 use Rattle.hz_bench.specs.declared.fault.BenchFault.{BenchFault}
 use Rattle.hz_bench.specs.declared.fault.BenchFault.TheVariants as fault
 use Rattle.hz_bench.specs.Check.{uses_undefined, first_that, fault_or, too_many_fault, first_fault}
 use Rattle.hz_bench.specs.Definition.{defines, definer, defined_names}
-use Rattle.hz_bench.specs.Netlist.{input_names, cut_names, gate_names, all_inputs, node_names}
+use Rattle.hz_bench.specs.Netlist.{elements_of}
 use Rattle.hz_bench.specs.Statement.{Statement, Input, Output, FlipFlop, Gate, defined_name, used_names, has_long_name, has_unknown_kind, has_wrong_pins, statement_pin_count}
-use Rattle.hz_bench.specs.Text.{variable_total, variable_total_among, plain}
+use Rattle.hz_bench.specs.Text.{plain}
 use Rattle.hz_bench.specs.Twice.{twice_or, earlier_line, twice_after, twice_fault}
 use Rattle.hz_bench.proofs.DefinitionLemmas.{definer-cons, defined_names-push}
-use Rattle.hz_bench.proofs.NoteLemmas.{variable_total-statements}
 use Rattle.hz_core.specs.Limits.{most_variables}
 
 -- the names that statements use are among these
@@ -31,12 +32,12 @@ UsesNames names statement = AreKnown names (used_names statement)
 pub record IsChecked (statements : List Statement) : Type 0 where
   pub short : AllByRecursion (λ statement. has_long_name statement ≡ false) statements
   pub known : AllByRecursion (λ statement. has_unknown_kind statement ≡ false) statements
-  pub inputs_apart : Apart [] (input_names statements)
-  pub cuts_apart : Apart (input_names statements) (cut_names statements)
-  pub gates_apart : Apart (all_inputs statements) (gate_names statements)
+  pub inputs_apart : Apart [] (input_names (elements_of statements))
+  pub cuts_apart : Apart (input_names (elements_of statements)) (cut_names (elements_of statements))
+  pub gates_apart : Apart (all_inputs (elements_of statements)) (gate_names (elements_of statements))
   pub pins : AllByRecursion (λ statement. has_wrong_pins statement ≡ false) statements
-  pub defined : AllByRecursion (UsesNames (node_names statements)) statements
-  pub few : variable_total statements ≤ most_variables
+  pub defined : AllByRecursion (UsesNames (node_names (elements_of statements))) statements
+  pub few : variable_total (elements_of statements) ≤ most_variables
 
 -- no statement passes a test that finds none
 pub each_fails : (test : Statement → Bool) (statements : List (Numbered Statement)) → first_that test statements ≡ None → AllByRecursion (λ statement. test statement ≡ false) (plain statements)
@@ -115,7 +116,7 @@ other_name names name other here away = by_test (bytes_eq name other) refl
         sym here ∙ ap (λ one. list_any (bytes_eq one) names) same ∙ away
 
 -- the inputs among the defined names are apart
-inputs_apart : (inputs defined : List (List ℕ)) (statements : List Statement) → ((name : List ℕ) → list_any (bytes_eq name) defined ≡ false → list_any (bytes_eq name) inputs ≡ false) → Apart defined (defined_names statements) → Apart inputs (input_names statements)
+inputs_apart : (inputs defined : List (List ℕ)) (statements : List Statement) → ((name : List ℕ) → list_any (bytes_eq name) defined ≡ false → list_any (bytes_eq name) inputs ≡ false) → Apart defined (defined_names statements) → Apart inputs (input_names (elements_of statements))
 inputs_apart inputs defined [] within h = tt
 inputs_apart inputs defined (Input other ∷ rest) within h = (
   within other h.0,
@@ -128,7 +129,7 @@ inputs_apart inputs defined (Gate other kind sources ∷ rest) within h =
     inputs_apart inputs (defined ++ other ∷ []) rest (λ name away. within name (absent-parts defined other name away).0) h.1
 
 -- a name that was defined is no later input's
-no_later_input : (defined : List (List ℕ)) (name : List ℕ) (statements : List Statement) → list_any (bytes_eq name) defined ≡ true → Apart defined (defined_names statements) → list_any (bytes_eq name) (input_names statements) ≡ false
+no_later_input : (defined : List (List ℕ)) (name : List ℕ) (statements : List Statement) → list_any (bytes_eq name) defined ≡ true → Apart defined (defined_names statements) → list_any (bytes_eq name) (input_names (elements_of statements)) ≡ false
 no_later_input defined name [] here h = refl
 no_later_input defined name (Input other ∷ rest) here h =
     neither (bytes_eq name other) _ (other_name defined name other here h.0) (no_later_input (defined ++ other ∷ []) name rest (present-more defined other name here) h.1)
@@ -137,7 +138,7 @@ no_later_input defined name (FlipFlop other sources ∷ rest) here h = no_later_
 no_later_input defined name (Gate other kind sources ∷ rest) here h = no_later_input (defined ++ other ∷ []) name rest (present-more defined other name here) h.1
 
 -- nor a later flip-flop's
-no_later_cut : (defined : List (List ℕ)) (name : List ℕ) (statements : List Statement) → list_any (bytes_eq name) defined ≡ true → Apart defined (defined_names statements) → list_any (bytes_eq name) (cut_names statements) ≡ false
+no_later_cut : (defined : List (List ℕ)) (name : List ℕ) (statements : List Statement) → list_any (bytes_eq name) defined ≡ true → Apart defined (defined_names statements) → list_any (bytes_eq name) (cut_names (elements_of statements)) ≡ false
 no_later_cut defined name [] here h = refl
 no_later_cut defined name (Input other ∷ rest) here h = no_later_cut (defined ++ other ∷ []) name rest (present-more defined other name here) h.1
 no_later_cut defined name (Output other ∷ rest) here h = no_later_cut defined name rest here h
@@ -146,7 +147,7 @@ no_later_cut defined name (FlipFlop other sources ∷ rest) here h =
 no_later_cut defined name (Gate other kind sources ∷ rest) here h = no_later_cut (defined ++ other ∷ []) name rest (present-more defined other name here) h.1
 
 -- the flip-flops are apart from all inputs and from the flip-flops before them
-cuts_apart : (nodes defined : List (List ℕ)) (statements : List Statement) → ((name : List ℕ) → list_any (bytes_eq name) defined ≡ false → list_any (bytes_eq name) (input_names statements) ≡ false → list_any (bytes_eq name) nodes ≡ false) → Apart defined (defined_names statements) → Apart nodes (cut_names statements)
+cuts_apart : (nodes defined : List (List ℕ)) (statements : List Statement) → ((name : List ℕ) → list_any (bytes_eq name) defined ≡ false → list_any (bytes_eq name) (input_names (elements_of statements)) ≡ false → list_any (bytes_eq name) nodes ≡ false) → Apart defined (defined_names statements) → Apart nodes (cut_names (elements_of statements))
 cuts_apart nodes defined [] within h = tt
 cuts_apart nodes defined (Input other ∷ rest) within h =
     cuts_apart nodes (defined ++ other ∷ []) rest (λ name away none. (let parts = absent-parts defined other name away in within name parts.0 (neither (bytes_eq name other) _ parts.1 none))) h.1
@@ -160,8 +161,8 @@ cuts_apart nodes defined (Gate other kind sources ∷ rest) within h =
 
 -- the gates are apart from all inputs, from all flip-flops and from the gates before them
 gates_apart : (nodes defined : List (List ℕ)) (statements : List Statement)
-    → ((name : List ℕ) → list_any (bytes_eq name) defined ≡ false → list_any (bytes_eq name) (input_names statements) ≡ false → list_any (bytes_eq name) (cut_names statements) ≡ false → list_any (bytes_eq name) nodes ≡ false)
-    → Apart defined (defined_names statements) → Apart nodes (gate_names statements)
+    → ((name : List ℕ) → list_any (bytes_eq name) defined ≡ false → list_any (bytes_eq name) (input_names (elements_of statements)) ≡ false → list_any (bytes_eq name) (cut_names (elements_of statements)) ≡ false → list_any (bytes_eq name) nodes ≡ false)
+    → Apart defined (defined_names statements) → Apart nodes (gate_names (elements_of statements))
 gates_apart nodes defined [] within h = tt
 gates_apart nodes defined (Input other ∷ rest) within h =
     gates_apart nodes (defined ++ other ∷ []) rest (λ name away none also. (let parts = absent-parts defined other name away in within name parts.0 (neither (bytes_eq name other) _ parts.1 none) also)) h.1
@@ -174,18 +175,18 @@ gates_apart nodes defined (Gate other kind sources ∷ rest) within h = (
 )
 
 -- a name is a node's where it is an input's, a flip-flop's or a gate's
-nodes_any : (name : List ℕ) (statements : List Statement) → list_any (bytes_eq name) (node_names statements) ≡ ((list_any (bytes_eq name) (input_names statements) || list_any (bytes_eq name) (cut_names statements)) || list_any (bytes_eq name) (gate_names statements))
+nodes_any : (name : List ℕ) (statements : List Statement) → list_any (bytes_eq name) (node_names (elements_of statements)) ≡ ((list_any (bytes_eq name) (input_names (elements_of statements)) || list_any (bytes_eq name) (cut_names (elements_of statements))) || list_any (bytes_eq name) (gate_names (elements_of statements)))
 nodes_any name statements =
-    list_any-append (bytes_eq name) (all_inputs statements) (gate_names statements)
-    ∙ ap (λ b. b || list_any (bytes_eq name) (gate_names statements)) (list_any-append (bytes_eq name) (input_names statements) (cut_names statements))
+    list_any-append (bytes_eq name) (all_inputs (elements_of statements)) (gate_names (elements_of statements))
+    ∙ ap (λ b. b || list_any (bytes_eq name) (gate_names (elements_of statements))) (list_any-append (bytes_eq name) (input_names (elements_of statements)) (cut_names (elements_of statements)))
 
 -- a name that some statement defines is a node's
-present_node : (statement : Statement) (rest : List Statement) (name : List ℕ) → list_any (bytes_eq name) (node_names rest) ≡ true → list_any (bytes_eq name) (node_names (statement ∷ rest)) ≡ true
+present_node : (statement : Statement) (rest : List Statement) (name : List ℕ) → list_any (bytes_eq name) (node_names (elements_of rest)) ≡ true → list_any (bytes_eq name) (node_names (elements_of (statement ∷ rest))) ≡ true
 present_node (Input other) rest name h = second_of_two (bytes_eq name other) _ h
 present_node (Output other) rest name h = h
 present_node (FlipFlop other sources) rest name h =
     nodes_any name (FlipFlop other sources ∷ rest)
-    ∙ by_part (list_any (bytes_eq name) (input_names rest)) (bytes_eq name other) (list_any (bytes_eq name) (cut_names rest)) (list_any (bytes_eq name) (gate_names rest)) (sym (nodes_any name rest) ∙ h)
+    ∙ by_part (list_any (bytes_eq name) (input_names (elements_of rest))) (bytes_eq name other) (list_any (bytes_eq name) (cut_names (elements_of rest))) (list_any (bytes_eq name) (gate_names (elements_of rest))) (sym (nodes_any name rest) ∙ h)
   where
     by_part : (a b c d : Bool) → ((a || c) || d) ≡ true → ((a || (b || c)) || d) ≡ true
     by_part true b c d h = refl
@@ -193,39 +194,39 @@ present_node (FlipFlop other sources) rest name h =
     by_part false false c d h = h
 present_node (Gate other kind sources) rest name h =
     nodes_any name (Gate other kind sources ∷ rest)
-    ∙ by_part (list_any (bytes_eq name) (input_names rest) || list_any (bytes_eq name) (cut_names rest)) (bytes_eq name other) (list_any (bytes_eq name) (gate_names rest)) (sym (nodes_any name rest) ∙ h)
+    ∙ by_part (list_any (bytes_eq name) (input_names (elements_of rest)) || list_any (bytes_eq name) (cut_names (elements_of rest))) (bytes_eq name other) (list_any (bytes_eq name) (gate_names (elements_of rest))) (sym (nodes_any name rest) ∙ h)
   where
     by_part : (a b c : Bool) → (a || c) ≡ true → (a || (b || c)) ≡ true
     by_part true b c h = refl
     by_part false true c h = refl
     by_part false false c h = h
 
-defined_node : (statement : Statement) (rest : List Statement) (name : List ℕ) → defines name statement ≡ true → list_any (bytes_eq name) (node_names (statement ∷ rest)) ≡ true
+defined_node : (statement : Statement) (rest : List Statement) (name : List ℕ) → defines name statement ≡ true → list_any (bytes_eq name) (node_names (elements_of (statement ∷ rest))) ≡ true
 defined_node (Input other) rest name h = first_of_two (bytes_eq name other) _ (same_name name other ∙ h)
 defined_node (Output other) rest name h = cc
 defined_node (FlipFlop other sources) rest name h =
     nodes_any name (FlipFlop other sources ∷ rest)
-    ∙ first_of_two _ (list_any (bytes_eq name) (gate_names rest))
-    (second_of_two (list_any (bytes_eq name) (input_names rest)) _ (first_of_two (bytes_eq name other) _ (same_name name other ∙ h)))
+    ∙ first_of_two _ (list_any (bytes_eq name) (gate_names (elements_of rest)))
+    (second_of_two (list_any (bytes_eq name) (input_names (elements_of rest))) _ (first_of_two (bytes_eq name other) _ (same_name name other ∙ h)))
 defined_node (Gate other kind sources) rest name h =
     nodes_any name (Gate other kind sources ∷ rest)
-    ∙ second_of_two (list_any (bytes_eq name) (input_names rest) || list_any (bytes_eq name) (cut_names rest)) _ (first_of_two (bytes_eq name other) _ (same_name name other ∙ h))
+    ∙ second_of_two (list_any (bytes_eq name) (input_names (elements_of rest)) || list_any (bytes_eq name) (cut_names (elements_of rest))) _ (first_of_two (bytes_eq name other) _ (same_name name other ∙ h))
 
-definer-node : (statements : List (Numbered Statement)) (name : List ℕ) → is_some (definer statements name) ≡ true → list_any (bytes_eq name) (node_names (plain statements)) ≡ true
+definer-node : (statements : List (Numbered Statement)) (name : List ℕ) → is_some (definer statements name) ≡ true → list_any (bytes_eq name) (node_names (elements_of (plain statements))) ≡ true
 definer-node [] name h = cc
 definer-node (first ∷ rest) name h = by_test (defines name first.statement) refl (ap is_some (sym (definer-cons first rest name)) ∙ h) (definer-node rest name)
   where
-    by_test : (b : Bool) → defines name first.statement ≡ b → is_some (cond b (Some first.line) (definer rest name)) ≡ true → (is_some (definer rest name) ≡ true → list_any (bytes_eq name) (node_names (plain rest)) ≡ true) → list_any (bytes_eq name) (node_names (first.statement ∷ plain rest)) ≡ true
+    by_test : (b : Bool) → defines name first.statement ≡ b → is_some (cond b (Some first.line) (definer rest name)) ≡ true → (is_some (definer rest name) ≡ true → list_any (bytes_eq name) (node_names (elements_of (plain rest))) ≡ true) → list_any (bytes_eq name) (node_names (elements_of (first.statement ∷ plain rest))) ≡ true
     by_test true t h ih = defined_node first.statement (plain rest) name t
     by_test false t h ih = present_node first.statement (plain rest) name (ih h)
 
-uses_known : (statements : List (Numbered Statement)) (names : List (List ℕ)) → list_any (λ name. not (is_some (definer statements name))) names ≡ false → AllByRecursion (λ name. list_any (bytes_eq name) (node_names (plain statements)) ≡ true) names
+uses_known : (statements : List (Numbered Statement)) (names : List (List ℕ)) → list_any (λ name. not (is_some (definer statements name))) names ≡ false → AllByRecursion (λ name. list_any (bytes_eq name) (node_names (elements_of (plain statements))) ≡ true) names
 uses_known statements [] h = tt
 uses_known statements (name ∷ names) h =
     let parts = either (not (is_some (definer statements name))) _ h in
     (definer-node statements name (not-false _ parts.0), uses_known statements names parts.1)
 
-each_known : (statements : List (Numbered Statement)) (some : List Statement) → AllByRecursion (λ statement. uses_undefined statements statement ≡ false) some → AllByRecursion (UsesNames (node_names (plain statements))) some
+each_known : (statements : List (Numbered Statement)) (some : List Statement) → AllByRecursion (λ statement. uses_undefined statements statement ≡ false) some → AllByRecursion (UsesNames (node_names (elements_of (plain statements)))) some
 each_known statements [] h = tt
 each_known statements (first ∷ rest) h = (uses_known statements (used_names first) h.0, each_known statements rest h.1)
 
@@ -245,8 +246,8 @@ few_enough variables h = by_test (nat_lt most_variables variables) refl h
     by_test false t h = grind (arith, nat_tests, t)
 
 -- a name that is neither an input's nor a flip-flop's
-no_input : (statements : List Statement) (name : List ℕ) → list_any (bytes_eq name) [] ≡ false → list_any (bytes_eq name) (input_names statements) ≡ false → list_any (bytes_eq name) (cut_names statements) ≡ false → list_any (bytes_eq name) (all_inputs statements) ≡ false
-no_input statements name away none also = list_any-append (bytes_eq name) (input_names statements) (cut_names statements) ∙ neither _ _ none also
+no_input : (statements : List Statement) (name : List ℕ) → list_any (bytes_eq name) [] ≡ false → list_any (bytes_eq name) (input_names (elements_of statements)) ≡ false → list_any (bytes_eq name) (cut_names (elements_of statements)) ≡ false → list_any (bytes_eq name) (all_inputs (elements_of statements)) ≡ false
+no_input statements name away none also = list_any-append (bytes_eq name) (input_names (elements_of statements)) (cut_names (elements_of statements)) ∙ neither _ _ none also
 
 -- what no fault tells
 pub checked : (statements : List (Numbered Statement)) → first_fault statements ≡ None → IsChecked (plain statements)
@@ -261,11 +262,11 @@ checked statements h =
       short = each_fails has_long_name statements a.0;
       known = each_fails has_unknown_kind statements b.0;
       inputs_apart = inputs_apart [] [] (plain statements) (λ name away. away) apart;
-      cuts_apart = cuts_apart (input_names (plain statements)) [] (plain statements) (λ name away none. none) apart;
-      gates_apart = gates_apart (all_inputs (plain statements)) [] (plain statements) (no_input (plain statements)) apart;
+      cuts_apart = cuts_apart (input_names (elements_of (plain statements))) [] (plain statements) (λ name away none. none) apart;
+      gates_apart = gates_apart (all_inputs (elements_of (plain statements))) [] (plain statements) (no_input (plain statements)) apart;
       pins = each_fails has_wrong_pins statements e.0;
       defined = each_known statements (plain statements) (each_fails (uses_undefined statements) statements f.0);
-      few = (let few = few_enough (variable_total_among statements) f.1 in let same = variable_total-statements statements in omega (arith, few, same));
+      few = few_enough (variable_total (elements_of (plain statements))) f.1;
     }
 
 -- names that are apart, one list after the other
@@ -275,10 +276,10 @@ Apart-append names (first ∷ front) back h more =
     (h.0, Apart-append (names ++ first ∷ []) front back h.1 (subst (λ all. Apart all back) (sym (append_assoc names (first ∷ []) front)) more))
 
 -- where no name is defined twice, the names of the nodes are apart
-pub nodes_apart : (statements : List (Numbered Statement)) → twice_fault statements ≡ None → Apart [] (node_names (plain statements))
+pub nodes_apart : (statements : List (Numbered Statement)) → twice_fault statements ≡ None → Apart [] (node_names (elements_of (plain statements)))
 nodes_apart statements h =
     let apart = apart-from_twice [] statements h in
-    let inputs = Apart-append [] (input_names (plain statements)) (cut_names (plain statements))
-    (inputs_apart [] [] (plain statements) (λ name away. away) apart) (cuts_apart (input_names (plain statements)) [] (plain statements) (λ name away none. none) apart) in
-    Apart-append [] (all_inputs (plain statements)) (gate_names (plain statements))
-    inputs (gates_apart (all_inputs (plain statements)) [] (plain statements) (no_input (plain statements)) apart)
+    let inputs = Apart-append [] (input_names (elements_of (plain statements))) (cut_names (elements_of (plain statements)))
+    (inputs_apart [] [] (plain statements) (λ name away. away) apart) (cuts_apart (input_names (elements_of (plain statements))) [] (plain statements) (λ name away none. none) apart) in
+    Apart-append [] (all_inputs (elements_of (plain statements))) (gate_names (elements_of (plain statements)))
+    inputs (gates_apart (all_inputs (elements_of (plain statements))) [] (plain statements) (no_input (plain statements)) apart)

@@ -6,20 +6,19 @@ use Rattle.hz_core.specs.declared.kind.Kind.{Kind}
 use Rattle.hz_core.specs.Netlist.{Netlist, IsCutNumber, with_data, with_output}
 use Rattle.hz_core.specs.Limits.{most_variables}
 use Rattle.hz_netlist.specs.Build.{AreAdmissibleSteps, BuilderState, HasNode, MayAddOutput, MayAddPinFrom, MayAddPins, built_netlist, connected_netlist, unconnected_netlist, with_data_outputs, with_output_of, with_pin_from, with_pins_of}
-use Rattle.hz_netlist.specs.Circuit.{number_in}
+use Rattle.hz_netlist.specs.Circuit.{node_names, number_in}
 use Rattle.hz_netlist.specs.Element as element
 use Rattle.hz_netlist.proofs.BuiltCircuit.{connected-is, unconnected_netlist-is}
 use Rattle.hz_netlist.proofs.Connect.{may_name, may_read, names-kept, outputs-numbered, pins-numbered}
 use Rattle.hz_netlist.proofs.Numbers.{number-below}
 use Rattle.hz_bench.specs.declared.entry.Entry.{Entry}
 use Rattle.hz_bench.specs.declared.forms.Form.TheVariants as form
-use Rattle.hz_bench.specs.Elements.{HaveRightPins, element_list, element_of, element_of_entry, elements_of}
+use Rattle.hz_bench.specs.Elements.{HaveRightPins, element_list, element_of_entry}
 use Rattle.hz_bench.specs.Entry.{statement_of_entry, statement_list}
-use Rattle.hz_bench.specs.Netlist.{node_names}
+use Rattle.hz_bench.specs.Netlist.{element_of, elements_of}
 use Rattle.hz_bench.specs.Form.{form_of}
 use Rattle.hz_bench.specs.Statement.{Statement, Input, Output, FlipFlop, Gate, has_wrong_pins, sources_of}
 use Rattle.hz_bench.specs.Uses.{pins_in}
-use Rattle.hz_bench.proofs.ElementLemmas.{nodes-named}
 use Rattle.hz_bench.proofs.EntryLemmas.{entry-formed}
 
 -- a gate whose pins come next, which read the first of the nodes that are left
@@ -176,18 +175,18 @@ module _ (whole : Netlist) (entries : List Entry) (index : ℕ) (circuit : Netli
       (next_left ∙ ap (λ (sources : List (List ℕ)). map (number_in circuit.names) sources ++ pins_in circuit.names later) same.1) refl
 
 -- the names of the circuit are those of the nodes
-pub circuit-named : (statements : List Statement) → (unconnected_netlist (elements_of statements)).names ≡ node_names statements
-circuit-named statements = ap (λ (netlist : Netlist). netlist.names) (unconnected_netlist-is (elements_of statements)) ∙ nodes-named statements
+pub circuit-named : (statements : List Statement) → (unconnected_netlist (elements_of statements)).names ≡ node_names (elements_of statements)
+circuit-named statements = ap (λ (netlist : Netlist). netlist.names) (unconnected_netlist-is (elements_of statements))
 
-connected-named : (statements : List Statement) → (connected_netlist (unconnected_netlist (elements_of statements)) (elements_of statements)).names ≡ node_names statements
-connected-named statements = ap (λ (netlist : Netlist). netlist.names) (connected-is (elements_of statements)) ∙ nodes-named statements
+connected-named : (statements : List Statement) → (connected_netlist (unconnected_netlist (elements_of statements)) (elements_of statements)).names ≡ node_names (elements_of statements)
+connected-named statements = ap (λ (netlist : Netlist). netlist.names) (connected-is (elements_of statements))
 
 outputs-named : (outputs : List (List ℕ)) → element.output_names (map element.Output outputs) ≡ outputs
 outputs-named [] = refl
 outputs-named (name ∷ rest) = ap (λ names. name ∷ names) (outputs-named rest)
 
 -- the outputs that are used may be added, and they are those of the circuit
-module _ (nodes : List Statement) (outputs : List (List ℕ)) (numbers : List ℕ) (are : numbers ≡ map (number_in (node_names nodes)) outputs) where
+module _ (nodes : List Statement) (outputs : List (List ℕ)) (numbers : List ℕ) (are : numbers ≡ map (number_in (node_names (elements_of nodes))) outputs) where
   abbrev made : Netlist
   made = connected_netlist (unconnected_netlist (elements_of nodes)) (elements_of nodes)
 

@@ -4,7 +4,8 @@ use Rattle.hz_line.specs.Statement.{Numbered}
 use Rattle.hz_bench.specs.declared.entry.Entry.{Entry}
 use Rattle.hz_bench.specs.declared.forms.Form.{Form}
 use Rattle.hz_bench.specs.declared.forms.Form.TheVariants as form
-use Rattle.hz_bench.specs.Elements.{element_list, element_of_entry, elements_of}
+use Rattle.hz_bench.specs.Elements.{element_list, element_of_entry}
+use Rattle.hz_bench.specs.Netlist.{elements_of}
 use Rattle.hz_bench.specs.Entry.{statement_of_entry, numbered_list, statement_list}
 use Rattle.hz_bench.specs.Form.{form_of, statement_with}
 use Rattle.hz_bench.specs.Statement.{Statement, defined_name, name_of}

@@ -15,11 +15,12 @@ use Rattle.hz_bench.specs.declared.fault.BenchFault.TheVariants.{Form, Name, Kin
 use Rattle.hz_bench.specs.Check.{uses_undefined, fault_or, too_many_fault, first_fault}
 use Rattle.hz_bench.specs.Definition.{is_that, defines, definer}
 use Rattle.hz_bench.specs.Fault.{States, HasThat, Defines, Uses, IsSecond, HasFault, fault_number, fault_line_number, ComesFirst, IsLeastFault, IsFaultless}
+use Rattle.hz_netlist.specs.Element.{variable_total}
+use Rattle.hz_bench.specs.Netlist.{elements_of}
 use Rattle.hz_bench.specs.Statement.{Statement, statement_of, defined_name, used_names, has_long_name, has_unknown_kind, has_wrong_pins, statement_pin_count}
-use Rattle.hz_bench.specs.Text.{bench_meaning_at, bench_statements, statements_of, variable_total, variable_total_among}
+use Rattle.hz_bench.specs.Text.{bench_meaning_at, bench_statements, plain, statements_of}
 use Rattle.hz_bench.specs.Twice.{twice_or, earlier_line, twice_after, twice_fault}
 use Rattle.hz_bench.proofs.DefinitionLemmas.{definer-append, definer-cons}
-use Rattle.hz_bench.proofs.NoteLemmas.{variable_total-statements}
 use Rattle.hz_core.specs.Limits.{most_variables}
 
 ascending : (text : List ℕ) → Ascends 1 (bench_statements text)
@@ -39,7 +40,7 @@ ByNumber text (suc (suc (suc (suc zero)))) line = ⊥
 ByNumber text (suc (suc (suc (suc (suc zero))))) line = (first : ℕ) × ((name : List ℕ) × IsSecond text line first name)
 ByNumber text (suc (suc (suc (suc (suc (suc zero)))))) line = HasThat has_wrong_pins text line
 ByNumber text (suc (suc (suc (suc (suc (suc (suc zero))))))) line = (name : List ℕ) × Uses text line name × ((other : ℕ) → ¬ Defines text other name)
-ByNumber text (suc (suc (suc (suc (suc (suc (suc (suc zero)))))))) line = most_variables < variable_total (statements_of text)
+ByNumber text (suc (suc (suc (suc (suc (suc (suc (suc zero)))))))) line = most_variables < variable_total (elements_of (statements_of text))
 ByNumber text (suc (suc (suc (suc (suc (suc (suc (suc (suc more))))))))) line = ⊥
 
 by_number : (text : List ℕ) (fault : BenchFault) → HasFault text fault → ByNumber text (fault_number fault) (fault_line_number fault)
@@ -130,7 +131,7 @@ pub form-none : (text : List ℕ) → first_malformed statement_of 1 (lines_of t
 form-none text e = none_below-next text 1 (none_below-one text) (meaning_at-none statement_of text e)
 
 -- the count of variables comes last
-outcome-many : (text : List ℕ) (variables : ℕ) → variable_total (statements_of text) ≡ variables → NoneBelow text 8 → Outcome text (too_many_fault variables)
+outcome-many : (text : List ℕ) (variables : ℕ) → variable_total (elements_of (statements_of text)) ≡ variables → NoneBelow text 8 → Outcome text (too_many_fault variables)
 outcome-many text variables is low = by_test (nat_lt most_variables variables) refl
   where
     by_test : (b : Bool) → nat_lt most_variables variables ≡ b → Outcome text (cond b (Some (TooMany variables)) None)
@@ -299,4 +300,4 @@ first_fault-outcome text low2 =
     (λ none low4. subst (Outcome text) (sym (twice-found text _)) (outcome-found text 5 (is_second all) (second_fault all) _ _ (none_below-next text 4 low4 (λ line p. p)) (λ found. refl) (λ found. refl) (second-stands text) (second-has text) refl
     (λ none low6. outcome-found text 6 (λ numbered. has_wrong_pins numbered.statement) (λ found. Pins found.line (statement_pin_count found.statement)) _ _ low6 (λ found. refl) (λ found. refl) (λ found states p. (found.statement, states, p, refl)) (λ line p. p) refl
     (λ none low7. outcome-found text 7 (λ numbered. uses_undefined all numbered.statement) (λ found. Undefined found.line) _ _ low7 (λ found. refl) (λ found. refl) (undefined-stands text) (undefined-has text) refl
-    (λ none low8. outcome-many text (variable_total_among all) (variable_total-statements all) low8))))))
+    (λ none low8. outcome-many text (variable_total (elements_of (plain all))) refl low8))))))

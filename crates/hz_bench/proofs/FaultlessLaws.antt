@@ -13,13 +13,12 @@ use Rattle.hz_netlist.proofs.Circuits.{built_circuit}
 use Rattle.hz_bench.specs.declared.fault.BenchFault.{BenchFault}
 use Rattle.hz_bench.specs.declared.fault.BenchFault.TheVariants.{Form}
 use Rattle.hz_bench.specs.Check.{first_fault}
-use Rattle.hz_bench.specs.Elements.{elements_of}
 use Rattle.hz_bench.specs.Fault.{IsFaultless}
-use Rattle.hz_bench.specs.Netlist.{circuit_of_statements}
+use Rattle.hz_bench.specs.Netlist.{circuit_of_statements, elements_of}
 use Rattle.hz_bench.specs.Statement.{Statement, Input, Output, FlipFlop, Gate, Port, InputPort, OutputPort, port_word, port_of, defined_by, is_flip_flop, kind_named, name_list_of, statement_of}
 use Rattle.hz_bench.specs.Text.{bench_meaning, bench_statements, statements_of}
 use Rattle.hz_bench.proofs.CheckedLemmas.{checked}
-use Rattle.hz_bench.proofs.ElementLemmas.{Worded, circuit-elements, wired}
+use Rattle.hz_bench.proofs.ElementLemmas.{Worded, wired}
 use Rattle.hz_bench.proofs.FaultLaws.{Outcome, form-least, form-none, first_fault-outcome}
 
 port_worded : (name : List ℕ) (made : Option Port) (statement : Statement) → option_map (port_of name) made ≡ Some statement → IsWordToken name → Worded statement
@@ -94,10 +93,10 @@ pub wired_text : (text : List ℕ) → first_fault (bench_statements text) ≡ N
 wired_text text none = wired (statements_of text) (lines_worded 1 (lines_of text)) (checked (bench_statements text) none)
 
 pub whole_text : (text : List ℕ) → first_fault (bench_statements text) ≡ None → IsWhole (circuit_of_statements (statements_of text))
-whole_text text none = subst IsWhole (circuit-elements (statements_of text)) (whole (elements_of (statements_of text)) (wired_text text none))
+whole_text text none = whole (elements_of (statements_of text)) (wired_text text none)
 
 pub faultless-circuit : (text : List ℕ) → IsFaultless text → IsCircuit (circuit_of_statements (statements_of text)) × IsWhole (circuit_of_statements (statements_of text))
 faultless-circuit text faultless =
     let formed = faultless-formed text faultless (first_malformed statement_of 1 (lines_of text)) refl in
     let none = faultless-none text faultless (first_fault (bench_statements text)) (first_fault-outcome text (form-none text formed)) in
-    (subst IsCircuit (circuit-elements (statements_of text)) (built_circuit (elements_of (statements_of text)) (wired_text text none)), whole_text text none)
+    (built_circuit (elements_of (statements_of text)) (wired_text text none), whole_text text none)

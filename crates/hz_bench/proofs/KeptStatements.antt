@@ -12,7 +12,8 @@ use Rattle.hz_line.specs.Statement.{Numbered, first_passing_line}
 use Rattle.hz_line.proofs.StatementLemmas.{numbered_from-Ascends}
 use Rattle.hz_netlist.specs.Build.{Apart, AreKnown, AreAdmissibleSteps, BuilderState, MayAddCut, MayAddGate, MayAddInput, MayAddOutput, MayAddPins, MayBuild, built_netlist, connected_netlist, initial_builder, inputs_of, unconnected_netlist, with_cut_of, with_data_outputs, with_gate_of, with_input_of, with_output_of, with_pins_of}
 use Rattle.hz_netlist.specs.Element as element
-use Rattle.hz_netlist.specs.Element.{Element}
+use Rattle.hz_netlist.specs.Circuit.{node_names}
+use Rattle.hz_netlist.specs.Element.{Element, cut_names, element_variables, gate_names, input_names, output_names, variable_total}
 use Rattle.hz_netlist.specs.Names.{first_undefined}
 use Rattle.hz_netlist.proofs.BuiltCircuit.{built-circuit_of_elements}
 use Rattle.hz_bench.specs.declared.fault.BenchFault.{BenchFault}
@@ -21,21 +22,20 @@ use Rattle.hz_bench.specs.declared.notes.Notes.{Notes}
 use Rattle.hz_bench.specs.declared.parse.Statements.{Statements}
 use Rattle.hz_bench.specs.Check.{fault_or, first_fault, first_that, too_many_fault, uses_undefined}
 use Rattle.hz_bench.specs.Definition.{defined_names, definer, defines}
-use Rattle.hz_bench.specs.Elements.{HaveRightPins, IsBuildable, built_from, element_list, element_of, elements_of}
+use Rattle.hz_bench.specs.Elements.{HaveRightPins, IsBuildable, built_from, element_list}
 use Rattle.hz_bench.specs.Entry.{numbered_of, numbered_list, statement_list}
 use Rattle.hz_bench.specs.FaultIn.{fault_in, pins_fault, redefinition_fault}
 use Rattle.hz_bench.specs.FaultNotes.{notes_of, wrong_pins_of}
 use Rattle.hz_bench.specs.Names.{places, read_names}
-use Rattle.hz_bench.specs.Netlist.{circuit_of_statements, cut_names, gate_names, input_names, node_names, output_names}
+use Rattle.hz_bench.specs.Netlist.{circuit_of_statements, element_of, elements_of}
 use Rattle.hz_bench.specs.Pass.{IsParsed}
-use Rattle.hz_bench.specs.Statement.{Statement, Input, Output, FlipFlop, Gate, defines_node, has_long_name, has_unknown_kind, has_wrong_pins, statement_of, statement_pin_count, statement_variable_count}
-use Rattle.hz_bench.specs.Text.{bench_statements, nodes_among, plain, statements_of, variable_total_among}
+use Rattle.hz_bench.specs.Statement.{Statement, Input, Output, FlipFlop, Gate, defines_node, has_long_name, has_unknown_kind, has_wrong_pins, statement_of, statement_pin_count}
+use Rattle.hz_bench.specs.Text.{bench_statements, nodes_among, plain, statements_of}
 use Rattle.hz_bench.specs.Twice.{twice_fault}
 use Rattle.hz_bench.specs.Uses.{IsReady, output_words}
 use Rattle.hz_netlist.proofs.Tests.{either, not-false, same_name}
 use Rattle.hz_bench.proofs.CheckedLemmas.{each_fails, nodes_apart}
 use Rattle.hz_bench.proofs.DefinitionLemmas.{definer-cons}
-use Rattle.hz_bench.proofs.ElementLemmas.{circuit-elements}
 use Rattle.hz_bench.proofs.EntryLemmas.{element_list-statements, statement_list-numbered}
 use Rattle.hz_bench.proofs.UndefinedNames.{undefined-first}
 use Rattle.hz_bench.proofs.UseLemmas.{names-told}
@@ -112,14 +112,14 @@ connected-kept statements =
     ∙ ap (λ (now : BuilderState). now.netlist) (fold-kept with_pins_of defines_node pins_still (initial_builder (unconnected_netlist (elements statements))) statements)
 
 -- outputs by their names
-outputs-kept : (now : Netlist) (statements : List Statement) → fold with_output_of now (map element.Output (output_names statements)) ≡ fold with_output_of now (elements_of statements)
+outputs-kept : (now : Netlist) (statements : List Statement) → fold with_output_of now (map element.Output (output_names (elements_of statements))) ≡ fold with_output_of now (elements_of statements)
 outputs-kept now [] = refl
 outputs-kept now (Input name ∷ rest) = outputs-kept now rest
 outputs-kept now (Output name ∷ rest) = outputs-kept (with_output_of now (element.Output name)) rest
 outputs-kept now (FlipFlop name sources ∷ rest) = outputs-kept now rest
 outputs-kept now (Gate name kind sources ∷ rest) = outputs-kept now rest
 
-outputs_may-kept : (now : Netlist) (statements : List Statement) → AreAdmissibleSteps MayAddOutput with_output_of now (elements_of statements) → AreAdmissibleSteps MayAddOutput with_output_of now (map element.Output (output_names statements))
+outputs_may-kept : (now : Netlist) (statements : List Statement) → AreAdmissibleSteps MayAddOutput with_output_of now (elements_of statements) → AreAdmissibleSteps MayAddOutput with_output_of now (map element.Output (output_names (elements_of statements)))
 outputs_may-kept now [] may = tt
 outputs_may-kept now (Input name ∷ rest) may = outputs_may-kept now rest may.1
 outputs_may-kept now (Output name ∷ rest) may = (may.0, outputs_may-kept (with_output_of now (element.Output name)) rest may.1)
@@ -127,14 +127,14 @@ outputs_may-kept now (FlipFlop name sources ∷ rest) may = outputs_may-kept now
 outputs_may-kept now (Gate name kind sources ∷ rest) may = outputs_may-kept now rest may.1
 
 -- the circuit of the nodes and the outputs is that of all statements
-built-kept : (statements : List (Numbered Statement)) → built_netlist (elements (nodes_among statements)) (map element.Output (output_names (plain statements))) ≡ built_netlist (elements statements) (elements statements)
+built-kept : (statements : List (Numbered Statement)) → built_netlist (elements (nodes_among statements)) (map element.Output (output_names (elements_of (plain statements)))) ≡ built_netlist (elements statements) (elements statements)
 built-kept statements =
     ap with_data_outputs (
-    ap (λ now. fold with_output_of now (map element.Output (output_names (plain statements)))) (connected-kept statements)
+    ap (λ now. fold with_output_of now (map element.Output (output_names (elements_of (plain statements))))) (connected-kept statements)
     ∙ outputs-kept (connected_netlist (unconnected_netlist (elements statements)) (elements statements)) (plain statements)
     )
 
-may_build-kept : (statements : List (Numbered Statement)) → MayBuild (elements statements) (elements statements) → MayBuild (elements (nodes_among statements)) (map element.Output (output_names (plain statements)))
+may_build-kept : (statements : List (Numbered Statement)) → MayBuild (elements statements) (elements statements) → MayBuild (elements (nodes_among statements)) (map element.Output (output_names (elements_of (plain statements))))
 may_build-kept statements may = record {
   inputs = may-kept MayAddInput with_input_of defines_node inputs_still empty_netlist statements may.inputs;
   cuts = subst (λ now. AreAdmissibleSteps MayAddCut with_cut_of now (elements (nodes_among statements))) (sym (inputs-kept statements))
@@ -143,7 +143,7 @@ may_build-kept statements may = record {
       (may-kept MayAddGate with_gate_of defines_node gates_still (inputs_of (elements statements)) statements may.gates);
   pins = subst (λ (now : Netlist). AreAdmissibleSteps MayAddPins with_pins_of (initial_builder now) (elements (nodes_among statements))) (sym (unconnected_netlist-kept statements))
       (may-kept MayAddPins with_pins_of defines_node pins_still (initial_builder (unconnected_netlist (elements statements))) statements may.pins);
-  outputs_may = subst (λ now. AreAdmissibleSteps MayAddOutput with_output_of now (map element.Output (output_names (plain statements)))) (sym (connected-kept statements))
+  outputs_may = subst (λ now. AreAdmissibleSteps MayAddOutput with_output_of now (map element.Output (output_names (elements_of (plain statements))))) (sym (connected-kept statements))
       (outputs_may-kept (connected_netlist (unconnected_netlist (elements statements)) (elements statements)) (plain statements) may.outputs_may);
 }
 
@@ -155,17 +155,16 @@ node_elements : (text : List ℕ) (statements : Statements) → numbered_list st
 node_elements text statements e = ap elements_of (nodes_read text statements e) ∙ sym (element_list-statements statements.nodes.items)
 
 -- and so are the names of the outputs
-pub outputs_read : (text : List ℕ) (statements : Statements) → IsParsed text statements → output_words statements ≡ output_names (statements_of text)
-outputs_read text statements parsed = names-told statements.names statements.outputs.items (output_names (statements_of text)) parsed.gathered.outputs
+pub outputs_read : (text : List ℕ) (statements : Statements) → IsParsed text statements → output_words statements ≡ output_names (elements_of (statements_of text))
+outputs_read text statements parsed = names-told statements.names statements.outputs.items (output_names (elements_of (statements_of text))) parsed.gathered.outputs
 
-pub built-sorted : (text : List ℕ) (statements : Statements) → numbered_list statements.nodes.items ≡ nodes_among (bench_statements text) → output_words statements ≡ output_names (statements_of text)
+pub built-sorted : (text : List ℕ) (statements : Statements) → numbered_list statements.nodes.items ≡ nodes_among (bench_statements text) → output_words statements ≡ output_names (elements_of (statements_of text))
     → built_from statements.nodes.items (output_words statements) ≡ circuit_of_statements (statements_of text)
 built-sorted text statements nodes outputs =
     sym (ap (λ list. built_netlist list (map element.Output (output_words statements))) (node_elements text statements nodes))
     ∙ ap (λ names. built_netlist (elements (nodes_among (bench_statements text))) (map element.Output names)) outputs
     ∙ built-kept (bench_statements text)
     ∙ built-circuit_of_elements (elements_of (statements_of text))
-    ∙ circuit-elements (statements_of text)
 
 -- the pins of the nodes are right where those of all statements are
 right-kept : (statements : List (Numbered Statement)) → HaveRightPins (plain statements) → HaveRightPins (plain (nodes_among statements))
@@ -177,7 +176,7 @@ right-kept (first ∷ rest) h = by_node (defines_node first.statement) (right-ke
     by_node false ih = ih
 
 -- the circuit of the nodes and outputs of a text may be built
-pub buildable : (text : List ℕ) (statements : Statements) → numbered_list statements.nodes.items ≡ nodes_among (bench_statements text) → output_words statements ≡ output_names (statements_of text)
+pub buildable : (text : List ℕ) (statements : Statements) → numbered_list statements.nodes.items ≡ nodes_among (bench_statements text) → output_words statements ≡ output_names (elements_of (statements_of text))
     → MayBuild (elements_of (statements_of text)) (elements_of (statements_of text)) → HaveRightPins (statements_of text) → IsBuildable statements.nodes.items (output_words statements)
 buildable text statements nodes outputs may right = record {
   may = subst (λ list. MayBuild list (map element.Output (output_words statements))) (node_elements text statements nodes)
@@ -186,48 +185,48 @@ buildable text statements nodes outputs may right = record {
 }
 
 -- the inputs and the flip-flops are nodes
-input_names-kept : (statements : List (Numbered Statement)) → input_names (plain (nodes_among statements)) ≡ input_names (plain statements)
+input_names-kept : (statements : List (Numbered Statement)) → input_names (elements_of (plain (nodes_among statements))) ≡ input_names (elements_of (plain statements))
 input_names-kept [] = refl
 input_names-kept (first ∷ rest) = by_statement first.statement (input_names-kept rest)
   where
-    by_statement : (statement : Statement) → input_names (plain (nodes_among rest)) ≡ input_names (plain rest)
-        → input_names (plain (cond (defines_node statement) (record { line = first.line; statement = statement } ∷ nodes_among rest) (nodes_among rest))) ≡ input_names (statement ∷ plain rest)
+    by_statement : (statement : Statement) → input_names (elements_of (plain (nodes_among rest))) ≡ input_names (elements_of (plain rest))
+        → input_names (elements_of (plain (cond (defines_node statement) (record { line = first.line; statement = statement } ∷ nodes_among rest) (nodes_among rest)))) ≡ input_names (elements_of (statement ∷ plain rest))
     by_statement (Input name) ih = ap (λ names. name ∷ names) ih
     by_statement (Output name) ih = ih
     by_statement (FlipFlop name sources) ih = ih
     by_statement (Gate name kind sources) ih = ih
 
-cut_names-kept : (statements : List (Numbered Statement)) → cut_names (plain (nodes_among statements)) ≡ cut_names (plain statements)
+cut_names-kept : (statements : List (Numbered Statement)) → cut_names (elements_of (plain (nodes_among statements))) ≡ cut_names (elements_of (plain statements))
 cut_names-kept [] = refl
 cut_names-kept (first ∷ rest) = by_statement first.statement (cut_names-kept rest)
   where
-    by_statement : (statement : Statement) → cut_names (plain (nodes_among rest)) ≡ cut_names (plain rest)
-        → cut_names (plain (cond (defines_node statement) (record { line = first.line; statement = statement } ∷ nodes_among rest) (nodes_among rest))) ≡ cut_names (statement ∷ plain rest)
+    by_statement : (statement : Statement) → cut_names (elements_of (plain (nodes_among rest))) ≡ cut_names (elements_of (plain rest))
+        → cut_names (elements_of (plain (cond (defines_node statement) (record { line = first.line; statement = statement } ∷ nodes_among rest) (nodes_among rest)))) ≡ cut_names (elements_of (statement ∷ plain rest))
     by_statement (Input name) ih = ih
     by_statement (Output name) ih = ih
     by_statement (FlipFlop name sources) ih = ap (λ names. name ∷ names) ih
     by_statement (Gate name kind sources) ih = ih
 
 -- those that were noted are those among the nodes
-inputs-sorted : (text : List ℕ) (statements : Statements) → IsParsed text statements → numbered_list statements.nodes.items ≡ nodes_among (bench_statements text) → statements.notes.inputs ≡ length (input_names (statement_list statements.nodes.items))
+inputs-sorted : (text : List ℕ) (statements : Statements) → IsParsed text statements → numbered_list statements.nodes.items ≡ nodes_among (bench_statements text) → statements.notes.inputs ≡ length (input_names (elements_of (statement_list statements.nodes.items)))
 inputs-sorted text statements parsed nodes =
     let all = bench_statements text in
     ap (λ (notes : Notes). notes.inputs) parsed.gathered.notes
     ∙ ap length (sym (input_names-kept all))
-    ∙ ap (λ list. length (input_names list)) (nodes_read text statements nodes)
+    ∙ ap (λ list. length (input_names (elements_of list))) (nodes_read text statements nodes)
 
-cuts-sorted : (text : List ℕ) (statements : Statements) → IsParsed text statements → numbered_list statements.nodes.items ≡ nodes_among (bench_statements text) → statements.notes.cuts ≡ length (cut_names (statement_list statements.nodes.items))
+cuts-sorted : (text : List ℕ) (statements : Statements) → IsParsed text statements → numbered_list statements.nodes.items ≡ nodes_among (bench_statements text) → statements.notes.cuts ≡ length (cut_names (elements_of (statement_list statements.nodes.items)))
 cuts-sorted text statements parsed nodes =
     ap (λ (notes : Notes). notes.cuts) parsed.gathered.notes
     ∙ ap length (sym (cut_names-kept (bench_statements text)))
-    ∙ ap (λ list. length (cut_names list)) (nodes_read text statements nodes)
+    ∙ ap (λ list. length (cut_names (elements_of list))) (nodes_read text statements nodes)
 
-gate_names-kept : (statements : List (Numbered Statement)) → gate_names (plain (nodes_among statements)) ≡ gate_names (plain statements)
+gate_names-kept : (statements : List (Numbered Statement)) → gate_names (elements_of (plain (nodes_among statements))) ≡ gate_names (elements_of (plain statements))
 gate_names-kept [] = refl
 gate_names-kept (first ∷ rest) = by_statement first.statement (gate_names-kept rest)
   where
-    by_statement : (statement : Statement) → gate_names (plain (nodes_among rest)) ≡ gate_names (plain rest)
-        → gate_names (plain (cond (defines_node statement) (record { line = first.line; statement = statement } ∷ nodes_among rest) (nodes_among rest))) ≡ gate_names (statement ∷ plain rest)
+    by_statement : (statement : Statement) → gate_names (elements_of (plain (nodes_among rest))) ≡ gate_names (elements_of (plain rest))
+        → gate_names (elements_of (plain (cond (defines_node statement) (record { line = first.line; statement = statement } ∷ nodes_among rest) (nodes_among rest)))) ≡ gate_names (elements_of (statement ∷ plain rest))
     by_statement (Input name) ih = ih
     by_statement (Output name) ih = ih
     by_statement (FlipFlop name sources) ih = ih
@@ -244,11 +243,11 @@ read_names-kept (first ∷ rest) = by_statement first.statement (read_names-kept
     by_statement (FlipFlop name sources) ih = ap (λ names. sources ++ names) ih
     by_statement (Gate name kind sources) ih = ap (λ names. sources ++ names) ih
 
-node_names-kept : (statements : List (Numbered Statement)) → node_names (plain (nodes_among statements)) ≡ node_names (plain statements)
+node_names-kept : (statements : List (Numbered Statement)) → node_names (elements_of (plain (nodes_among statements))) ≡ node_names (elements_of (plain statements))
 node_names-kept statements =
-    ap (λ inputs. (inputs ++ cut_names (plain (nodes_among statements))) ++ gate_names (plain (nodes_among statements))) (input_names-kept statements)
-    ∙ ap (λ cuts. (input_names (plain statements) ++ cuts) ++ gate_names (plain (nodes_among statements))) (cut_names-kept statements)
-    ∙ ap (λ gates. (input_names (plain statements) ++ cut_names (plain statements)) ++ gates) (gate_names-kept statements)
+    ap (λ inputs. (inputs ++ cut_names (elements_of (plain (nodes_among statements)))) ++ gate_names (elements_of (plain (nodes_among statements)))) (input_names-kept statements)
+    ∙ ap (λ cuts. (input_names (elements_of (plain statements)) ++ cuts) ++ gate_names (elements_of (plain (nodes_among statements)))) (cut_names-kept statements)
+    ∙ ap (λ gates. (input_names (elements_of (plain statements)) ++ cut_names (elements_of (plain statements))) ++ gates) (gate_names-kept statements)
 
 -- the names that nodes define are all names that are defined
 defined_names-kept : (statements : List (Numbered Statement)) → defined_names (plain (nodes_among statements)) ≡ defined_names (plain statements)
@@ -263,12 +262,12 @@ defined_names-kept (first ∷ rest) = by_statement first.statement (defined_name
     by_statement (Gate name kind sources) ih = ap (λ names. name ∷ names) ih
 
 -- there are no more nodes than variables
-nodes_few : (statements : List (Numbered Statement)) → length (nodes_among statements) ≤ variable_total_among statements
+nodes_few : (statements : List (Numbered Statement)) → length (nodes_among statements) ≤ variable_total (elements_of (plain statements))
 nodes_few [] = omega arith
-nodes_few (first ∷ rest) = by_statement first.statement (nodes_few rest) (sum_by-cons (λ (numbered : Numbered Statement). statement_variable_count numbered.statement) first rest)
+nodes_few (first ∷ rest) = by_statement first.statement (nodes_few rest) (sum_by-cons element_variables (element_of first.statement) (elements_of (plain rest)))
   where
-    by_statement : (statement : Statement) → length (nodes_among rest) ≤ variable_total_among rest → variable_total_among (first ∷ rest) ≡ statement_variable_count statement + variable_total_among rest
-        → length (cond (defines_node statement) (first ∷ nodes_among rest) (nodes_among rest)) ≤ variable_total_among (first ∷ rest)
+    by_statement : (statement : Statement) → length (nodes_among rest) ≤ variable_total (elements_of (plain rest)) → variable_total (elements_of (plain (first ∷ rest))) ≡ element_variables (element_of statement) + variable_total (elements_of (plain rest))
+        → length (cond (defines_node statement) (first ∷ nodes_among rest) (nodes_among rest)) ≤ variable_total (elements_of (plain (first ∷ rest)))
     by_statement (Input name) h e = omega (arith, h, e)
     by_statement (Output name) h e = omega (arith, h, e)
     by_statement (FlipFlop name sources) h e = omega (arith, h, e)
@@ -312,7 +311,7 @@ sources_known all (Output name ∷ rest) h = sources_known all rest h.1
 sources_known all (FlipFlop name sources ∷ rest) h = known-append (defined_names (plain all)) sources (read_names rest) (words-known all sources h.0) (sources_known all rest h.1)
 sources_known all (Gate name kind sources ∷ rest) h = known-append (defined_names (plain all)) sources (read_names rest) (words-known all sources h.0) (sources_known all rest h.1)
 
-outputs_known : (all : List (Numbered Statement)) (statements : List Statement) → AllByRecursion (λ statement. uses_undefined all statement ≡ false) statements → AreKnown (defined_names (plain all)) (output_names statements)
+outputs_known : (all : List (Numbered Statement)) (statements : List Statement) → AllByRecursion (λ statement. uses_undefined all statement ≡ false) statements → AreKnown (defined_names (plain all)) (output_names (elements_of statements))
 outputs_known all [] h = tt
 outputs_known all (Input name ∷ rest) h = outputs_known all rest h.1
 outputs_known all (Output name ∷ rest) h = ((words-known all (name ∷ []) h.0).0, outputs_known all rest h.1)
@@ -349,7 +348,7 @@ ready text statements parsed = λ once few none.
       few = omega (arith, counted, same, nodes_few all, variables, few);
       inputs = inputs-sorted text statements parsed nodes;
       cuts = cuts-sorted text statements parsed nodes;
-      once = subst (Apart []) (sym (node_names-kept all) ∙ ap node_names read) (nodes_apart all (again-none text statements parsed once));
+      once = subst (Apart []) (sym (node_names-kept all) ∙ ap (λ list. node_names (elements_of list)) read) (nodes_apart all (again-none text statements parsed once));
       defined = gathered.defined few ∙ ap (places statements.names) words;
       sources = gathered.sources few ∙ ap (places statements.names) sources;
       outputs = gathered.outputs ∙ ap (places statements.names) (sym outputs);
@@ -375,7 +374,7 @@ fault_in-first text statements parsed =
     let names = λ (notes : Notes) (twice undefined : Option BenchFault).
     option_or (option_map fault.Name notes.long_name) (option_or (option_map fault.KindUnknown notes.unknown_kind) (option_or twice
     (option_or (option_map pins_fault notes.wrong_pins) (option_or undefined (too_many_fault notes.variables))))) in
-    let undefined = line-fault fault.Undefined (first_that (uses_undefined all) all) (too_many_fault (variable_total_among all)) in
+    let undefined = line-fault fault.Undefined (first_that (uses_undefined all) all) (too_many_fault (variable_total (elements_of (plain all)))) in
     let pins = ap (option_or (option_map pins_fault (option_map wrong_pins_of (first_that has_wrong_pins all)))) undefined ∙ pins-fault (first_that has_wrong_pins all) _ in
     let twice = ap (option_or (twice_fault all)) pins in
     let kinds = ap (option_or (option_map fault.KindUnknown (first_passing_line has_unknown_kind all))) twice ∙ line-fault fault.KindUnknown (first_that has_unknown_kind all) _ in

@@ -1,5 +1,5 @@
 -- What is noted of statements, with one more.
-use Rattle.std.proofs.Common.{◌≡◌, ◌∙◌, ℕ, ◌+◌, ◌≤◌, length, length-append, map, Bool, true, false, List, [], ◌∷◌, ◌++◌, Option, Some, None, option_map, refl, sym, ap, cond, arith}
+use Rattle.std.proofs.Common.{◌≡◌, ◌∙◌, ℕ, ◌+◌, ◌≤◌, length, length-append, Bool, true, false, List, [], ◌∷◌, ◌++◌, Option, Some, None, option_map, refl, ap, cond, arith}
 use Rattle.std.specs.Option.{option_or}
 use Rattle.std.proofs.lemmas.List.Folds.{find-append}
 use Rattle.std.proofs.lemmas.List.Sums.{sum_by-append, sum_by-cons}
@@ -9,9 +9,10 @@ use Rattle.hz_bench.specs.declared.notes.Notes.{Notes}
 use Rattle.hz_bench.specs.declared.notes.WrongPins.{WrongPins}
 use Rattle.hz_bench.specs.Check.{first_that}
 use Rattle.hz_bench.specs.FaultNotes.{inputs_among, cuts_among, notes_of, notes_with, first_of, wrong_or, wrong_pins_of}
-use Rattle.hz_bench.specs.Netlist.{input_names, cut_names}
-use Rattle.hz_bench.specs.Statement.{Statement, Input, Output, FlipFlop, Gate, has_long_name, statement_variable_count, has_unknown_kind, has_wrong_pins}
-use Rattle.hz_bench.specs.Text.{variable_total_among, variable_total}
+use Rattle.hz_netlist.specs.Element.{input_names, cut_names, element_variables, variable_total}
+use Rattle.hz_bench.specs.Netlist.{element_of, elements_of}
+use Rattle.hz_bench.specs.Statement.{Statement, Input, Output, FlipFlop, Gate, has_long_name, has_unknown_kind, has_wrong_pins}
+use Rattle.hz_bench.specs.Text.{plain}
 
 -- the line of what was found, or of one more where it passes
 line_of_first : (found : Option (Numbered Statement)) (here : Bool) (one : Numbered Statement) → option_map (λ (numbered : Numbered Statement). numbered.line) (option_or found (cond here (Some one) None)) ≡ first_of (option_map (λ (numbered : Numbered Statement). numbered.line) found) here one.line
@@ -34,27 +35,25 @@ wrong_pins-push : (statements : List (Numbered Statement)) (one : Numbered State
 wrong_pins-push statements one =
     ap (option_map wrong_pins_of) (find-append (λ (numbered : Numbered Statement). has_wrong_pins numbered.statement) statements (one ∷ [])) ∙ wrong_of_first (first_that has_wrong_pins statements) (has_wrong_pins one.statement) one refl
 
--- the variables of statements do not depend on their lines
-pub variable_total-statements : (statements : List (Numbered Statement)) → variable_total (map (λ numbered. numbered.statement) statements) ≡ variable_total_among statements
-variable_total-statements [] = refl
-variable_total-statements (first ∷ rest) =
-    sum_by-cons statement_variable_count first.statement (map (λ (numbered : Numbered Statement). numbered.statement) rest) ∙ ap (λ n. statement_variable_count first.statement + n) (variable_total-statements rest) ∙ sym (sum_by-cons (λ (numbered : Numbered Statement). statement_variable_count numbered.statement) first rest)
+-- the variables of statements and more
+pub variable_total-append : (statements more : List Statement) → variable_total (elements_of (statements ++ more)) ≡ variable_total (elements_of statements) + variable_total (elements_of more)
+variable_total-append statements more = ap variable_total (map-append element_of statements more) ∙ sum_by-append element_variables (elements_of statements) (elements_of more)
 
 -- the variables of statements with one more
-pub variables-push : (statements : List (Numbered Statement)) (one : Numbered Statement) → variable_total_among (statements ++ one ∷ []) ≡ variable_total_among statements + statement_variable_count one.statement
+pub variables-push : (statements : List (Numbered Statement)) (one : Numbered Statement) → variable_total (elements_of (plain (statements ++ one ∷ []))) ≡ variable_total (elements_of (plain statements)) + element_variables (element_of one.statement)
 variables-push statements one =
-    let e : variable_total_among (statements ++ one ∷ []) ≡ variable_total_among statements + variable_total_among (one ∷ []) = sum_by-append _ statements (one ∷ []) in
-    omega arith
+    let parts = ap (λ all. variable_total (elements_of all)) (map-append (λ (numbered : Numbered Statement). numbered.statement) statements (one ∷ [])) in
+    omega (arith, parts, variable_total-append (plain statements) (one.statement ∷ []))
 
 -- the inputs of statements with one more
-input_names-append : (statements more : List Statement) → input_names (statements ++ more) ≡ input_names statements ++ input_names more
+input_names-append : (statements more : List Statement) → input_names (elements_of (statements ++ more)) ≡ input_names (elements_of statements) ++ input_names (elements_of more)
 input_names-append [] more = refl
 input_names-append (Input name ∷ rest) more = ap (λ names. name ∷ names) (input_names-append rest more)
 input_names-append (Output name ∷ rest) more = input_names-append rest more
 input_names-append (FlipFlop name sources ∷ rest) more = input_names-append rest more
 input_names-append (Gate name kind sources ∷ rest) more = input_names-append rest more
 
-cut_names-append : (statements more : List Statement) → cut_names (statements ++ more) ≡ cut_names statements ++ cut_names more
+cut_names-append : (statements more : List Statement) → cut_names (elements_of (statements ++ more)) ≡ cut_names (elements_of statements) ++ cut_names (elements_of more)
 cut_names-append [] more = refl
 cut_names-append (Input name ∷ rest) more = cut_names-append rest more
 cut_names-append (Output name ∷ rest) more = cut_names-append rest more
@@ -63,23 +62,23 @@ cut_names-append (Gate name kind sources ∷ rest) more = cut_names-append rest 
 
 inputs-push : (statements : List (Numbered Statement)) (one : Numbered Statement) → inputs_among (statements ++ one ∷ []) ≡ inputs_among statements + inputs_among (one ∷ [])
 inputs-push statements one =
-    ap (λ (all : List Statement). length (input_names all)) (map-append (λ (numbered : Numbered Statement). numbered.statement) statements (one ∷ []))
-    ∙ ap length (input_names-append (map (λ (numbered : Numbered Statement). numbered.statement) statements) (one.statement ∷ []))
-    ∙ length-append (input_names (map (λ (numbered : Numbered Statement). numbered.statement) statements)) (input_names (one.statement ∷ []))
+    ap (λ (all : List Statement). length (input_names (elements_of all))) (map-append (λ (numbered : Numbered Statement). numbered.statement) statements (one ∷ []))
+    ∙ ap length (input_names-append (plain statements) (one.statement ∷ []))
+    ∙ length-append (input_names (elements_of (plain statements))) (input_names (elements_of (one.statement ∷ [])))
 
 cuts-push : (statements : List (Numbered Statement)) (one : Numbered Statement) → cuts_among (statements ++ one ∷ []) ≡ cuts_among statements + cuts_among (one ∷ [])
 cuts-push statements one =
-    ap (λ (all : List Statement). length (cut_names all)) (map-append (λ (numbered : Numbered Statement). numbered.statement) statements (one ∷ []))
-    ∙ ap length (cut_names-append (map (λ (numbered : Numbered Statement). numbered.statement) statements) (one.statement ∷ []))
-    ∙ length-append (cut_names (map (λ (numbered : Numbered Statement). numbered.statement) statements)) (cut_names (one.statement ∷ []))
+    ap (λ (all : List Statement). length (cut_names (elements_of all))) (map-append (λ (numbered : Numbered Statement). numbered.statement) statements (one ∷ []))
+    ∙ ap length (cut_names-append (plain statements) (one.statement ∷ []))
+    ∙ length-append (cut_names (elements_of (plain statements))) (cut_names (elements_of (one.statement ∷ [])))
 
 -- each input and each flip-flop is a variable
-pub inputs_few : (statements : List (Numbered Statement)) → inputs_among statements + cuts_among statements ≤ variable_total_among statements
+pub inputs_few : (statements : List (Numbered Statement)) → inputs_among statements + cuts_among statements ≤ variable_total (elements_of (plain statements))
 inputs_few [] = omega arith
-inputs_few (first ∷ rest) = by_statement first.statement (inputs_few rest) (sum_by-cons (λ (numbered : Numbered Statement). statement_variable_count numbered.statement) first rest)
+inputs_few (first ∷ rest) = by_statement first.statement (inputs_few rest) (sum_by-cons element_variables (element_of first.statement) (elements_of (plain rest)))
   where
-    by_statement : (statement : Statement) → inputs_among rest + cuts_among rest ≤ variable_total_among rest → variable_total_among (first ∷ rest) ≡ statement_variable_count statement + variable_total_among rest
-        → length (input_names (statement ∷ map (λ (numbered : Numbered Statement). numbered.statement) rest)) + length (cut_names (statement ∷ map (λ (numbered : Numbered Statement). numbered.statement) rest)) ≤ variable_total_among (first ∷ rest)
+    by_statement : (statement : Statement) → inputs_among rest + cuts_among rest ≤ variable_total (elements_of (plain rest)) → variable_total (elements_of (plain (first ∷ rest))) ≡ element_variables (element_of statement) + variable_total (elements_of (plain rest))
+        → length (input_names (elements_of (statement ∷ plain rest))) + length (cut_names (elements_of (statement ∷ plain rest))) ≤ variable_total (elements_of (plain (first ∷ rest)))
     by_statement (Input name) h e = omega (arith, h, e)
     by_statement (Output name) h e = omega (arith, h, e)
     by_statement (FlipFlop name sources) h e = omega (arith, h, e)

@@ -7,8 +7,9 @@ use Rattle.std.proofs.lemmas.Slice.Eq.{bytes_eq-Decides}
 use Rattle.hz_bench.specs.declared.entry.Entry.{Entry}
 use Rattle.hz_bench.specs.Definition.{defined_names}
 use Rattle.hz_bench.specs.Entry.{statement_of_entry, statement_list}
-use Rattle.hz_netlist.specs.Circuit.{number_in}
-use Rattle.hz_bench.specs.Netlist.{input_names, cut_names, gate_names, node_names}
+use Rattle.hz_netlist.specs.Circuit.{node_names, number_in}
+use Rattle.hz_netlist.specs.Element.{input_names, cut_names, gate_names}
+use Rattle.hz_bench.specs.Netlist.{elements_of}
 use Rattle.hz_bench.specs.Form.{form_of}
 use Rattle.hz_bench.specs.Statement.{Statement, Input, Output, FlipFlop, Gate}
 use Rattle.hz_bench.proofs.EntryLemmas.{entry-formed}
@@ -21,14 +22,14 @@ forms-statement_of_entry [] = refl
 forms-statement_of_entry (entry ∷ rest) = ap (λ one. one ∷ forms_of rest) (entry-formed entry) ∙ ap (λ forms. form_of (statement_of_entry entry) ∷ forms) (forms-statement_of_entry rest)
 
 -- there are no more inputs and flip-flops than statements
-inputs_within : (statements : List Statement) → length (input_names statements) + length (cut_names statements) ≤ length statements
+inputs_within : (statements : List Statement) → length (input_names (elements_of statements)) + length (cut_names (elements_of statements)) ≤ length statements
 inputs_within [] = omega arith
 inputs_within (Input name ∷ rest) = let h = inputs_within rest in omega arith
 inputs_within (Output name ∷ rest) = let h = inputs_within rest in omega arith
 inputs_within (FlipFlop name sources ∷ rest) = let h = inputs_within rest in omega arith
 inputs_within (Gate name kind sources ∷ rest) = let h = inputs_within rest in omega arith
 
-pub inputs_few : (entries : List Entry) → length (input_names (statement_list entries)) + length (cut_names (statement_list entries)) ≤ length entries
+pub inputs_few : (entries : List Entry) → length (input_names (elements_of (statement_list entries))) + length (cut_names (elements_of (statement_list entries))) ≤ length entries
 inputs_few entries = omega (arith, inputs_within (statement_list entries), length-map entries statement_of_entry)
 
 -- a name that is apart from all before it is absent there
@@ -50,47 +51,47 @@ numbered names front back name apart is =
     ap (λ all. number_in all name) is ∙ placed front back name (Apart-absent [] front back name (subst (Apart []) is apart))
 
 numbers_placed : (names inputs cuts gates : List (List ℕ)) (statements : List Statement) (input cut gate : ℕ) → Apart [] names
-    → names ≡ ((inputs ++ input_names statements) ++ (cuts ++ cut_names statements)) ++ (gates ++ gate_names statements)
-    → length inputs ≡ input → length ((inputs ++ input_names statements) ++ cuts) ≡ cut → length (((inputs ++ input_names statements) ++ (cuts ++ cut_names statements)) ++ gates) ≡ gate
+    → names ≡ ((inputs ++ input_names (elements_of statements)) ++ (cuts ++ cut_names (elements_of statements))) ++ (gates ++ gate_names (elements_of statements))
+    → length inputs ≡ input → length ((inputs ++ input_names (elements_of statements)) ++ cuts) ≡ cut → length (((inputs ++ input_names (elements_of statements)) ++ (cuts ++ cut_names (elements_of statements))) ++ gates) ≡ gate
     → numbers_from input cut gate (map form_of statements) ≡ map (number_in names) (defined_names statements)
 numbers_placed names inputs cuts gates [] input cut gate apart is first second third = refl
 numbers_placed names inputs cuts gates (Input name ∷ rest) input cut gate apart is first second third =
-    let back = cuts ++ cut_names rest in
-    let last = gates ++ gate_names rest in
-    let moved : inputs ++ name ∷ input_names rest ≡ (inputs ++ name ∷ []) ++ input_names rest = sym (append_assoc inputs (name ∷ []) (input_names rest)) in
-    let here = numbered names inputs ((input_names rest ++ back) ++ last) name apart
-    (is ∙ ap (λ front. front ++ last) (append_assoc inputs (name ∷ input_names rest) back) ∙ append_assoc inputs (name ∷ input_names rest ++ back) last) in
+    let back = cuts ++ cut_names (elements_of rest) in
+    let last = gates ++ gate_names (elements_of rest) in
+    let moved : inputs ++ name ∷ input_names (elements_of rest) ≡ (inputs ++ name ∷ []) ++ input_names (elements_of rest) = sym (append_assoc inputs (name ∷ []) (input_names (elements_of rest))) in
+    let here = numbered names inputs ((input_names (elements_of rest) ++ back) ++ last) name apart
+    (is ∙ ap (λ front. front ++ last) (append_assoc inputs (name ∷ input_names (elements_of rest)) back) ∙ append_assoc inputs (name ∷ input_names (elements_of rest) ++ back) last) in
     ap (λ number. number ∷ numbers_from (suc input) cut gate (map form_of rest)) (sym (here ∙ first))
     ∙ ap (λ numbers. number_in names name ∷ numbers) (numbers_placed names (inputs ++ name ∷ []) cuts gates rest (suc input) cut gate apart
     (is ∙ ap (λ front. (front ++ back) ++ last) moved) (omega (arith, first, length-append inputs (name ∷ [])))
     (sym (ap (λ front. length (front ++ cuts)) moved) ∙ second) (sym (ap (λ front. length ((front ++ back) ++ gates)) moved) ∙ third))
 numbers_placed names inputs cuts gates (Output name ∷ rest) input cut gate apart is first second third = numbers_placed names inputs cuts gates rest input cut gate apart is first second third
 numbers_placed names inputs cuts gates (FlipFlop name sources ∷ rest) input cut gate apart is first second third =
-    let front = inputs ++ input_names rest in
-    let last = gates ++ gate_names rest in
-    let moved : cuts ++ name ∷ cut_names rest ≡ (cuts ++ name ∷ []) ++ cut_names rest = sym (append_assoc cuts (name ∷ []) (cut_names rest)) in
-    let here = numbered names (front ++ cuts) (cut_names rest ++ last) name apart
-    (is ∙ ap (λ all. all ++ last) (sym (append_assoc front cuts (name ∷ cut_names rest))) ∙ append_assoc (front ++ cuts) (name ∷ cut_names rest) last) in
+    let front = inputs ++ input_names (elements_of rest) in
+    let last = gates ++ gate_names (elements_of rest) in
+    let moved : cuts ++ name ∷ cut_names (elements_of rest) ≡ (cuts ++ name ∷ []) ++ cut_names (elements_of rest) = sym (append_assoc cuts (name ∷ []) (cut_names (elements_of rest))) in
+    let here = numbered names (front ++ cuts) (cut_names (elements_of rest) ++ last) name apart
+    (is ∙ ap (λ all. all ++ last) (sym (append_assoc front cuts (name ∷ cut_names (elements_of rest)))) ∙ append_assoc (front ++ cuts) (name ∷ cut_names (elements_of rest)) last) in
     let longer : length (front ++ (cuts ++ name ∷ [])) ≡ suc cut = omega (arith, second, length-append front cuts, length-append front (cuts ++ name ∷ []), length-append cuts (name ∷ [])) in
     ap (λ number. number ∷ numbers_from input (suc cut) gate (map form_of rest)) (sym (here ∙ second))
     ∙ ap (λ numbers. number_in names name ∷ numbers) (numbers_placed names inputs (cuts ++ name ∷ []) gates rest input (suc cut) gate apart
     (is ∙ ap (λ back. (front ++ back) ++ last) moved) first longer (sym (ap (λ back. length ((front ++ back) ++ gates)) moved) ∙ third))
 numbers_placed names inputs cuts gates (Gate name kind sources ∷ rest) input cut gate apart is first second third =
-    let front = (inputs ++ input_names rest) ++ (cuts ++ cut_names rest) in
-    let here = numbered names (front ++ gates) (gate_names rest) name apart (is ∙ sym (append_assoc front gates (name ∷ gate_names rest))) in
+    let front = (inputs ++ input_names (elements_of rest)) ++ (cuts ++ cut_names (elements_of rest)) in
+    let here = numbered names (front ++ gates) (gate_names (elements_of rest)) name apart (is ∙ sym (append_assoc front gates (name ∷ gate_names (elements_of rest)))) in
     let longer : length (front ++ (gates ++ name ∷ [])) ≡ suc gate = omega (arith, third, length-append front gates, length-append front (gates ++ name ∷ []), length-append gates (name ∷ [])) in
     ap (λ number. number ∷ numbers_from input cut (suc gate) (map form_of rest)) (sym (here ∙ third))
     ∙ ap (λ numbers. number_in names name ∷ numbers) (numbers_placed names inputs cuts (gates ++ name ∷ []) rest input cut (suc gate) apart
-    (is ∙ ap (λ back. front ++ back) (sym (append_assoc gates (name ∷ []) (gate_names rest)))) first second longer)
+    (is ∙ ap (λ back. front ++ back) (sym (append_assoc gates (name ∷ []) (gate_names (elements_of rest))))) first second longer)
 
 -- the numbers that are counted are those of the defined names
-pub numbers-known : (entries : List Entry) → Apart [] (node_names (statement_list entries))
-    → numbers_from 0 (length (input_names (statement_list entries))) (length (input_names (statement_list entries)) + length (cut_names (statement_list entries))) (forms_of entries)
-    ≡ map (number_in (node_names (statement_list entries))) (defined_names (statement_list entries))
+pub numbers-known : (entries : List Entry) → Apart [] (node_names (elements_of (statement_list entries)))
+    → numbers_from 0 (length (input_names (elements_of (statement_list entries)))) (length (input_names (elements_of (statement_list entries))) + length (cut_names (elements_of (statement_list entries)))) (forms_of entries)
+    ≡ map (number_in (node_names (elements_of (statement_list entries)))) (defined_names (statement_list entries))
 numbers-known entries apart =
     let statements = statement_list entries in
-    let inputs = input_names statements in
-    let cuts = cut_names statements in
+    let inputs = input_names (elements_of statements) in
+    let cuts = cut_names (elements_of statements) in
     ap (numbers_from 0 (length inputs) (length inputs + length cuts)) (forms-statement_of_entry entries)
-    ∙ numbers_placed (node_names statements) [] [] [] statements 0 (length inputs) (length inputs + length cuts) apart refl refl (ap length (append-nil inputs))
+    ∙ numbers_placed (node_names (elements_of statements)) [] [] [] statements 0 (length inputs) (length inputs + length cuts) apart refl refl (ap length (append-nil inputs))
     (ap length (append-nil (inputs ++ cuts)) ∙ length-append inputs cuts)

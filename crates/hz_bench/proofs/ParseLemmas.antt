@@ -17,10 +17,12 @@ use Rattle.hz_bench.specs.Names.{told}
 use Rattle.hz_bench.specs.ReaderState.{AreGathered, IsNothingRead, AddsStatement}
 use Rattle.hz_bench.specs.Pass.{IsParsed}
 use Rattle.hz_bench.specs.FaultIn.{redefinition_fault}
-use Rattle.hz_bench.specs.Statement.{Statement, Input, Output, FlipFlop, Gate, statement_of, name_list_of, Port, InputPort, OutputPort, port_word, port_of, defined_by, is_flip_flop, kind_named, statement_variable_count, words_of}
-use Rattle.hz_bench.specs.Text.{bench_meaning, bench_statements, variable_total_among}
+use Rattle.hz_netlist.specs.Element.{element_variables, variable_total}
+use Rattle.hz_bench.specs.Netlist.{element_of, elements_of}
+use Rattle.hz_bench.specs.Statement.{Statement, Input, Output, FlipFlop, Gate, statement_of, name_list_of, Port, InputPort, OutputPort, port_word, port_of, defined_by, is_flip_flop, kind_named, words_of}
+use Rattle.hz_bench.specs.Text.{bench_meaning, bench_statements, plain}
 use Rattle.hz_bench.proofs.ReaderLemmas.{gathered-more}
-use Rattle.hz_bench.proofs.NoteLemmas.{inputs_few, variable_total-statements, variables-push}
+use Rattle.hz_bench.proofs.NoteLemmas.{inputs_few, variables-push}
 use Rattle.hz_bench.proofs.StatementLemmas.{IsNameList-from_some}
 
 -- what was read so far, before the rest of the text
@@ -30,7 +32,7 @@ pub record IsParsing (text : List ℕ) (statements : Statements) (line : ℕ) (l
   pub whole : done ++ numbered_from statement_of (suc line) (lines_of_rest left) ≡ bench_statements text
   pub formed : first_malformed statement_of (suc line) (lines_of_rest left) ≡ first_malformed statement_of 1 (lines_of text)
   pub lines : line + rest_length left ≤ length text + 1
-  pub variables : variable_total_among done + rest_length left ≤ length text + 1
+  pub variables : variable_total (elements_of (plain done)) + rest_length left ≤ length text + 1
 
 distinct-none : (names : Names) → names ≡ [] → IsDistinct bytes_eq (seen_names names)
 unfolding IsDistinct
@@ -65,7 +67,7 @@ pub IsParsing-roomier : (text : List ℕ) (statements : Statements) (names : Nam
 IsParsing-roomier text statements names line left same was = subst (λ names. IsParsing text (record statements { names = names }) line left) (sym same) was
 
 -- a statement has no more variables than its line has tokens
-port_weight : (name : List ℕ) (made : Option Port) (statement : Statement) → option_map (port_of name) made ≡ Some statement → statement_variable_count statement ≤ 4
+port_weight : (name : List ℕ) (made : Option Port) (statement : Statement) → option_map (port_of name) made ≡ Some statement → element_variables (element_of statement) ≤ 4
 port_weight name None statement h = cc
 port_weight name (Some InputPort) (Input other) h = lit≤ tt
 port_weight name (Some InputPort) (Output other) h = lit≤ tt
@@ -76,24 +78,24 @@ port_weight name (Some OutputPort) (Output other) h = lit≤ tt
 port_weight name (Some OutputPort) (FlipFlop other sources) h = cc
 port_weight name (Some OutputPort) (Gate other kind sources) h = cc
 
-gate_weight : (name word : List ℕ) (rest : List TokenOf) (names : Option (List (List ℕ))) (statement : Statement) → names ≡ name_list_of rest → option_map (defined_by name word) names ≡ Some statement → statement_variable_count statement ≤ length rest + 4
+gate_weight : (name word : List ℕ) (rest : List TokenOf) (names : Option (List (List ℕ))) (statement : Statement) → names ≡ name_list_of rest → option_map (defined_by name word) names ≡ Some statement → element_variables (element_of statement) ≤ length rest + 4
 gate_weight name word rest None statement same h = cc
 gate_weight name word rest (Some names) statement same h = by_word (is_flip_flop word) h
   where
-    by_word : (b : Bool) → Some (cond b (FlipFlop name names) (Gate name (kind_named word) names)) ≡ Some statement → statement_variable_count statement ≤ length rest + 4
+    by_word : (b : Bool) → Some (cond b (FlipFlop name names) (Gate name (kind_named word) names)) ≡ Some statement → element_variables (element_of statement) ≤ length rest + 4
     by_word true h =
         let is : FlipFlop name names ≡ statement = cc h in
-        subst (λ (one : Statement). statement_variable_count one ≤ length rest + 4) is (omega arith)
+        subst (λ (one : Statement). element_variables (element_of one) ≤ length rest + 4) is (omega arith)
     by_word false h =
         let is : Gate name (kind_named word) names ≡ statement = cc h in
         let list = IsNameList-from_some rest (ap is_some (sym same)) in
         let words : words_of rest ≡ names = cc (list.words, same) in
         let twice = list.twice in
         let few : length names + length names ≡ length rest = omega (arith, ap length words, twice) in
-        subst (λ (one : Statement). statement_variable_count one ≤ length rest + 4) is (omega arith)
+        subst (λ (one : Statement). element_variables (element_of one) ≤ length rest + 4) is (omega arith)
 
 -- only a head of two words, each with punctuation after it, begins a statement
-statement_weight : (tokens : List TokenOf) (statement : Statement) → statement_of tokens ≡ Some statement → statement_variable_count statement ≤ length tokens
+statement_weight : (tokens : List TokenOf) (statement : Statement) → statement_of tokens ≡ Some statement → element_variables (element_of statement) ≤ length tokens
 statement_weight [] statement h = cc
 statement_weight (PunctuationOf punctuation ∷ rest) statement h = cc
 statement_weight (WordOf first ∷ []) statement h = cc
@@ -119,17 +121,17 @@ statement_weight (WordOf first ∷ PunctuationOf Equals ∷ WordOf second ∷ Pu
 statement_weight (WordOf first ∷ PunctuationOf Equals ∷ WordOf second ∷ PunctuationOf Open ∷ rest) statement h =
     let few = gate_weight first second rest (name_list_of rest) statement refl h in omega arith
 
-found_weight : (tokens : List TokenOf) (found : Option Statement) (statement : Statement) → found ≡ statement_of tokens → meaning_by found ≡ Means statement → statement_variable_count statement ≤ length tokens
+found_weight : (tokens : List TokenOf) (found : Option Statement) (statement : Statement) → found ≡ statement_of tokens → meaning_by found ≡ Means statement → element_variables (element_of statement) ≤ length tokens
 found_weight tokens None statement same h = cc
 found_weight tokens (Some found) statement same h = statement_weight tokens statement (cc (same, h))
 
-meaning_weight : (tokens : Option (List TokenOf)) (statement : Statement) (n : ℕ) → IfSome tokens (λ all. length all ≤ n) → meaning_of_tokens statement_of tokens ≡ Means statement → statement_variable_count statement ≤ n
+meaning_weight : (tokens : Option (List TokenOf)) (statement : Statement) (n : ℕ) → IfSome tokens (λ all. length all ≤ n) → meaning_of_tokens statement_of tokens ≡ Means statement → element_variables (element_of statement) ≤ n
 meaning_weight None statement n short h = cc
 meaning_weight (Some []) statement n short h = cc
 meaning_weight (Some (token ∷ tokens)) statement n short h =
     let few = found_weight (token ∷ tokens) (statement_of (token ∷ tokens)) statement refl h in omega arith
 
-pub line_weight : (line : List ℕ) (statement : Statement) → bench_meaning line ≡ Means statement → statement_variable_count statement ≤ length line
+pub line_weight : (line : List ℕ) (statement : Statement) → bench_meaning line ≡ Means statement → element_variables (element_of statement) ≤ length line
 line_weight line statement h = meaning_weight (tokens_of line) statement (length line) (tokens_of-length line) h
 
 -- a line without tokens
@@ -155,15 +157,15 @@ IsParsed-end text statements line was =
     record {
       gathered = subst (λ done. AreGathered done statements) all was.gathered;
       formed = sym was.formed;
-      fits = let v = was.variables in let e = variable_total-statements (bench_statements text) in let e' = ap variable_total_among all in omega arith;
+      fits = let v = was.variables in let e = ap (λ done. variable_total (elements_of (plain done))) all in omega arith;
     }
 
 -- the statement of a line may be counted with those before it
 pub variables_fit : (text : List ℕ) (statements : Statements) (statement : Statement) (line : ℕ) (first : List ℕ) (left : Option (Bor (List ℕ))) (whole : Bor (List ℕ))
-    → IsParsing text statements line (Some whole) → length first + rest_length left ≤ length whole.now → bench_meaning first ≡ Means statement → statements.notes.variables + statement_variable_count statement ≤ length text + 1
+    → IsParsing text statements line (Some whole) → length first + rest_length left ≤ length whole.now → bench_meaning first ≡ Means statement → statements.notes.variables + element_variables (element_of statement) ≤ length text + 1
 variables_fit text statements statement line first left whole was shorter meaning =
     let weight = line_weight first statement meaning in
-    let counted : statements.notes.variables ≡ variable_total_among was.done = ap (λ (notes : Notes). notes.variables) was.gathered.notes in
+    let counted : statements.notes.variables ≡ variable_total (elements_of (plain was.done)) = ap (λ (notes : Notes). notes.variables) was.gathered.notes in
     let v = was.variables in
     omega arith
 

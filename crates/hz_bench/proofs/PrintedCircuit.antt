@@ -14,8 +14,9 @@ use Rattle.hz_core.specs.Netlist.{Netlist, Gate as GateOf, IsCircuit, IsDataAmon
 use Rattle.hz_core.proofs.CircuitLemmas.{same_netlist}
 use Rattle.hz_line.specs.Line.{lines_of}
 use Rattle.hz_line.specs.Statement.{Meaning, Nothing, Malformed, Means, Numbered, with_meaning, numbered_from}
-use Rattle.hz_netlist.specs.Circuit.{number_in, add_once, each_once}
-use Rattle.hz_bench.specs.Netlist.{input_names, cut_names, data_names, data_nodes, gate_names, output_names, all_inputs, node_names, gates_of, circuit_of_statements}
+use Rattle.hz_netlist.specs.Circuit.{all_inputs, node_names, number_in, gates_of, data_nodes, add_once, each_once}
+use Rattle.hz_netlist.specs.Element.{input_names, cut_names, data_names, gate_names, output_names}
+use Rattle.hz_bench.specs.Netlist.{circuit_of_statements, elements_of}
 use Rattle.hz_bench.specs.Statement.{InputPort, OutputPort, Statement, statement_of}
 use Rattle.hz_bench.specs.Text.{bench_meaning, statements_of}
 use Rattle.hz_bench.specs.Printed.{netlist_text}
@@ -105,12 +106,12 @@ set_nodes netlist circuit whole = are_set (length netlist.names) netlist.outputs
 -- what the first of these statements add to a circuit: inputs, flip-flops, the names that these read, gates and outputs by their
 -- names, and gates
 record Adds (names : List (List ℕ)) (first rest : List Statement) (inputs cuts sources gates outputs : List (List ℕ)) (made : List GateOf) : Type 0 where
-  inputs_are : input_names (first ++ rest) ≡ inputs ++ input_names rest
-  cuts_are : cut_names (first ++ rest) ≡ cuts ++ cut_names rest
-  sources_are : data_names (first ++ rest) ≡ sources ++ data_names rest
-  gates_are : gate_names (first ++ rest) ≡ gates ++ gate_names rest
-  outputs_are : output_names (first ++ rest) ≡ outputs ++ output_names rest
-  made_are : gates_of names (first ++ rest) ≡ made ++ gates_of names rest
+  inputs_are : input_names (elements_of (first ++ rest)) ≡ inputs ++ input_names (elements_of rest)
+  cuts_are : cut_names (elements_of (first ++ rest)) ≡ cuts ++ cut_names (elements_of rest)
+  sources_are : data_names (elements_of (first ++ rest)) ≡ sources ++ data_names (elements_of rest)
+  gates_are : gate_names (elements_of (first ++ rest)) ≡ gates ++ gate_names (elements_of rest)
+  outputs_are : output_names (elements_of (first ++ rest)) ≡ outputs ++ output_names (elements_of rest)
+  made_are : gates_of names (elements_of (first ++ rest)) ≡ made ++ gates_of names (elements_of rest)
 
 inputs_add : (names inputs : List (List ℕ)) (rest : List Statement) → Adds names (ports InputPort inputs) rest inputs [] [] [] [] []
 inputs_add names [] rest = record { inputs_are = refl; cuts_are = refl; sources_are = refl; gates_are = refl; outputs_are = refl; made_are = refl }
@@ -202,29 +203,29 @@ circuit_back netlist circuit whole =
     let third : Adds names middle last [] cuts sources [] [] [] = subst (λ all. Adds names (cut_statements names primary all) last [] cuts sources [] [] []) (sym set.are) (cuts_add names primary set.nodes last) in
     let second = outputs_add names outputs (middle ++ last) in
     let first = inputs_add names inputs (ports OutputPort outputs ++ (middle ++ last)) in
-    let ins : input_names statements ≡ inputs = first.inputs_are ∙ ap (λ all. inputs ++ all) (second.inputs_are ∙ third.inputs_are ∙ rw nil at fourth.inputs_are) ∙ append-nil inputs in
-    let cut : cut_names statements ≡ cuts = first.cuts_are ∙ second.cuts_are ∙ third.cuts_are ∙ ap (λ all. cuts ++ all) (rw nil at fourth.cuts_are) ∙ append-nil cuts in
-    let read : data_names statements ≡ sources = first.sources_are ∙ second.sources_are ∙ third.sources_are ∙ ap (λ all. sources ++ all) (rw nil at fourth.sources_are) ∙ append-nil sources in
-    let gates : gate_names statements ≡ drop netlist.inputs names = first.gates_are ∙ second.gates_are ∙ third.gates_are ∙ (rw nil at fourth.gates_are) ∙ append-nil (drop netlist.inputs names) in
-    let outs : output_names statements ≡ outputs = first.outputs_are ∙ second.outputs_are ∙ ap (λ all. outputs ++ all) (third.outputs_are ∙ rw nil at fourth.outputs_are) ∙ append-nil outputs in
-    let made : gates_of names statements ≡ netlist.gates = first.made_are ∙ second.made_are ∙ third.made_are ∙ (rw nil at fourth.made_are) ∙ append-nil netlist.gates in
-    let front : all_inputs statements ≡ inputs ++ cuts = ap (λ all. all ++ cut_names statements) ins ∙ ap (λ all. inputs ++ all) cut in
+    let ins : input_names (elements_of statements) ≡ inputs = first.inputs_are ∙ ap (λ all. inputs ++ all) (second.inputs_are ∙ third.inputs_are ∙ rw nil at fourth.inputs_are) ∙ append-nil inputs in
+    let cut : cut_names (elements_of statements) ≡ cuts = first.cuts_are ∙ second.cuts_are ∙ third.cuts_are ∙ ap (λ all. cuts ++ all) (rw nil at fourth.cuts_are) ∙ append-nil cuts in
+    let read : data_names (elements_of statements) ≡ sources = first.sources_are ∙ second.sources_are ∙ third.sources_are ∙ ap (λ all. sources ++ all) (rw nil at fourth.sources_are) ∙ append-nil sources in
+    let gates : gate_names (elements_of statements) ≡ drop netlist.inputs names = first.gates_are ∙ second.gates_are ∙ third.gates_are ∙ (rw nil at fourth.gates_are) ∙ append-nil (drop netlist.inputs names) in
+    let outs : output_names (elements_of statements) ≡ outputs = first.outputs_are ∙ second.outputs_are ∙ ap (λ all. outputs ++ all) (third.outputs_are ∙ rw nil at fourth.outputs_are) ∙ append-nil outputs in
+    let made : gates_of names (elements_of statements) ≡ netlist.gates = first.made_are ∙ second.made_are ∙ third.made_are ∙ (rw nil at fourth.made_are) ∙ append-nil netlist.gates in
+    let front : all_inputs (elements_of statements) ≡ inputs ++ cuts = ap (λ all. all ++ cut_names (elements_of statements)) ins ∙ ap (λ all. inputs ++ all) cut in
     let behind : cuts ++ drop netlist.inputs names ≡ drop primary names = sym (named_from-drop names primary set.nodes (omega (arith, total, circuit.nodes)) ∙ ap (λ n. cuts ++ drop n names) total) in
-    let nodes : node_names statements ≡ names =
-    ap (λ all. all ++ gate_names statements) front ∙ ap (λ all. (inputs ++ cuts) ++ all) gates ∙ append_assoc inputs cuts (drop netlist.inputs names)
+    let nodes : node_names (elements_of statements) ≡ names =
+    ap (λ all. all ++ gate_names (elements_of statements)) front ∙ ap (λ all. (inputs ++ cuts) ++ all) gates ∙ append_assoc inputs cuts (drop netlist.inputs names)
     ∙ ap (λ all. inputs ++ all) behind ∙ take-append-drop primary names in
     let few = length-take-le primary names (omega (arith, circuit.nodes)) in
-    let nodes_are : data_nodes (node_names statements) statements ≡ set.nodes =
-    ap (λ all. data_nodes all statements) nodes ∙ ap (map (number_in names)) read ∙ numbers_back names set.nodes circuit.names_distinct set.below in
+    let nodes_are : data_nodes (node_names (elements_of statements)) (elements_of statements) ≡ set.nodes =
+    ap (λ all. data_nodes all (elements_of statements)) nodes ∙ ap (map (number_in names)) read ∙ numbers_back names set.nodes circuit.names_distinct set.below in
     same_netlist (circuit_of_statements statements) netlist nodes
     (ap length front ∙ omega (arith, length-append inputs cuts, few, length-named_from names primary set.nodes, total))
     (ap (map Some) nodes_are ∙ sym set.are)
-    (ap (λ all. gates_of all statements) nodes ∙ made)
+    (ap (λ all. gates_of all (elements_of statements)) nodes ∙ made)
     (
-    ap (λ all. each_once (map (number_in all) (output_names statements) ++ data_nodes all statements)) nodes
-    ∙ ap (λ all. each_once (map (number_in names) all ++ data_nodes names statements)) outs
-    ∙ ap (λ all. each_once (all ++ data_nodes names statements)) (numbers_back names netlist.outputs circuit.names_distinct circuit.outputs)
-    ∙ ap (λ all. each_once (netlist.outputs ++ all)) (ap (λ all. data_nodes all statements) (sym nodes) ∙ nodes_are)
+    ap (λ all. each_once (map (number_in all) (output_names (elements_of statements)) ++ data_nodes all (elements_of statements))) nodes
+    ∙ ap (λ all. each_once (map (number_in names) all ++ data_nodes names (elements_of statements))) outs
+    ∙ ap (λ all. each_once (all ++ data_nodes names (elements_of statements))) (numbers_back names netlist.outputs circuit.names_distinct circuit.outputs)
+    ∙ ap (λ all. each_once (netlist.outputs ++ all)) (ap (λ all. data_nodes all (elements_of statements)) (sym nodes) ∙ nodes_are)
     ∙ each_once-append [] netlist.outputs set.nodes
     ∙ ap (λ all. fold add_once all set.nodes) (once [] netlist.outputs circuit.outputs_distinct)
     ∙ still netlist.outputs set.nodes set.there

@@ -8,7 +8,7 @@ use Rattle.std.proofs.Math.ListN as lists
 use Rattle.std.proofs.lemmas.Bool.Decides.{nat_tests}
 use Rattle.std.proofs.lemmas.List.{length-map, get_or_default}
 use Rattle.std.proofs.lemmas.List.Elements.{All-nil, All-cons, All-append, All-map, All-take, All-head, All-tail, filter_map-append}
-use Rattle.std.proofs.lemmas.List.Sums.{sum_by-append, sum_by-cons}
+use Rattle.std.proofs.lemmas.List.Sums.{sum_by-cons}
 use Rattle.std.proofs.lemmas.Map.Keys.{apart_from_distinct}
 use Rattle.hz_core.specs.Gate.{takes}
 use Rattle.hz_core.specs.Netlist.{Netlist, Gate as GateOf, IsName, IsCircuit, IsGateAmong, IsWhole, primary_inputs, variable_count, node_name}
@@ -18,9 +18,13 @@ use Rattle.hz_line.specs.Statement.{Meaning, Nothing, Malformed, Means}
 use Rattle.hz_bench.specs.declared.fault.BenchFault.{BenchFault}
 use Rattle.hz_bench.specs.declared.fault.BenchFault.TheVariants.{Form, Name, KindUnknown, Twice, Pins, Undefined, TooMany, Memory}
 use Rattle.hz_bench.specs.Fault.{States, HasThat, Defines, Uses, IsSecond, IsFaultless, IsNetlistRefusal}
-use Rattle.hz_bench.specs.Statement.{InputPort, OutputPort, Statement, Input, Output, FlipFlop, Gate, defined_name, used_names, has_long_name, is_long, statement_variable_count, port_of, has_unknown_kind, has_wrong_pins}
-use Rattle.hz_bench.specs.Text.{bench_meaning, bench_meaning_at, variable_total}
+use Rattle.hz_netlist.specs.Element.{element_variables, variable_total}
+use Rattle.hz_netlist.specs.Element as element
+use Rattle.hz_bench.specs.Netlist.{element_of, elements_of}
+use Rattle.hz_bench.specs.Statement.{InputPort, OutputPort, Statement, Input, Output, FlipFlop, Gate, defined_name, used_names, has_long_name, is_long, port_of, has_unknown_kind, has_wrong_pins}
+use Rattle.hz_bench.specs.Text.{bench_meaning, bench_meaning_at}
 use Rattle.hz_bench.specs.Printed.{netlist_text}
+use Rattle.hz_bench.proofs.NoteLemmas.{variable_total-append}
 use Rattle.hz_bench.proofs.PrintedLines.{ports, HasPin, cut_statements, gate_statement, gate_statements, statements_for, IsReadAs, printed-IsReadAs}
 use Rattle.hz_bench.proofs.PrintedCircuit.{IsReadAs-statements, named_from, named_from-drop, set_nodes}
 use Rattle.hz_core.specs.Limits.{most_variables}
@@ -150,7 +154,7 @@ undefined_none names text statements line name read sound defined (statement, st
     none (suc place.0) (get_or statements place.0 statement, meaning_read text statements place.0 read ∙ there statements place.0 statement place.1, place.2)
 
 -- statements without faults make a text without one
-faultless : (names : List (List ℕ)) (text : List ℕ) (statements : List Statement) → IsReadAs text statements → All (IsSound names) statements → defined_names statements ≡ names → IsDistinct bytes_eq names → variable_total statements ≤ most_variables → IsFaultless text
+faultless : (names : List (List ℕ)) (text : List ℕ) (statements : List Statement) → IsReadAs text statements → All (IsSound names) statements → defined_names statements ≡ names → IsDistinct bytes_eq names → variable_total (elements_of statements) ≤ most_variables → IsFaultless text
 faultless names text statements read sound defined distinct few (Form zero) h = cc
 faultless names text statements read sound defined distinct few (Form (suc above)) h = formed statements above (sym (meaning_read text statements above read) ∙ h)
 faultless names text statements read sound defined distinct few (Name line) h = passes_none names text statements has_long_name line read sound (λ statement is. is.short) h
@@ -158,7 +162,7 @@ faultless names text statements read sound defined distinct few (KindUnknown lin
 faultless names text statements read sound defined distinct few (Twice line first) h = twice_none text statements line first h.0 read (subst (IsDistinct bytes_eq) (sym defined) distinct) h.1
 faultless names text statements read sound defined distinct few (Pins line count) h = passes_none names text statements has_wrong_pins line read sound (λ statement is. is.pins) (h.0, h.1, h.2)
 faultless names text statements read sound defined distinct few (Undefined line) h = undefined_none names text statements line h.0 read sound defined h.1 h.2
-faultless names text statements read sound defined distinct few (TooMany variables) h = omega (arith, h.0, h.1, few, ap variable_total (IsReadAs-statements text statements read))
+faultless names text statements read sound defined distinct few (TooMany variables) h = omega (arith, h.0, h.1, few, ap (λ all. variable_total (elements_of all)) (IsReadAs-statements text statements read))
 faultless names text statements read sound defined distinct few Memory h = h
 
 short_name : (name : List ℕ) → IsName name → is_long name ≡ false
@@ -267,30 +271,30 @@ nodes_define netlist circuit whole =
     ∙ ap (λ later. defined_names (ports InputPort inputs) ++ (defined_names (ports OutputPort outputs) ++ later)) (filter_map-append defined_name cuts gates)
     ∙ rw (inputs_define inputs, outputs_define outputs, defined, gates_define names netlist.inputs netlist.gates (sym circuit.nodes), behind) (take-append-drop primary names)
 
-inputs_count : (names : List (List ℕ)) → variable_total (ports InputPort names) ≡ length names
+inputs_count : (names : List (List ℕ)) → variable_total (elements_of (ports InputPort names)) ≡ length names
 inputs_count [] = refl
-inputs_count (name ∷ names) = let first = sum_by-cons statement_variable_count (Input name) (ports InputPort names) in omega (arith, first, inputs_count names)
+inputs_count (name ∷ names) = let first = sum_by-cons element_variables (element.Input name) (elements_of (ports InputPort names)) in omega (arith, first, inputs_count names)
 
-outputs_count : (names : List (List ℕ)) → variable_total (ports OutputPort names) ≡ 0
+outputs_count : (names : List (List ℕ)) → variable_total (elements_of (ports OutputPort names)) ≡ 0
 outputs_count [] = refl
-outputs_count (name ∷ names) = let first = sum_by-cons statement_variable_count (Output name) (ports OutputPort names) in omega (arith, first, outputs_count names)
+outputs_count (name ∷ names) = let first = sum_by-cons element_variables (element.Output name) (elements_of (ports OutputPort names)) in omega (arith, first, outputs_count names)
 
-gates_count : (names : List (List ℕ)) (node : ℕ) (gates : List GateOf) → variable_total (gate_statements names node gates) ≡ length gates + sum_by (λ gate. length gate.sources) gates
+gates_count : (names : List (List ℕ)) (node : ℕ) (gates : List GateOf) → variable_total (elements_of (gate_statements names node gates)) ≡ length gates + sum_by (λ gate. length gate.sources) gates
 gates_count names node [] = refl
 gates_count names node (gate ∷ rest) =
     let ih = gates_count names (suc node) rest in
     let pins = length-map gate.sources (node_name names) in
-    let first = sum_by-cons statement_variable_count (gate_statement names (node_name names node) gate) (gate_statements names (suc node) rest) in
+    let first = sum_by-cons element_variables (element_of (gate_statement names (node_name names node) gate)) (elements_of (gate_statements names (suc node) rest)) in
     omega (arith, ih, pins, first, sum_by-cons (λ (gate : GateOf). length gate.sources) gate rest)
 
-cuts_count : (names : List (List ℕ)) (node : ℕ) (nodes : List ℕ) → variable_total (cut_statements names node (map Some nodes)) ≡ length nodes
+cuts_count : (names : List (List ℕ)) (node : ℕ) (nodes : List ℕ) → variable_total (elements_of (cut_statements names node (map Some nodes))) ≡ length nodes
 cuts_count names node [] = refl
 cuts_count names node (source ∷ nodes) =
-    let first = sum_by-cons statement_variable_count (FlipFlop (node_name names node) (node_name names source ∷ [])) (cut_statements names (suc node) (map Some nodes)) in
+    let first = sum_by-cons element_variables (element.Cut (node_name names node) (node_name names source)) (elements_of (cut_statements names (suc node) (map Some nodes))) in
     omega (arith, first, cuts_count names (suc node) nodes)
 
 -- they count its variables
-nodes_count : (netlist : Netlist) → IsCircuit netlist → IsWhole netlist → variable_total (statements_for netlist) ≡ variable_count netlist
+nodes_count : (netlist : Netlist) → IsCircuit netlist → IsWhole netlist → variable_total (elements_of (statements_for netlist)) ≡ variable_count netlist
 nodes_count netlist circuit whole =
     let names = netlist.names in
     let primary = primary_inputs netlist in
@@ -300,10 +304,10 @@ nodes_count netlist circuit whole =
     let outputs = map (node_name names) netlist.outputs in
     let cuts = cut_statements names primary netlist.cuts in
     let gates = gate_statements names netlist.inputs netlist.gates in
-    let first = sum_by-append statement_variable_count (ports InputPort inputs) (ports OutputPort outputs ++ (cuts ++ gates)) in
-    let second = sum_by-append statement_variable_count (ports OutputPort outputs) (cuts ++ gates) in
-    let third = sum_by-append statement_variable_count cuts gates in
-    let made : variable_total cuts ≡ length set.nodes = ap (λ all. variable_total (cut_statements names primary all)) set.are ∙ cuts_count names primary set.nodes in
+    let first = variable_total-append (ports InputPort inputs) (ports OutputPort outputs ++ (cuts ++ gates)) in
+    let second = variable_total-append (ports OutputPort outputs) (cuts ++ gates) in
+    let third = variable_total-append cuts gates in
+    let made : variable_total (elements_of cuts) ≡ length set.nodes = ap (λ all. variable_total (elements_of (cut_statements names primary all))) set.are ∙ cuts_count names primary set.nodes in
     let few = length-take-le primary names (omega (arith, circuit.nodes)) in
     omega (arith, first, second, third, inputs_count inputs, outputs_count outputs, made, count, gates_count names netlist.inputs netlist.gates, few, circuit.nodes, circuit.cuts)
 

@@ -6,16 +6,16 @@ use Rattle.hz_bench.specs.declared.parse.Statements.{Statements}
 use Rattle.hz_bench.specs.declared.fault.BenchFault.{BenchFault}
 use Rattle.hz_bench.specs.declared.fault.BenchFault.TheVariants.{Form, Name, KindUnknown, Twice, Pins, Undefined, TooMany, Memory}
 use Rattle.hz_netlist.proofs.Admissible.{may_build}
-use Rattle.hz_bench.specs.Elements.{elements_of}
+use Rattle.hz_netlist.specs.Element.{variable_total}
+use Rattle.hz_bench.specs.Netlist.{elements_of}
 use Rattle.hz_bench.specs.Fault.{Defines, HasFault, fault_number, fault_line_number, ComesFirst, IsLeastFault, IsNetlistRefusal}
 use Rattle.hz_bench.specs.Pass.{IsParsed, IsParseFault, IsAccepted}
 use Rattle.hz_bench.specs.Statement.{defined_name, statement_pin_count}
-use Rattle.hz_bench.specs.Text.{bench_meaning_at, statement_meant, bench_statements, statements_of, variable_total}
+use Rattle.hz_bench.specs.Text.{bench_meaning_at, statement_meant, bench_statements, statements_of}
 use Rattle.hz_bench.specs.Twice.{IsFoundOrMemory, earlier_line}
 use Rattle.hz_bench.proofs.CheckedLemmas.{checked}
 use Rattle.hz_bench.proofs.FaultLaws.{Outcome, form-least, form-none, first_fault-outcome, second-first, line_found}
 use Rattle.hz_bench.proofs.FaultlessLaws.{whole_text, wired_text}
-use Rattle.hz_bench.proofs.NoteLemmas.{variable_total-statements}
 use Rattle.hz_bench.specs.FaultIn.{fault_in}
 use Rattle.hz_bench.proofs.KeptStatements.{buildable, fault_in-first, outputs_read}
 
@@ -52,7 +52,7 @@ accepted text statements parsed e =
     let few = fine.few in
     let gathered = parsed.gathered in
     let outputs = outputs_read text statements parsed in
-    let nodes = gathered.nodes (omega (arith, ap (λ (notes : Notes). notes.variables) gathered.notes, variable_total-statements (bench_statements text), few)) in
+    let nodes = gathered.nodes (omega (arith, ap (λ (notes : Notes). notes.variables) gathered.notes, few)) in
     record {
       nodes = nodes;
       outputs = outputs;
@@ -71,7 +71,7 @@ fault_at text number line =
     else (if number == 5 then Twice line (line_found (earlier_line (bench_statements text) (defined_name statement)))
     else (if number == 6 then Pins line (statement_pin_count statement)
     else (if number == 7 then Undefined line
-    else (if number == 8 then TooMany (variable_total (statements_of text)) else Memory))))))
+    else (if number == 8 then TooMany (variable_total (elements_of (statements_of text))) else Memory))))))
 
 fault_at-back : (text : List ℕ) (fault : BenchFault) → HasFault text fault → fault_at text (fault_number fault) (fault_line_number fault) ≡ fault
 fault_at-back text (Form line) p = refl

@@ -17,7 +17,8 @@ use Rattle.hz_bench.specs.Definition.{defined_names}
 use Rattle.hz_bench.specs.FaultIn.{redefinition_fault}
 use Rattle.hz_bench.specs.FaultNotes.{notes_with}
 use Rattle.hz_bench.specs.Names.{definer_before, definitions_of, places, read_names, told, uses_of, with_definitions, with_statement, with_uses}
-use Rattle.hz_bench.specs.Netlist.{output_names}
+use Rattle.hz_netlist.specs.Element.{output_names}
+use Rattle.hz_bench.specs.Netlist.{elements_of}
 use Rattle.hz_bench.specs.ReaderState.{AddsStatement, AreGathered, redefinition_with}
 use Rattle.hz_bench.specs.Statement.{Statement, Input, Output, FlipFlop, Gate, defined_name, defines_node, sources_of, used_names, words_in}
 use Rattle.hz_bench.specs.Entry.{numbered_list, numbered_of, statement_of_entry}
@@ -48,12 +49,12 @@ read_names-push [] one = append-nil (sources_of one.statement)
 read_names-push (first ∷ rest) one =
     ap (λ later. sources_of first.statement ++ later) (read_names-push rest one) ∙ sym (append_assoc (sources_of first.statement) (read_names (plain rest)) (sources_of one.statement))
 
-output_names-push : (done : List (Numbered Statement)) (one : Numbered Statement) → output_names (plain (done ++ one ∷ [])) ≡ output_names (plain done) ++ output_names (one.statement ∷ [])
+output_names-push : (done : List (Numbered Statement)) (one : Numbered Statement) → output_names (elements_of (plain (done ++ one ∷ []))) ≡ output_names (elements_of (plain done)) ++ output_names (elements_of (one.statement ∷ []))
 output_names-push [] one = refl
 output_names-push (first ∷ rest) one = by_statement first.statement (output_names-push rest one)
   where
-    by_statement : (statement : Statement) → output_names (plain (rest ++ one ∷ [])) ≡ output_names (plain rest) ++ output_names (one.statement ∷ [])
-        → output_names (statement ∷ plain (rest ++ one ∷ [])) ≡ output_names (statement ∷ plain rest) ++ output_names (one.statement ∷ [])
+    by_statement : (statement : Statement) → output_names (elements_of (plain (rest ++ one ∷ []))) ≡ output_names (elements_of (plain rest)) ++ output_names (elements_of (one.statement ∷ []))
+        → output_names (elements_of (statement ∷ plain (rest ++ one ∷ []))) ≡ output_names (elements_of (statement ∷ plain rest)) ++ output_names (elements_of (one.statement ∷ []))
     by_statement (Input name) ih = ih
     by_statement (Output name) ih = ap (λ names. name ∷ names) ih
     by_statement (FlipFlop name sources) ih = ih
@@ -80,7 +81,7 @@ gathered-more done one statements more was added =
           added.names (was.defined (before few)) (added.defined few) (defined_names-push done one);
       sources = λ few. told-more statements.names more.names one statements.sources.items more.sources.items (read_names (plain done)) (sources_of one.statement) (read_names (plain (done ++ one ∷ [])))
           added.names (was.sources (before few)) (added.sources few) (read_names-push done one);
-      outputs = told-more statements.names more.names one statements.outputs.items more.outputs.items (output_names (plain done)) (output_names (one.statement ∷ [])) (output_names (plain (done ++ one ∷ [])))
+      outputs = told-more statements.names more.names one statements.outputs.items more.outputs.items (output_names (elements_of (plain done))) (output_names (elements_of (one.statement ∷ []))) (output_names (elements_of (plain (done ++ one ∷ []))))
           added.names was.outputs added.outputs (output_names-push done one);
       notes = added.notes ∙ ap (λ (notes : Notes). notes_with notes one) was.notes ∙ sym (notes_of-push done one);
       again = ap (option_map redefinition_fault) added.again
@@ -97,7 +98,7 @@ node-uses form (Output name) h = cc
 node-uses form (FlipFlop name sources) h = refl
 node-uses form (Gate name kind sources) h = refl
 
-node-no_output : (form : Form) (statement : Statement) → form_of statement ≡ Some form → output_names (statement ∷ []) ≡ []
+node-no_output : (form : Form) (statement : Statement) → form_of statement ≡ Some form → output_names (elements_of (statement ∷ [])) ≡ []
 node-no_output form (Input name) h = refl
 node-no_output form (Output name) h = cc
 node-no_output form (FlipFlop name sources) h = refl

@@ -9,7 +9,8 @@ use Rattle.std.proofs.lemmas.List.Elements.{All-cons, All-nil, All-tail}
 use Rattle.std.proofs.lemmas.List.Folds.{list_any-append}
 use Rattle.std.proofs.lemmas.Slice.Eq.{bytes_eq-Decides}
 use Rattle.hz_netlist.specs.Build.{AreKnown}
-use Rattle.hz_netlist.specs.Circuit.{number_in}
+use Rattle.hz_netlist.specs.Circuit.{node_names, number_in}
+use Rattle.hz_netlist.specs.Element.{cut_names, input_names}
 use Rattle.hz_netlist.specs.Names.{AreNumbers, Names, name_at, names_at, node_of, place_in}
 use Rattle.hz_netlist.proofs.Places.{named-at, number-few}
 use Rattle.hz_core.specs.declared.kind.Kind.{Kind}
@@ -22,7 +23,7 @@ use Rattle.hz_bench.specs.Definition.{defined_names}
 use Rattle.hz_bench.specs.Entry.{statement_list, statement_of_entry}
 use Rattle.hz_bench.specs.Form.{form_of}
 use Rattle.hz_bench.specs.Names.{places, read_names, told}
-use Rattle.hz_bench.specs.Netlist.{cut_names, input_names, node_names}
+use Rattle.hz_bench.specs.Netlist.{elements_of}
 use Rattle.hz_bench.specs.Statement.{Statement, Input, Output, FlipFlop, Gate, sources_of}
 use Rattle.hz_bench.specs.Uses.{AreNodesOf, AreUsesOf, IsResolvable, forms_of, numbers_from, output_words, pins_in, with_nodes}
 use Rattle.hz_bench.proofs.EntryLemmas.{entry-formed}
@@ -131,10 +132,10 @@ pub nodes-made : (statements : Statements) (none table : List ℕ) (cuts gates :
 nodes-made statements none table cuts gates can long cuts_is gates_is made =
     let entries = statements.nodes.items in
     let list = statement_list entries in
-    let all = node_names list in
-    let first : cuts ≡ length (input_names list) = cuts_is ∙ can.inputs in
-    let second : gates ≡ length (input_names list) + length (cut_names list) = gates_is ∙ ap (λ n. n + statements.notes.cuts) first ∙ ap (λ n. length (input_names list) + n) can.cuts in
-    let numbers = ap (λ n. numbers_from 0 n gates (forms_of entries)) first ∙ ap (λ n. numbers_from 0 (length (input_names list)) n (forms_of entries)) second ∙ numbers-known entries can.once in
+    let all = node_names (elements_of list) in
+    let first : cuts ≡ length (input_names (elements_of list)) = cuts_is ∙ can.inputs in
+    let second : gates ≡ length (input_names (elements_of list)) + length (cut_names (elements_of list)) = gates_is ∙ ap (λ n. n + statements.notes.cuts) first ∙ ap (λ n. length (input_names (elements_of list)) + n) can.cuts in
+    let numbers = ap (λ n. numbers_from 0 n gates (forms_of entries)) first ∙ ap (λ n. numbers_from 0 (length (input_names (elements_of list))) n (forms_of entries)) second ∙ numbers-known entries can.once in
     let placed = nodes-placed statements.names all [] none statements.defined.items (numbers_from 0 cuts gates (forms_of entries)) (defined_names list) can.defined numbers long (nodes-none statements.names all none) in
     record {
       long = ap length made ∙ placed.1;
@@ -146,7 +147,7 @@ pub uses-told : (statements : Statements) (table : List ℕ) (uses : Uses) → I
     → uses.outputs.items ≡ map (node_of table) statements.outputs.items → AreUsesOf statements uses
 uses-told statements table uses can are pins outputs =
     let list = statement_list statements.nodes.items in
-    let all = node_names list in
+    let all = node_names (elements_of list) in
     record {
       pins_are = pins ∙ nodes-told statements.names all (defined_names list) table statements.sources.items (read_names list) are.node can.sources can.sources_known ∙ sym (pins-read all list);
       outputs_are = outputs ∙ nodes-told statements.names all (defined_names list) table statements.outputs.items (output_words statements) are.node can.outputs can.outputs_known;

@@ -3,9 +3,11 @@ use Rattle.std.specs.Prelude.{ℕ, Bool, not, nat_lt, List, find, Option, Some, 
 use Rattle.std.specs.Option.{option_or}
 use Rattle.std.specs.List.{list_any}
 use Rattle.hz_line.specs.Statement.{Numbered}
+use Rattle.hz_netlist.specs.Element.{variable_total}
 use Rattle.hz_bench.specs.Definition.{definer}
+use Rattle.hz_bench.specs.Netlist.{elements_of}
 use Rattle.hz_bench.specs.Statement.{Statement, used_names, has_long_name, has_unknown_kind, has_wrong_pins, statement_pin_count}
-use Rattle.hz_bench.specs.Text.{variable_total_among}
+use Rattle.hz_bench.specs.Text.{plain}
 use Rattle.hz_bench.specs.Twice.{twice_fault}
 use Rattle.hz_bench.specs.declared.fault.BenchFault.{BenchFault}
 use Rattle.hz_bench.specs.declared.fault.BenchFault.TheVariants as fault
@@ -41,4 +43,4 @@ first_fault statements =
     (first_that has_wrong_pins statements)
     (fault_or (λ found. fault.Undefined found.line)
     (first_that (uses_undefined statements) statements)
-    (too_many_fault (variable_total_among statements))))))
+    (too_many_fault (variable_total (elements_of (plain statements))))))))

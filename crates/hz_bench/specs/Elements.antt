@@ -1,4 +1,4 @@
--- The elements of a circuit that statements are.
+-- The elements that entries are, and when their circuit may be built.
 use Rattle.std.specs.Prelude.{◌≡◌, ℕ, false, List, map}
 use Rattle.std.specs.List.{AllByRecursion}
 use Rattle.hz_core.specs.Netlist.{Netlist}
@@ -7,19 +7,8 @@ use Rattle.hz_netlist.specs.Element as element
 use Rattle.hz_netlist.specs.Element.{Element}
 use Rattle.hz_bench.specs.declared.entry.Entry.{Entry}
 use Rattle.hz_bench.specs.Entry.{statement_of_entry, statement_list}
-use Rattle.hz_bench.specs.Netlist.{data_name, kind_of}
-use Rattle.hz_bench.specs.Statement.{Statement, Input, Output, FlipFlop, Gate, has_wrong_pins}
-
--- the element that a statement is: a flip-flop is cut
-abbrev pub element_of : Statement → Element
-element_of (Input name) = element.Input name
-element_of (Output name) = element.Output name
-element_of (FlipFlop name sources) = element.Cut name (data_name sources)
-element_of (Gate name kind sources) = element.Gate name (kind_of kind) sources
-
--- the elements that statements are
-abbrev pub elements_of : List Statement → List Element
-elements_of statements = map element_of statements
+use Rattle.hz_bench.specs.Netlist.{element_of}
+use Rattle.hz_bench.specs.Statement.{Statement, has_wrong_pins}
 
 -- the element that an entry is
 abbrev pub element_of_entry : Entry → Element

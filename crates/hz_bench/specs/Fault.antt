@@ -1,10 +1,12 @@
 -- Exactly when each fault stands in a text, and which of several is the answer.
 use Rattle.std.specs.Prelude.{◌≡◌, ℕ, ◌<◌, ◌≤◌, ◌⊎◌, Bool, true, List, Some, Contains}
 use Rattle.hz_line.specs.Statement.{Malformed, Means}
+use Rattle.hz_netlist.specs.Element.{variable_total}
 use Rattle.hz_bench.specs.declared.fault.BenchFault.{BenchFault}
 use Rattle.hz_bench.specs.declared.fault.BenchFault.TheVariants.{Form, Name, KindUnknown, Twice, Pins, Undefined, TooMany, Memory}
+use Rattle.hz_bench.specs.Netlist.{elements_of}
 use Rattle.hz_bench.specs.Statement.{Statement, defined_name, used_names, has_long_name, has_unknown_kind, has_wrong_pins, statement_pin_count}
-use Rattle.hz_bench.specs.Text.{bench_meaning_at, statements_of, variable_total}
+use Rattle.hz_bench.specs.Text.{bench_meaning_at, statements_of}
 use Rattle.hz_core.specs.Limits.{most_variables}
 
 -- the line has a statement
@@ -45,7 +47,7 @@ HasFault text (Pins line count) =
 HasFault text (Undefined line) =
     (name : List ℕ) × Uses text line name × ((other : ℕ) → ¬ Defines text other name)
 HasFault text (TooMany variables) =
-    (most_variables < variables) × (variable_total (statements_of text) ≡ variables)
+    (most_variables < variables) × (variable_total (elements_of (statements_of text)) ≡ variables)
 HasFault text Memory = ⊥
 
 -- the number of a fault; 4 is not used

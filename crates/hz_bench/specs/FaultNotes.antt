@@ -1,12 +1,13 @@
 -- What is noted of statements while they are read.
-use Rattle.std.specs.Prelude.{ℕ, ◌+◌, Bool, List, [], ◌∷◌, length, map, Option, Some, None, option_map, if◌then◌else◌}
+use Rattle.std.specs.Prelude.{ℕ, ◌+◌, Bool, List, [], ◌∷◌, length, Option, Some, None, option_map, if◌then◌else◌}
 use Rattle.hz_line.specs.Statement.{Numbered, first_passing_line}
 use Rattle.hz_bench.specs.declared.notes.Notes.{Notes}
 use Rattle.hz_bench.specs.declared.notes.WrongPins.{WrongPins}
 use Rattle.hz_bench.specs.Check.{first_that}
-use Rattle.hz_bench.specs.Netlist.{input_names, cut_names}
-use Rattle.hz_bench.specs.Statement.{Statement, has_long_name, has_unknown_kind, has_wrong_pins, statement_pin_count, statement_variable_count}
-use Rattle.hz_bench.specs.Text.{variable_total_among}
+use Rattle.hz_netlist.specs.Element.{input_names, cut_names, element_variables, variable_total}
+use Rattle.hz_bench.specs.Netlist.{element_of, elements_of}
+use Rattle.hz_bench.specs.Statement.{Statement, has_long_name, has_unknown_kind, has_wrong_pins, statement_pin_count}
+use Rattle.hz_bench.specs.Text.{plain}
 
 -- a flip-flop or a gate with wrong pins, as it is noted
 abbrev pub wrong_pins_of : Numbered Statement → WrongPins
@@ -15,11 +16,11 @@ wrong_pins_of numbered =
 
 -- how many inputs are among the statements
 abbrev pub inputs_among : List (Numbered Statement) → ℕ
-inputs_among statements = length (input_names (map (λ numbered. numbered.statement) statements))
+inputs_among statements = length (input_names (elements_of (plain statements)))
 
 -- how many flip-flops are among the statements
 abbrev pub cuts_among : List (Numbered Statement) → ℕ
-cuts_among statements = length (cut_names (map (λ numbered. numbered.statement) statements))
+cuts_among statements = length (cut_names (elements_of (plain statements)))
 
 -- the notes are those of these statements: the first line of each fault of a single statement, how many inputs and flip-flops there
 -- are, and the sum of all variables
@@ -30,7 +31,7 @@ notes_of statements = record {
   wrong_pins = option_map wrong_pins_of (first_that has_wrong_pins statements);
   inputs = inputs_among statements;
   cuts = cuts_among statements;
-  variables = variable_total_among statements;
+  variables = variable_total (elements_of (plain statements));
 }
 
 -- of no statement
@@ -64,5 +65,5 @@ notes_with notes numbered = record {
   wrong_pins = wrong_or notes.wrong_pins numbered;
   inputs = notes.inputs + inputs_among (numbered ∷ []);
   cuts = notes.cuts + cuts_among (numbered ∷ []);
-  variables = notes.variables + statement_variable_count numbered.statement;
+  variables = notes.variables + element_variables (element_of numbered.statement);
 }

@@ -4,8 +4,8 @@
 -- statement_of tokens: the statement of a line
 -- bench_statements text: the statements of a text, with their lines
 -- defined_name statement, used_names statement: what it defines and uses
--- input_names, cut_names, gate_names, output_names: the names of statements, in order
--- circuit_of_statements statements: the circuit of statements
+-- elements_of statements: the elements of a circuit that statements are
+-- circuit_of_statements statements: the circuit of these elements
 -- Defines text line name, Uses text line name: a line does
 -- HasFault text fault: the fault is in the text
 -- fault_number fault, fault_line_number fault: the order of faults: by number, then by line
@@ -13,7 +13,6 @@
 -- IsNetlistRefusal text fault: that, or memory ran out
 -- IsFaultless text: no fault is in the text
 -- netlist_text netlist: the text of a circuit
--- variable_total statements: how many variables their network has
 -- first_fault statements: the first fault, as a function
 -- definer statements name: the line that defines a name first
 -- definitions_of statements, uses_of statements: the names that statements define and use, with their lines
@@ -26,7 +25,6 @@
 -- fault_in statements: the first fault of what was kept
 -- IsAccepted text statements: a text without a fault
 -- AreUses nodes outputs uses: the numbers of the names that are used
--- elements_of statements: the elements of a circuit that statements are
 
 pub mod Statement
 pub mod Form

@@ -3,6 +3,7 @@ use Rattle.std.specs.Prelude.{◌≡◌, ℕ, ◌+◌, ◌≤◌, List, length, 
 use Rattle.hz_line.specs.Line.{lines_of}
 use Rattle.hz_line.specs.Statement.{first_malformed}
 use Rattle.hz_core.specs.Netlist.{IsWhole}
+use Rattle.hz_netlist.specs.Element.{output_names, variable_total}
 use Rattle.hz_bench.specs.declared.parse.Statements.{Statements}
 use Rattle.hz_bench.specs.declared.fault.BenchFault.{BenchFault}
 use Rattle.hz_bench.specs.declared.fault.BenchFault.TheVariants.{Form, Name, KindUnknown, Twice, Pins, Undefined, TooMany, Memory}
@@ -10,16 +11,16 @@ use Rattle.hz_bench.specs.Elements.{IsBuildable}
 use Rattle.hz_bench.specs.Entry.{numbered_list}
 use Rattle.hz_bench.specs.Fault.{IsFaultless}
 use Rattle.hz_bench.specs.ReaderState.{AreGathered}
-use Rattle.hz_bench.specs.Netlist.{circuit_of_statements, output_names}
+use Rattle.hz_bench.specs.Netlist.{circuit_of_statements, elements_of}
 use Rattle.hz_bench.specs.Statement.{statement_of}
-use Rattle.hz_bench.specs.Text.{bench_statements, nodes_among, statements_of, variable_total}
+use Rattle.hz_bench.specs.Text.{bench_statements, nodes_among, statements_of}
 use Rattle.hz_bench.specs.Uses.{output_words}
 
 -- the statements are those of a text without a malformed line
 pub record IsParsed (text : List ℕ) (statements : Statements) : Type 0 where
   pub gathered : AreGathered (bench_statements text) statements
   pub formed : first_malformed statement_of 1 (lines_of text) ≡ None
-  pub fits : variable_total (statements_of text) ≤ length text + 1
+  pub fits : variable_total (elements_of (statements_of text)) ≤ length text + 1
 
 -- the fault of the first malformed line
 abbrev pub IsParseFault : List ℕ → BenchFault → Type 0
@@ -35,7 +36,7 @@ IsParseFault text Memory = Unit {0}
 -- the statements are those of a text in which no fault stands; their circuit may be built, and is whole
 pub record IsAccepted (text : List ℕ) (statements : Statements) : Type 0 where
   pub nodes : numbered_list statements.nodes.items ≡ nodes_among (bench_statements text)
-  pub outputs : output_words statements ≡ output_names (statements_of text)
+  pub outputs : output_words statements ≡ output_names (elements_of (statements_of text))
   pub faultless : IsFaultless text
   pub may : IsBuildable statements.nodes.items (output_words statements)
   pub whole : IsWhole (circuit_of_statements (statements_of text))

@@ -4,6 +4,7 @@ use Rattle.std.specs.List.{IsDistinct}
 use Rattle.std.specs.Str.{bytes_eq}
 use Rattle.hz_core.specs.Limits.{most_variables}
 use Rattle.hz_line.specs.Statement.{Numbered}
+use Rattle.hz_netlist.specs.Element.{output_names}
 use Rattle.hz_netlist.specs.Names.{AreNamesOf, seen_names}
 use Rattle.hz_bench.specs.declared.entry.Entry.{Entry}
 use Rattle.hz_bench.specs.declared.notes.Redefinition.{Redefinition}
@@ -13,7 +14,7 @@ use Rattle.hz_bench.specs.Entry.{numbered_list}
 use Rattle.hz_bench.specs.FaultIn.{redefinition_fault}
 use Rattle.hz_bench.specs.FaultNotes.{notes_with, no_notes, notes_of}
 use Rattle.hz_bench.specs.Names.{definer_before, definitions_of, places, read_names, told, uses_of, with_statement}
-use Rattle.hz_bench.specs.Netlist.{output_names}
+use Rattle.hz_bench.specs.Netlist.{elements_of}
 use Rattle.hz_bench.specs.Statement.{Statement, defined_name, sources_of}
 use Rattle.hz_bench.specs.Text.{nodes_among, plain}
 use Rattle.hz_bench.specs.Twice.{twice_fault}
@@ -60,7 +61,8 @@ pub record AddsStatement (old : Statements) (next : Numbered Statement)
       told new.sources.items
       ≡ told old.sources.items ++ places new.names (sources_of next.statement)
   pub outputs : told new.outputs.items
-      ≡ told old.outputs.items ++ places new.names (output_names (next.statement ∷ []))
+      ≡ told old.outputs.items
+      ++ places new.names (output_names (elements_of (next.statement ∷ [])))
   pub notes : new.notes ≡ notes_with old.notes next
   pub again : new.again
       ≡ redefinition_with old.again next.line
@@ -77,6 +79,7 @@ pub record AreGathered (done : List (Numbered Statement)) (statements : Statemen
       told statements.defined.items ≡ places statements.names (defined_names (plain done))
   pub sources : statements.notes.variables ≤ most_variables →
       told statements.sources.items ≡ places statements.names (read_names (plain done))
-  pub outputs : told statements.outputs.items ≡ places statements.names (output_names (plain done))
+  pub outputs : told statements.outputs.items
+      ≡ places statements.names (output_names (elements_of (plain done)))
   pub notes : statements.notes ≡ notes_of done
   pub again : option_map redefinition_fault statements.again ≡ twice_fault done

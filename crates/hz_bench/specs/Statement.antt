@@ -1,5 +1,5 @@
 -- The statement of a token list.
-use Rattle.std.specs.Prelude.{ℕ, Bool, true, false, not, nat_lt, ◌+◌, ◌==◌, List, [], ◌∷◌, length, codes, Option, Some, None, is_some, option_map, if◌then◌else◌}
+use Rattle.std.specs.Prelude.{ℕ, Bool, true, false, not, nat_lt, ◌==◌, List, [], ◌∷◌, length, codes, Option, Some, None, is_some, option_map, if◌then◌else◌}
 use Rattle.std.specs.List.{list_any}
 use Rattle.hz_core.specs.declared.kind.Kind.{Kind}
 use Rattle.hz_core.specs.declared.kind.Kind.TheVariants.{And, Nand, Or, Nor, Xor, Xnor, Not, Buff}
@@ -136,13 +136,6 @@ has_wrong_pins (Input name) = false
 has_wrong_pins (Output name) = false
 has_wrong_pins (FlipFlop name sources) = not (length sources == 1)
 has_wrong_pins (Gate name kind sources) = refuses_pin_count kind (length sources)
-
--- how many variables a statement brings: an input or a flip-flop one, a gate one and one for each pin
-abbrev pub statement_variable_count : Statement → ℕ
-statement_variable_count (Input name) = 1
-statement_variable_count (Output name) = 0
-statement_variable_count (FlipFlop name sources) = 1
-statement_variable_count (Gate name kind sources) = 1 + length sources
 
 -- the words among tokens
 abbrev pub words_of : List TokenOf → List (List ℕ)

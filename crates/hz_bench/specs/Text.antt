@@ -1,8 +1,8 @@
 -- The statements of a netlist's text, by their lines.
-use Rattle.std.specs.Prelude.{ℕ, List, [], map, filter, sum_by}
+use Rattle.std.specs.Prelude.{ℕ, List, [], map, filter}
 use Rattle.hz_line.specs.Statement as grammar
 use Rattle.hz_line.specs.Statement.{Meaning, Nothing, Malformed, Means, Numbered}
-use Rattle.hz_bench.specs.Statement.{Statement, Output, statement_of, statement_variable_count, defines_node}
+use Rattle.hz_bench.specs.Statement.{Statement, Output, statement_of, defines_node}
 
 -- what a line is
 abbrev pub bench_meaning : List ℕ → Meaning Statement
@@ -18,26 +18,17 @@ statement_meant Nothing = Output []
 statement_meant Malformed = Output []
 statement_meant (Means statement) = statement
 
+-- the statements without their lines
+abbrev pub plain : List (Numbered Statement) → List Statement
+plain statements = map (λ numbered. numbered.statement) statements
+
 -- the statements of a text, with their lines
 abbrev pub bench_statements : List ℕ → List (Numbered Statement)
 bench_statements text = grammar.numbered_statements statement_of text
 
 -- the statements of a text
 abbrev pub statements_of : List ℕ → List Statement
-statements_of text = map (λ numbered. numbered.statement) (bench_statements text)
-
--- the statements without their lines
-abbrev pub plain : List (Numbered Statement) → List Statement
-plain statements = map (λ numbered. numbered.statement) statements
-
--- inputs, gates and pins of the statements in all
-abbrev pub variable_total : List Statement → ℕ
-variable_total statements = sum_by statement_variable_count statements
-
--- the variables of numbered statements
-abbrev pub variable_total_among : List (Numbered Statement) → ℕ
-variable_total_among statements =
-    sum_by (λ numbered. statement_variable_count numbered.statement) statements
+statements_of text = plain (bench_statements text)
 
 -- the inputs and gates among statements
 abbrev pub nodes_among : List (Numbered Statement) → List (Numbered Statement)

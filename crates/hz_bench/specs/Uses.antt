@@ -5,7 +5,8 @@ use Rattle.std.specs.Str.{bytes_eq}
 use Rattle.hz_bench.specs.declared.entry.Entry.{Entry}
 use Rattle.hz_core.specs.Limits.{most_variables}
 use Rattle.hz_netlist.specs.Build.{Apart, AreKnown}
-use Rattle.hz_netlist.specs.Circuit.{number_in}
+use Rattle.hz_netlist.specs.Circuit.{node_names, number_in}
+use Rattle.hz_netlist.specs.Element.{cut_names, input_names}
 use Rattle.hz_netlist.specs.Names.{first_undefined, names_at, node_of, place_in}
 use Rattle.hz_bench.specs.declared.forms.Form.{Form}
 use Rattle.hz_bench.specs.declared.forms.Form.TheVariants as form
@@ -14,7 +15,7 @@ use Rattle.hz_bench.specs.declared.uses.Uses.{Uses}
 use Rattle.hz_bench.specs.Definition.{defined_names}
 use Rattle.hz_bench.specs.Entry.{statement_list}
 use Rattle.hz_bench.specs.Names.{places, read_names, told}
-use Rattle.hz_bench.specs.Netlist.{cut_names, input_names, node_names}
+use Rattle.hz_bench.specs.Netlist.{elements_of}
 use Rattle.hz_bench.specs.Statement.{Statement, sources_of}
 
 -- the nodes that the pins of statements read, gate by gate, where the nodes have these names
@@ -29,8 +30,8 @@ output_words statements = names_at statements.names statements.outputs.items
 
 -- the uses are those of these nodes and outputs: the node with each name that a pin reads, and with each output's name
 pub record AreUses (nodes : List Statement) (outputs : List (List ℕ)) (uses : Uses) : Type 0 where
-  pub pins_are : uses.pins.items ≡ pins_in (node_names nodes) nodes
-  pub outputs_are : uses.outputs.items ≡ map (number_in (node_names nodes)) outputs
+  pub pins_are : uses.pins.items ≡ pins_in (node_names (elements_of nodes)) nodes
+  pub outputs_are : uses.outputs.items ≡ map (number_in (node_names (elements_of nodes))) outputs
 
 -- the uses are those of the statements that were read
 abbrev pub AreUsesOf : Statements → Uses → Type 0
@@ -64,9 +65,10 @@ with_nodes table (name ∷ rest) (number ∷ numbers) =
 pub record IsResolvable (statements : Statements) : Type 0 where
   pub few : length statements.nodes.items < 2 ^ 31
   pub inputs : statements.notes.inputs
-      ≡ length (input_names (statement_list statements.nodes.items))
-  pub cuts : statements.notes.cuts ≡ length (cut_names (statement_list statements.nodes.items))
-  pub once : Apart [] (node_names (statement_list statements.nodes.items))
+      ≡ length (input_names (elements_of (statement_list statements.nodes.items)))
+  pub cuts : statements.notes.cuts
+      ≡ length (cut_names (elements_of (statement_list statements.nodes.items)))
+  pub once : Apart [] (node_names (elements_of (statement_list statements.nodes.items)))
   pub defined : told statements.defined.items
       ≡ places statements.names (defined_names (statement_list statements.nodes.items))
   pub sources : told statements.sources.items
@@ -89,4 +91,5 @@ pub record AreNodesOf (statements : Statements) (table : List ℕ) : Type 0 wher
   pub node : (name : List ℕ) (number : ℕ) →
       list_any (bytes_eq name) (defined_names (statement_list statements.nodes.items)) ≡ true →
       place_in statements.names name ≡ Some number
-      → node_of table number ≡ number_in (node_names (statement_list statements.nodes.items)) name
+      → node_of table number
+      ≡ number_in (node_names (elements_of (statement_list statements.nodes.items))) name

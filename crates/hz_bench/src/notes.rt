@@ -3,7 +3,8 @@
 ghost use Rattle.std.specs.Prelude.{◌≡◌, ◌+◌, ◌<◌, ◌≤◌, ◌^◌, None, Some};
 ghost use Rattle.hz_bench.specs.Entry.{statement_of_entry, numbered_of, numbered_output};
 ghost use Rattle.hz_bench.specs.FaultNotes.{notes_with, no_notes, first_of, wrong_or};
-ghost use Rattle.hz_bench.specs.Statement.{statement_variable_count};
+ghost use Rattle.hz_bench.specs.Netlist.{element_of};
+ghost use Rattle.hz_netlist.specs.Element.{element_variables};
 
 use crate::entry::{Entry, OutputLine};
 use crate::forms::Form;
@@ -55,8 +56,8 @@ impl Notes {
     // Notes one input, flip-flop or gate more.
     pub(crate) fn add(&mut self, entry: &Entry)
         requires inputs { self.old.inputs + self.old.cuts ≤ self.old.variables }
-        requires variables { self.old.variables + statement_variable_count
-            (statement_of_entry entry.now) < 2 ^ 32 }
+        requires variables { self.old.variables
+            + element_variables (element_of (statement_of_entry entry.now)) < 2 ^ 32 }
         ensures { self.new ≡ notes_with self.old (numbered_of entry.now) }
     {
         let form = entry.form;

@@ -20,7 +20,9 @@ ghost use Rattle.hz_bench.specs.Head.{AreKept, HasWords};
 ghost use Rattle.hz_bench.specs.Names.{places, told, with_uses};
 ghost use Rattle.hz_bench.specs.Pass.{IsParsed, IsParseFault};
 ghost use Rattle.hz_bench.specs.ReaderState.{AddsStatement, IsNothingRead, KeepsNode, redefinition_with};
-ghost use Rattle.hz_bench.specs.Statement.{are_punctuated, statement_variable_count, words_in};
+ghost use Rattle.hz_bench.specs.Statement.{are_punctuated, words_in};
+ghost use Rattle.hz_netlist.specs.Element.{element_variables};
+ghost use Rattle.hz_bench.specs.Netlist.{element_of};
 
 use crate::entry::{Entry, Line, OutputLine};
 use crate::fault::BenchFault;
@@ -106,8 +108,8 @@ impl<'a> Statements<'a> {
     fn add(&mut self, line: Line<'a>, words: &[&'a [u8]]) -> Result<(), Memory>
         requires words { HasWords line words.now }
         requires inputs { self.old.notes.inputs + self.old.notes.cuts ≤ self.old.notes.variables }
-        requires variables { self.old.notes.variables + statement_variable_count
-            (numbered_line line).statement < 2 ^ 32 }
+        requires variables { self.old.notes.variables
+            + element_variables (element_of (numbered_line line).statement) < 2 ^ 32 }
         ensures { OnOk result (AddsStatement self.old (numbered_line line.entry) self.new) }
     {
         match line {
@@ -120,8 +122,8 @@ impl<'a> Statements<'a> {
     fn add_node(&mut self, entry: Entry<'a>, words: &[&'a [u8]]) -> Result<(), Memory>
         requires words { AreKept words.now entry.pins entry.sources.now }
         requires inputs { self.old.notes.inputs + self.old.notes.cuts ≤ self.old.notes.variables }
-        requires variables { self.old.notes.variables + statement_variable_count
-            (statement_of_entry entry) < 2 ^ 32 }
+        requires variables { self.old.notes.variables
+            + element_variables (element_of (statement_of_entry entry)) < 2 ^ 32 }
         ensures { OnOk result (AddsStatement self.old (numbered_of entry.entry) self.new) }
     {
         self.notes.add(&entry);

@@ -12,5 +12,5 @@ pub mod SequenceSteps
 pub mod OneChangeScripts
 -- The text of changes, of which the first that leaves a variable unsettled is the last that is made
 pub mod SplitLines
--- The runs of a change that end in stable states are accepted by a replay
+-- The runs of a change that end in stable states are accepted by a replay; and when a change may be split
 pub mod SplitRuns

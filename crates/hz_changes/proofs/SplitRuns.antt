@@ -1,5 +1,5 @@
--- The runs of a change that end in stable states are accepted by a replay.
-use Rattle.std.proofs.Common.{◌≡◌, ℕ, ◌<◌, Bool, List, [], ◌∷◌, length, map, take, All, subst, arith}
+-- The runs of a change that end in stable states are accepted by a replay; and when a change may be split.
+use Rattle.std.proofs.Common.{◌≡◌, ℕ, ◌<◌, Bool, List, [], ◌∷◌, length, map, take, All, sym, subst, arith, true}
 use Rattle.std.proofs.lemmas.List.{length-take-le}
 use Rattle.std.proofs.lemmas.List.Elements.{All-nil, All-cons, All-head, All-tail}
 use Rattle.hz_core.specs.Netlist.{Netlist, IsCircuit}
@@ -7,12 +7,17 @@ use Rattle.hz_net.specs.Network.{Driver, network_of}
 use Rattle.hz_net.specs.Starts.{IsStableStart}
 use Rattle.hz_net.proofs.Places.{length-network_of}
 use Rattle.hz_desk.specs.declared.finding.Row.{Row}
-use Rattle.hz_desk.specs.Finding.{FindingOf}
+use Rattle.hz_desk.specs.Finding.{FindingOf, finding_of}
+use Rattle.hz_desk.specs.RightFinding.{IsRightFinding}
+use Rattle.hz_seq.specs.Sequence.{IsFindingOfChange, changed_input}
 use Rattle.hz_split.specs.Splits.{IsSettledRun, AreSettledRuns}
 use Rattle.hz_split.proofs.OutcomeRuns.{stable-cycle}
 use Rattle.hz_text.specs.RunReadBack.{PrintedRunsAreRead}
 use Rattle.hz_replay.specs.Replaying.{IsAcceptedRun, start_of}
-use Rattle.hz_changes.specs.Splits.{closed, found_in, runs_of_split, IsSplitOf}
+use Rattle.hz_changes.specs.declared.splitting.Unsettled.{Unsettled}
+use Rattle.hz_changes.specs.Splits.{closed, found_in, is_unsettled, runs_of_split, IsSplitOf}
+use Rattle.hz_changes.specs.Unsettled.{CanBeSplit}
+use Rattle.hz_changes.proofs.Writable.{fits}
 use Rattle.hz_replay.proofs.ReadBack.{accepted-replays, stable-expansion_of}
 use Rattle.hz_replay.proofs.ReadBack.{run-inside}
 
@@ -44,4 +49,24 @@ is-split read netlist finding circuit begins given runs =
     record {
       runs = runs;
       replay = λ steps flips. accepted-replays read netlist value circuit nodes given steps flips accepted;
+    }
+
+-- a change whose finding is right, and which leaves a variable unsettled
+pub can-be-split : (change : Unsettled) (was : Netlist) (cap : ℕ) (start : List Bool) (flips : List (ℕ × Bool)) → was ≡ change.net.now → IsCircuit change.net.now → IsStableStart change.net.now start
+    → IsFindingOfChange was cap start flips (finding_of change.finding.now) → is_unsettled (finding_of change.finding.now) ≡ true → CanBeSplit change
+can-be-split change was cap start flips same circuit stable found unsettled =
+    let netlist = change.net.now in
+    let net = network_of netlist in
+    let finding = finding_of change.finding.now in
+    let right : IsFindingOfChange netlist cap start flips finding = subst (λ (n : Netlist). IsFindingOfChange n cap start flips finding) same found in
+    record {
+      circuit = circuit;
+      start = subst (IsStableStart netlist) (sym right.starts) stable;
+      input = (fits netlist was cap start flips finding same circuit stable found).input;
+      right = (
+        cap,
+        subst (λ (input : List Bool). IsRightFinding net input (map (λ (row : Row). row.start) finding.rows) cap finding) (sym right.input_is)
+            (subst (λ (from : List Bool). IsRightFinding net (changed_input (take netlist.inputs start) flips) from cap finding) (sym right.starts) right),
+      );
+      unsettled = unsettled;
     }

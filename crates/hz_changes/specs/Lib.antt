@@ -7,4 +7,5 @@
 
 pub mod Reports
 pub mod Splits
+pub mod Unsettled
 pub mod Demos

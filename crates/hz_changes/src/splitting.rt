@@ -1,9 +1,9 @@
 //! The job `split`: the first change of a script that leaves a variable unsettled, and two runs of it that end in different stable
 //! states.
-ghost use Rattle.std.specs.Prelude.{◌≡◌, ℕ, [], None, true, map, All};
+ghost use Rattle.std.specs.Prelude.{◌≡◌, [], None, map, All};
 ghost use Rattle.std.specs.List.{flat_map};
 ghost use Rattle.hz_core.specs.Netlist.{IsCircuit};
-ghost use Rattle.hz_net.specs.Network.{network_of, AreByVariable, IsInput, IsVariable};
+ghost use Rattle.hz_net.specs.Network.{IsVariable};
 ghost use Rattle.hz_net.specs.Starts.{IsStableStart};
 ghost use Rattle.hz_options.specs.Numbers.{IsCap};
 ghost use Rattle.hz_text.specs.RunPrinted.{run_text};
@@ -11,10 +11,10 @@ ghost use Rattle.hz_text.specs.ScriptText.{IsScriptFor};
 ghost use Rattle.hz_write.specs.Writer.{Writes, NoneWaits};
 ghost use Rattle.hz_write.specs.Writes.{Wrote};
 ghost use Rattle.hz_desk.specs.Finding.{finding_of};
-ghost use Rattle.hz_desk.specs.RightFinding.{IsRightFinding};
 ghost use Rattle.hz_split.specs.Attempts.{outcome_of};
 ghost use Rattle.hz_refusal.specs.Ends.{Ends};
 ghost use Rattle.hz_changes.specs.Splits.{SplitsChanges, SplitsChange, is_unsettled, outcome_word, change_line, split_text, closed};
+ghost use Rattle.hz_changes.specs.Unsettled.{CanBeSplit};
 
 use hz_desk::{Desk, Finding};
 use hz_gmw::Run;
@@ -54,6 +54,14 @@ impl OnScript for Splits {
             Err(fault) => refuse_start(out, net.circuit(), fault),
         }
     }
+}
+
+/// A change of a network that leaves a variable unsettled: its number, and what was found of it.
+#[derive(Clone, Copy)]
+pub(crate) struct Unsettled<'a> {
+    pub(crate) net: &'a Net,
+    pub(crate) number: u32,
+    pub(crate) finding: &'a Finding,
 }
 
 // Makes the changes of a script from a start, up to the first one that leaves a variable unsettled.
@@ -104,7 +112,12 @@ fn split_changes<K: Sink>(
         match sequence.next(script.change(number), cap) {
             Ok(finding) => {
                 if is_unsettled(finding) {
-                    return split_change(alloc, net, number as u32 + 1, finding, out);
+                    let unsettled = Unsettled {
+                        net,
+                        number: number as u32 + 1,
+                        finding,
+                    };
+                    return split_change(alloc, &unsettled, out);
                 }
             }
             // No change before it left a variable unsettled.
@@ -126,64 +139,50 @@ fn is_unsettled(finding: &Finding) -> bool
 }
 
 // Looks for two runs of a change, and writes what is found.
-fn split_change<K: Sink>(
-    alloc: Global,
-    net: &Net,
-    number: u32,
-    finding: &Finding,
-    out: &mut K,
-) -> Status
-    requires circuit { IsCircuit net.now }
-    requires start { IsStableStart net.now (map (λ row. row.start) finding.now.rows) }
-    requires input { IsInput net.now finding.now.input }
-    requires right { (cap : ℕ)
-        × IsRightFinding (network_of net.now) finding.now.input
-        (map (λ row. row.start) finding.now.rows) cap (finding_of finding.now) }
-    requires unsettled { is_unsettled (finding_of finding.now) ≡ true }
-    ensures { Ends K.output K.faults (SplitsChange net.now number (finding_of finding.now)) out.old
-        out.new result }
+fn split_change<K: Sink>(alloc: Global, change: &Unsettled<'_>, out: &mut K) -> Status
+    requires { CanBeSplit change.now }
+    ensures { Ends K.output K.faults
+        (SplitsChange change.now.net.now change.now.number (finding_of change.now.finding.now))
+        out.old out.new result }
 {
     // The law says that what is printed is read as these runs.
     printed_runs_are_read();
-    let Ok(mut split) = Split::new(alloc, net) else {
+    let Ok(mut split) = Split::new(alloc, change.net) else {
         return Status::Memory;
     };
-    let outcome = split.search(finding.rows.starts(), finding);
+    let outcome = split.search(change.finding.rows.starts(), change.finding);
     let no_step = Run::new(alloc);
-    let written = write_split(net, number, finding, outcome, &split, &no_step, out);
+    let written = write_split(change, outcome, &split, &no_step, out);
     status_after(written, Status::Done)
 }
 
 // Writes what a search came to, and the run text of the runs that it found. Each ends with a cycle without a step.
 fn write_split<K: Sink>(
-    net: &Net,
-    number: u32,
-    finding: &Finding,
+    change: &Unsettled<'_>,
     outcome: Outcome,
     split: &Split<'_>,
     no_step: &Run,
     out: &mut K,
 ) -> Result<(), PutFault>
-    requires circuit { IsCircuit net.now }
-    requires rows { AreByVariable net.now finding.now.rows }
-    requires input { IsInput net.now finding.now.input }
+    requires change { CanBeSplit change.now }
     requires outcome { outcome ≡ outcome_of split.now.found }
-    requires found { All (All (All (IsVariable net.now))) split.now.found }
+    requires found { All (All (All (IsVariable change.now.net.now))) split.now.found }
     requires no_step { no_step.now.steps ≡ [] }
     ensures { Wrote K.output K.faults
-        (split_text net.now number (finding_of finding.now) split.now.found) out.old
-        out.new result }
+        (split_text change.now.net.now change.now.number (finding_of change.now.finding.now)
+        split.now.found)
+        out.old out.new result }
 {
     let mut writer = Writer::new(out);
-    let nodes = net.circuit().nodes() as usize;
-    write_outcome(&mut writer, number, outcome);
+    let nodes = change.net.circuit().nodes() as usize;
+    write_outcome(&mut writer, change.number, outcome);
     write_states(
         &mut writer,
-        net.circuit(),
-        &finding.rows.starts()[..nodes],
-        finding.input.as_slice(),
+        change.net.circuit(),
+        &change.finding.rows.starts()[..nodes],
+        change.finding.input.as_slice(),
     );
-    write_found(&mut writer, net, split, no_step);
+    write_found(&mut writer, change.net, split, no_step);
     write_end(&mut writer);
     writer.finish()
 }

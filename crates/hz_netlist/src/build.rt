@@ -3,7 +3,7 @@
 ghost use Rattle.std.specs.Prelude.{◌≡◌, ◌<◌, ℕ, All, IfOk, OnErr, OnOk, fold, length, map, take, true};
 ghost use Rattle.std.specs.List.{slice_set};
 ghost use Rattle.hz_core.specs.Netlist.{data_of, with_output};
-ghost use Rattle.hz_netlist.specs.Build.{with_data_output, with_data_outputs, with_pin_from, AreAdmissibleSteps, AreMarked, HasNode, MayAddPinFrom};
+ghost use Rattle.hz_netlist.specs.Build.{KeepsAllButOutputs, with_data_output, with_data_outputs, with_pin_from, AreAdmissibleSteps, AreMarked, HasNode, MayAddPinFrom};
 ghost use Rattle.hz_netlist.specs.Names.{node_of};
 
 use hz_core::{Circuit, Memory};
@@ -38,7 +38,8 @@ pub fn resolve(alloc: Global, names: &[u32], nodes: &[u32]) -> Result<Vec<u32>, 
 /// Makes these nodes outputs. One that is an output already costs no look-up.
 pub fn add_outputs(alloc: Global, circuit: &mut Circuit, outputs: &[u32]) -> Result<(), Memory>
     requires { AreAdmissibleSteps HasNode with_output circuit.old outputs.now }
-    ensures { OnOk result (circuit.new ≡ fold with_output circuit.old outputs.now) }
+    ensures ok { OnOk result (circuit.new ≡ fold with_output circuit.old outputs.now) }
+    ensures err { OnErr result (KeepsAllButOutputs circuit.old circuit.new) }
 {
     let mut marks = vec![in alloc; false; circuit.nodes() as usize]?;
     mark_outputs(circuit, &mut marks, outputs)
@@ -52,8 +53,9 @@ pub fn add_outputs_and_data(
     outputs: &[u32],
 ) -> Result<(), Memory>
     requires { AreAdmissibleSteps HasNode with_output circuit.old outputs.now }
-    ensures { OnOk result (circuit.new
+    ensures ok { OnOk result (circuit.new
         ≡ with_data_outputs (fold with_output circuit.old outputs.now)) }
+    ensures err { OnErr result (KeepsAllButOutputs circuit.old circuit.new) }
 {
     let mut marks = vec![in alloc; false; circuit.nodes() as usize]?;
     mark_outputs(circuit, &mut marks, outputs)?;
@@ -65,6 +67,7 @@ fn mark_outputs(circuit: &mut Circuit, marks: &mut Vec<bool>, outputs: &[u32]) -
     requires may { AreAdmissibleSteps HasNode with_output circuit.old outputs.now }
     requires marks { AreMarked circuit.old marks.old.items }
     ensures added { OnOk result (circuit.new ≡ fold with_output circuit.old outputs.now) }
+    ensures kept { KeepsAllButOutputs circuit.old circuit.new }
     ensures marks { OnOk result (AreMarked circuit.new marks.new.items) }
 {
     for node in outputs {
@@ -76,7 +79,8 @@ fn mark_outputs(circuit: &mut Circuit, marks: &mut Vec<bool>, outputs: &[u32]) -
 // Makes the data nodes of the cuts outputs.
 fn mark_data(circuit: &mut Circuit, marks: &mut Vec<bool>) -> Result<(), Memory>
     requires { AreMarked circuit.old marks.old.items }
-    ensures { OnOk result (circuit.new ≡ with_data_outputs circuit.old) }
+    ensures added { OnOk result (circuit.new ≡ with_data_outputs circuit.old) }
+    ensures kept { KeepsAllButOutputs circuit.old circuit.new }
 {
     for cut in circuit.primary_inputs()..circuit.inputs() {
         mark_data_node(circuit, marks, cut)?;
@@ -90,6 +94,7 @@ fn mark_data_node(circuit: &mut Circuit, marks: &mut Vec<bool>, cut: u32) -> Res
     requires marks { AreMarked circuit.old marks.old.items }
     ensures added { OnOk result (circuit.new
         ≡ with_data_output circuit.old (data_of circuit.old cut)) }
+    ensures kept { KeepsAllButOutputs circuit.old circuit.new }
     ensures marks { OnOk result (AreMarked circuit.new marks.new.items) }
 {
     match circuit.data_of(cut) {
@@ -103,6 +108,7 @@ fn mark_output(circuit: &mut Circuit, marks: &mut Vec<bool>, node: u32) -> Resul
     requires node { HasNode circuit.old node }
     requires marks { AreMarked circuit.old marks.old.items }
     ensures added { OnOk result (circuit.new ≡ with_output circuit.old node) }
+    ensures kept { KeepsAllButOutputs circuit.old circuit.new }
     ensures marks { OnOk result (AreMarked circuit.new marks.new.items) }
     ensures marked { OnOk result (marks.new.items ≡ slice_set marks.old.items node true) }
 {

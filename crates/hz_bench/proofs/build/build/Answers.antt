@@ -24,5 +24,5 @@ pub returns : goal.returns
 returns c =
     let entries = c.args.statements.now.nodes.items in
     let words = output_words c.args.statements.now in
-    rw (c.in_ok-add_outputs_and_data.ensures, c.as_slice-2.ensures.value, c.in_ok-connect_nodes.ensures, c.in_ok-add_gates.ensures, c.in_ok-add_cuts.ensures, c.in_ok-add_inputs.ensures, c.in_ok-circuit.ensures, c.as_slice-nodes.ensures.value, element_list-statements entries)
+    rw (c.in_ok-add_outputs_and_data.ensures.ok, c.as_slice-2.ensures.value, c.in_ok-connect_nodes.ensures, c.in_ok-add_gates.ensures, c.in_ok-add_cuts.ensures, c.in_ok-add_inputs.ensures, c.in_ok-circuit.ensures, c.as_slice-nodes.ensures.value, element_list-statements entries)
     (outputs-made (statement_list entries) words c.args.uses.now.outputs.items c.requires.uses.outputs_are)

@@ -57,5 +57,5 @@ returns c =
     ∙ ap (map (source_node c.in_ok-nodes.nodes.items (length c.args.draft.now.inputs.items))) c.sources.ensures in
     let named = c.in_ok-outputs.ensures ∙ ap (λ nodes. map (node_of nodes) c.as_slice-3.result.now) c.as_slice-4.ensures.value
     ∙ ap (map (node_of c.in_ok-nodes.nodes.items)) c.as_slice-3.ensures.value in
-    rw (c.in_ok-add_outputs.ensures, c.in_ok-connect_gates.ensures, c.in_ok-add_gates.ensures, c.in_ok-add_inputs.ensures, c.in_ok-circuit.ensures, c.as_slice-inputs.ensures.value, c.as_slice-gates.ensures, c.as_slice-2.ensures.value, c.as_slice-5.ensures.value)
+    rw (c.in_ok-add_outputs.ensures.ok, c.in_ok-connect_gates.ensures, c.in_ok-add_gates.ensures, c.in_ok-add_inputs.ensures, c.in_ok-circuit.ensures, c.as_slice-inputs.ensures.value, c.as_slice-gates.ensures, c.as_slice-2.ensures.value, c.as_slice-5.ensures.value)
     (build-circuit c.args.draft.now c.requires c.in_ok-nodes.nodes.items c.in_ok-pins.pins.items c.in_ok-nodes.ensures.nodes c.in_ok-nodes.ensures.plain read c.in_ok-outputs.outputs.items named)

@@ -13,7 +13,7 @@ use Rattle.hz_refusal.specs.declared.status.Status.TheVariants as status
 use Rattle.hz_changes.specs.Splits.{is_unsettled, SplitsChange, SplitsChanges}
 use Rattle.hz_refusal.proofs.PutEndings.{Ends-put, Ends-more}
 use Rattle.hz_changes.proofs.SequenceSteps.{goes-on}
-use Rattle.hz_changes.proofs.Writable.{fits}
+use Rattle.hz_changes.proofs.SplitRuns.{can-be-split}
 use Rattle.hz_changes.proofs.SplitLines.{AreQuiet, ends-unsettled, ends-settled, quiet-more, goes-on-settled}
 use Rattle.hz_changes.proofs.splitting.split_changes.Goals as goal
 
@@ -29,11 +29,12 @@ next-requires-clause-inputs g c =
     get_or_from_slice_get c.args.script.now.changes c.loop-number.number c.change.result.now [] c.change.ensures.change in
     rw so_far.1.same (subst (IsChange c.args.net.now.inputs) is (c.requires.script.changes c.loop-number.number [] few)).below
 
-pub split_change-requires-clause-input : goal.split_change-requires-clause-input
-split_change-requires-clause-input g c =
+pub split_change-requires : goal.split_change-requires
+split_change-requires g c =
     let so_far = c.loop-number.invariant in
     let was = c.loop-number.sequence in
-    (fits c.args.net.now was.desk.netlist c.args.cap was.start c.change.result.now (finding_of c.in-Ok.finding.now) so_far.1.same c.requires.circuit (so_far.1.stable so_far.4) c.in-Ok.ensures.finding.1).input
+    can-be-split _ was.desk.netlist c.args.cap was.start c.change.result.now so_far.1.same c.requires.circuit (so_far.1.stable so_far.4) c.in-Ok.ensures.finding.1
+    (sym c.is_unsettled.ensures ∙ c.if-is_unsettled.true)
 
 pub loop-number-preserved : goal.loop-number-preserved
 loop-number-preserved g c =

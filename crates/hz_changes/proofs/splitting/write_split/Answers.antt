@@ -1,9 +1,9 @@
 -- All that the writer was given.
 use Rattle.std.proofs.Common.{◌≡◌, ◌∙◌, Bool, length, refl, sym, ap, rules, arith}
-use Rattle.std.proofs.lemmas.List.{length-take-le, length-map}
+use Rattle.std.proofs.lemmas.List.{length-take-le}
 use Rattle.hz_core.specs.Netlist.{Netlist}
+use Rattle.hz_net.specs.Network.{network_of}
 use Rattle.hz_net.proofs.Places.{length-network_of}
-use Rattle.hz_desk.specs.declared.finding.Row.{Row}
 use Rattle.hz_desk.specs.Finding.{finding_of}
 use Rattle.hz_write.proofs.Writers.{writes_then, wrote_whole}
 use Rattle.hz_changes.proofs.SplitLines.{split-lines}
@@ -11,16 +11,16 @@ use Rattle.hz_changes.proofs.splitting.write_split.Goals as goal
 
 pub slice_bounds-write_states-end : goal.slice_bounds-write_states-end
 slice_bounds-write_states-end g c =
-    let nodes : c.nodes-nodes.result ≡ length c.args.net.now.names = c.nodes-nodes.ensures.nodes ∙ ap (λ (n : Netlist). length n.names) c.circuit.ensures.same in
-    let long : length c.starts.result.now ≡ length c.args.finding.now.rows = ap (length {A = Bool}) c.starts.ensures ∙ length-map c.args.finding.now.rows (λ (row : Row). row.start) in
-    sym (length-take-le c.nodes-nodes.result c.starts.result.now (omega (arith, nodes, long, c.requires.rows, length-network_of c.args.net.now c.requires.circuit)))
+    let nodes : c.nodes-nodes.result ≡ length c.args.change.now.net.now.names = c.nodes-nodes.ensures.nodes ∙ ap (λ (n : Netlist). length n.names) c.circuit.ensures.same in
+    let long : length c.starts.result.now ≡ length (network_of c.args.change.now.net.now) = ap (length {A = Bool}) c.starts.ensures ∙ c.requires.change.start.long in
+    sym (length-take-le c.nodes-nodes.result c.starts.result.now (omega (arith, nodes, long, length-network_of c.args.change.now.net.now c.requires.change.circuit)))
 
 pub returns : goal.returns
 returns g c =
-    let nodes : c.nodes-nodes.result ≡ length c.args.net.now.names = c.nodes-nodes.ensures.nodes ∙ ap (λ (n : Netlist). length n.names) c.circuit.ensures.same in
+    let nodes : c.nodes-nodes.result ≡ length c.args.change.now.net.now.names = c.nodes-nodes.ensures.nodes ∙ ap (λ (n : Netlist). length n.names) c.circuit.ensures.same in
     let outcome = rw c.requires.outcome at c.write_outcome.ensures.gave in
     let states = rw (c.circuit-2.ensures.same, c.starts.ensures, c.as_slice.ensures, nodes) at c.write_states.ensures.gave in
     let text = writes_then (writes_then states c.write_found.ensures.gave refl) c.write_end.ensures.gave refl in
-    let lines = writes_then outcome text (split-lines c.args.net.now c.args.number (finding_of c.args.finding.now) c.args.split.now.found) in
+    let lines = writes_then outcome text (split-lines c.args.change.now.net.now c.args.change.now.number (finding_of c.args.change.now.finding.now) c.args.split.now.found) in
     let wrote = wrote_whole _ _ _ _ _ _ _ _ c.new-writer.ensures.begins lines c.finish.ensures in
     search rules
