@@ -58,5 +58,6 @@ pub stops-nothing : {S : Type 0} (output : S → Output) (faults : S → ℕ) (t
 stops-nothing output faults text out = record {
   front = TookPrefix-nothing (output out) text;
   cause = λ e. absurd (cc);
+  quiet = λ other. refl;
   never_fell = omega arith;
 }

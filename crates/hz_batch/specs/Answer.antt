@@ -12,7 +12,8 @@ abbrev pub put_fault : BatchFault → PutFault
 put_fault Sink = put.Failed
 put_fault Memory = put.Memory
 
--- The text was written. Otherwise a prefix of it was: the sink failed, which its count shows, or memory ran out.
+-- The text was written. Otherwise a prefix of it was: the sink failed, which its count shows, or memory ran out, and then the count is
+-- as it was.
 abbrev pub WroteBatch : {S : Type 0} → (S → Output) → (S → ℕ) → List ℕ → S → S →
     Result (Unit {0}) BatchFault → Type 0
 WroteBatch output faults text was now result =

@@ -1,5 +1,5 @@
 //! A buffer in front of a sink.
-ghost use Rattle.std.specs.Prelude.{◌≡◌, ◌+◌, ◌-◌, ◌<◌, ◌≤◌, [], ◌++◌, length, OnOk, OnErr};
+ghost use Rattle.std.specs.Prelude.{◌≡◌, ◌≢◌, ◌+◌, ◌-◌, ◌<◌, ◌≤◌, [], ◌++◌, length, OnOk, OnErr};
 ghost use Rattle.hz_outside.specs.Counts.{Rose};
 ghost use Rattle.hz_outside.specs.WrittenText.{Took, TookPrefix, with_more};
 
@@ -65,6 +65,8 @@ impl<K: Sink + Drop> Gathered<K> {
             (TookPrefix (K.output self.old.out) self.old.gathered (K.output self.new.out)) }
         ensures failed { result ≡ Err PutFault.Failed →
             Rose (K.faults self.old.out) (K.faults self.new.out) }
+        ensures quiet { result ≢ Err PutFault.Failed →
+            K.faults self.new.out ≡ K.faults self.old.out }
         ensures never_falls { K.faults self.old.out ≤ K.faults self.new.out }
     {
         let held = self.held;
@@ -91,6 +93,8 @@ impl<K: Sink + Drop> Gathered<K> {
             (with_more (K.output self.new.out) self.new.gathered)) }
         ensures failed { result ≡ Err PutFault.Failed →
             Rose (K.faults self.old.out) (K.faults self.new.out) }
+        ensures quiet { result ≢ Err PutFault.Failed →
+            K.faults self.new.out ≡ K.faults self.old.out }
         ensures never_falls { K.faults self.old.out ≤ K.faults self.new.out }
     {
         self.pass_on()?;

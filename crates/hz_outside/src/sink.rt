@@ -1,5 +1,5 @@
 //! Where output goes.
-ghost use Rattle.std.specs.Prelude.{◌≡◌, ℕ, ◌<◌, ◌≤◌, List, [], length, OnOk, OnErr};
+ghost use Rattle.std.specs.Prelude.{◌≡◌, ◌≢◌, ℕ, ◌<◌, ◌≤◌, List, [], length, OnOk, OnErr};
 ghost use Rattle.hz_outside.specs.Counts.{Rose};
 ghost use Rattle.hz_outside.specs.WrittenText.{Output, Took, TookPrefix};
 
@@ -7,8 +7,9 @@ use super::fault::PutFault;
 
 /// A writer of pieces. A piece that was put may wait in the sink, until `flush` or a later put writes it.
 ///
-/// `output` is what was written so far, if the sink shows it, and what waits. `faults` counts the calls that failed. After a
-/// call that failed, what is written and what waits are a prefix of all that was put; the rest is lost.
+/// `output` is what was written so far, if the sink shows it, and what waits. `faults` counts the calls that answered
+/// `Failed`, and no others. After a call that failed, what is written and what waits are a prefix of all that was put;
+/// the rest is lost.
 pub trait Sink {
     ghost output: { Self → Output };
 
@@ -20,6 +21,7 @@ pub trait Sink {
         ensures whole { OnOk result (Took (output self.old) piece.now (output self.new)) }
         ensures front { OnErr result (TookPrefix (output self.old) piece.now (output self.new)) }
         ensures failed { result ≡ Err PutFault.Failed → Rose (faults self.old) (faults self.new) }
+        ensures quiet { result ≢ Err PutFault.Failed → faults self.new ≡ faults self.old }
         ensures never_falls { faults self.old ≤ faults self.new };
 
     /// Writes all that waits.
@@ -28,5 +30,6 @@ pub trait Sink {
         ensures none_waits { OnOk result ((output self.new).waiting ≡ []) }
         ensures front { OnErr result (TookPrefix (output self.old) [] (output self.new)) }
         ensures failed { result ≡ Err PutFault.Failed → Rose (faults self.old) (faults self.new) }
+        ensures quiet { result ≢ Err PutFault.Failed → faults self.new ≡ faults self.old }
         ensures never_falls { faults self.old ≤ faults self.new };
 }

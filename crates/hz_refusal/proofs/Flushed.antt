@@ -1,5 +1,5 @@
 -- What a call wrote, once all that waited is flushed.
-use Rattle.std.proofs.Common.{◌≡◌, ◌∙◌, sym, ap, ◌≤◌, ℕ, inl, inr, List, [], ◌∷◌, ◌++◌, Option, Result, Ok, Err, OnOk, OnErr, refl, subst, rules, append_assoc}
+use Rattle.std.proofs.Common.{◌≡◌, ◌≢◌, ◌∙◌, sym, ap, ◌≤◌, ℕ, inl, inr, List, [], ◌∷◌, ◌++◌, Option, Result, Ok, Err, OnOk, OnErr, refl, subst, rules, append_assoc}
 use Rattle.std.proofs.lemmas.List.{append-nil}
 use Rattle.hz_outside.specs.Counts.{Rose}
 use Rattle.hz_outside.specs.WrittenText.{Output, Took, TookPrefix, GrewByPrefix, extended_text}
@@ -8,9 +8,9 @@ use Rattle.hz_outside.specs.declared.fault.PutFault.TheVariants as fault
 use Rattle.hz_outside.proofs.WrittenLemmas.{extended_text-nil, Took-append, extended_text-append, Took-prefix, TookPrefix-append}
 use Rattle.hz_refusal.specs.declared.status.Status.{Status}
 use Rattle.hz_refusal.specs.declared.status.Status.TheVariants as status
-use Rattle.hz_refusal.specs.Answer.{Answers, WroteWhole, WrotePrefix}
+use Rattle.hz_refusal.specs.Answer.{Answers, CountTells, WroteWhole, WrotePrefix}
 use Rattle.hz_refusal.specs.Ends.{written_of, Ends, TookWhole, TookFront}
-use Rattle.hz_refusal.specs.Ending.{status_after}
+use Rattle.hz_refusal.specs.Ending.{status_flushed}
 
 -- a prefix, of which the flush wrote a prefix
 TookPrefix-then : {xs : List ℕ} {a b c : Output} → TookPrefix a xs b → TookPrefix b [] c → TookPrefix a xs c
@@ -56,13 +56,13 @@ module _ {S : Type 0} (output : S → Output) (faults : S → ℕ) (comes : Stat
   -- a whole text, flushed
   whole-flushed : (own : Status) → (output was).waiting ≡ [] → (output now).waiting ≡ [] → TookWhole output faults comes was mid own → Took (output mid) [] (output now)
       → WroteWhole (written_of output) comes was now own
-  whole-flushed own none none_now (text, says, took, fell) flushed =
+  whole-flushed own none none_now (text, says, took, quiet) flushed =
       (text, says, whole-written (output was) (output now) text none none_now (rw (append-nil text) at (Took-append took flushed)))
 
   -- a whole text, of which the flush wrote a prefix
   whole-cut : (own : Status) → (output was).waiting ≡ [] → TookWhole output faults comes was mid own → TookPrefix (output mid) [] (output now)
       → WrotePrefix (written_of output) comes was now
-  whole-cut own none (text, says, took, fell) cut =
+  whole-cut own none (text, says, took, quiet) cut =
       inr (own, text, says, prefix-written (output was) (output now) text none (rw (append-nil text) at (TookPrefix-append took cut)))
 
   -- a prefix, of which the flush wrote a prefix or all
@@ -81,21 +81,24 @@ module _ {S : Type 0} (output : S → Output) (faults : S → ℕ) (comes : Stat
   puts-cut status.File none puts cut = whole-cut status.File none puts cut
   puts-cut status.TooLong none puts cut = whole-cut status.TooLong none puts cut
   puts-cut status.Sink none puts cut = front-cut none puts.1 cut
-  puts-cut status.Memory none puts cut = front-cut none puts cut
+  puts-cut status.Memory none puts cut = front-cut none puts.1 cut
+
+  -- a count that rose in the work rose until the end
+  rose-more : Rose (faults was) (faults mid) → faults mid ≤ faults now → Rose (faults was) (faults now)
+  rose-more rose more = search rules
 
   -- a count that rose since the work rose since the start
   rose-cut : (own : Status) → Ends output faults comes was mid own → Rose (faults mid) (faults now) → faults mid ≤ faults now → Rose (faults was) (faults now)
-  rose-cut status.Done (text, says, took, fell) rose more = search rules
-  rose-cut status.No (text, says, took, fell) rose more = search rules
-  rose-cut status.Words (text, says, took, fell) rose more = search rules
-  rose-cut status.Netlist (text, says, took, fell) rose more = search rules
-  rose-cut status.Text (text, says, took, fell) rose more = search rules
-  rose-cut status.Start (text, says, took, fell) rose more = search rules
-  rose-cut status.File (text, says, took, fell) rose more = search rules
-  rose-cut status.TooLong (text, says, took, fell) rose more = search rules
-  rose-cut status.Sink (cause, front) rose more = search rules
-  rose-cut status.Memory (inl same) rose more = rw same at rose
-  rose-cut status.Memory (inr (own, text, says, took, fell)) rose more = search rules
+  rose-cut status.Done (text, says, took, quiet) rose more = rw quiet at rose
+  rose-cut status.No (text, says, took, quiet) rose more = rw quiet at rose
+  rose-cut status.Words (text, says, took, quiet) rose more = rw quiet at rose
+  rose-cut status.Netlist (text, says, took, quiet) rose more = rw quiet at rose
+  rose-cut status.Text (text, says, took, quiet) rose more = rw quiet at rose
+  rose-cut status.Start (text, says, took, quiet) rose more = rw quiet at rose
+  rose-cut status.File (text, says, took, quiet) rose more = rw quiet at rose
+  rose-cut status.TooLong (text, says, took, quiet) rose more = rw quiet at rose
+  rose-cut status.Sink (cause, front) rose more = rose-more cause more
+  rose-cut status.Memory (quiet, front) rose more = rw quiet at rose
 
   -- what was put by any status, and then flushed
   puts-flushed : (own : Status) → (output was).waiting ≡ [] → (output now).waiting ≡ [] → faults mid ≤ faults now → Ends output faults comes was mid own → Took (output mid) [] (output now)
@@ -108,17 +111,45 @@ module _ {S : Type 0} (output : S → Output) (faults : S → ℕ) (comes : Stat
   puts-flushed status.Start none none_now rose puts flushed = whole-flushed status.Start none none_now puts flushed
   puts-flushed status.File none none_now rose puts flushed = whole-flushed status.File none none_now puts flushed
   puts-flushed status.TooLong none none_now rose puts flushed = whole-flushed status.TooLong none none_now puts flushed
-  puts-flushed status.Sink none none_now rose (cause, front) flushed = (search rules, front-cut none front (Took-prefix flushed))
-  puts-flushed status.Memory none none_now rose front flushed = front-cut none front (Took-prefix flushed)
+  puts-flushed status.Sink none none_now rose (cause, front) flushed = (rose-more cause rose, front-cut none front (Took-prefix flushed))
+  puts-flushed status.Memory none none_now rose puts flushed = front-cut none puts.1 (Took-prefix flushed)
 
   -- the answer of a call whose last flush came to this
   pub Answers-flushed : (own : Status) (flush : Result (Unit {0}) PutFault) (ends : Status) → (output was).waiting ≡ [] → Ends output faults comes was mid own
       → OnOk flush (Took (output mid) [] (output now)) → OnOk flush ((output now).waiting ≡ []) → OnErr flush (TookPrefix (output mid) [] (output now))
-      → (flush ≡ Err fault.Failed → Rose (faults mid) (faults now)) → faults mid ≤ faults now → ends ≡ status_after flush own
+      → (flush ≡ Err fault.Failed → Rose (faults mid) (faults now)) → faults mid ≤ faults now → ends ≡ status_flushed flush own
       → Answers (written_of output) faults comes was now ends
   Answers-flushed own (Ok done) ends none puts whole none_now front failed rose at =
       subst (Answers (written_of output) faults comes was now) (sym at) (puts-flushed own none none_now rose puts whole)
   Answers-flushed own (Err fault.Failed) ends none puts whole none_now front failed rose at =
       subst (Answers (written_of output) faults comes was now) (sym at) (rose-cut own puts (failed refl) rose, puts-cut own none puts front)
+  Answers-flushed status.Sink (Err fault.Memory) ends none puts whole none_now front failed rose at =
+      subst (Answers (written_of output) faults comes was now) (sym at) (rose-more puts.0 rose, puts-cut status.Sink none puts front)
   Answers-flushed own (Err fault.Memory) ends none puts whole none_now front failed rose at =
       subst (Answers (written_of output) faults comes was now) (sym at) (puts-cut own none puts front)
+
+  -- what the count tells of the work
+  work-count : (own : Status) → Ends output faults comes was mid own → CountTells (faults was) (faults mid) own
+  work-count status.Sink (rose, front) = (λ is. rose, λ other. absurd (other refl))
+  work-count status.Memory (quiet, front) = (λ is. absurd (cc), λ other. quiet)
+  work-count status.Done (text, says, took, quiet) = (λ is. absurd (cc), λ other. quiet)
+  work-count status.No (text, says, took, quiet) = (λ is. absurd (cc), λ other. quiet)
+  work-count status.Words (text, says, took, quiet) = (λ is. absurd (cc), λ other. quiet)
+  work-count status.Netlist (text, says, took, quiet) = (λ is. absurd (cc), λ other. quiet)
+  work-count status.Text (text, says, took, quiet) = (λ is. absurd (cc), λ other. quiet)
+  work-count status.Start (text, says, took, quiet) = (λ is. absurd (cc), λ other. quiet)
+  work-count status.File (text, says, took, quiet) = (λ is. absurd (cc), λ other. quiet)
+  work-count status.TooLong (text, says, took, quiet) = (λ is. absurd (cc), λ other. quiet)
+
+  -- what it tells of the call whose last flush came to this
+  pub Count-flushed : (own : Status) (flush : Result (Unit {0}) PutFault) (ends : Status) → Ends output faults comes was mid own
+      → (flush ≡ Err fault.Failed → Rose (faults mid) (faults now)) → (flush ≢ Err fault.Failed → faults now ≡ faults mid)
+      → faults mid ≤ faults now → ends ≡ status_flushed flush own → CountTells (faults was) (faults now) ends
+  Count-flushed own (Ok done) ends puts failed quiet more at =
+      subst (CountTells (faults was) (faults now)) (sym at) (subst (λ (count : ℕ). CountTells (faults was) count own) (sym (quiet (λ e. cc))) (work-count own puts))
+  Count-flushed own (Err fault.Failed) ends puts failed quiet more at =
+      subst (CountTells (faults was) (faults now)) (sym at) (λ is. rose-cut own puts (failed refl) more, λ other. absurd (other refl))
+  Count-flushed status.Sink (Err fault.Memory) ends puts failed quiet more at =
+      subst (CountTells (faults was) (faults now)) (sym at) (λ is. rose-more puts.0 more, λ other. absurd (other refl))
+  Count-flushed own (Err fault.Memory) ends puts failed quiet more at =
+      subst (CountTells (faults was) (faults now)) (sym at) (λ is. absurd (cc), λ other. quiet (λ e. cc) ∙ (work-count own puts).1 (λ e. cc))

@@ -1,5 +1,5 @@
 -- How a call ends: its status, and what of the status's text was written.
-use Rattle.std.specs.Prelude.{◌≡◌, ℕ, ◌⊎◌, List, Option}
+use Rattle.std.specs.Prelude.{◌≡◌, ◌≢◌, ℕ, ◌⊎◌, List, Option}
 use Rattle.hz_outside.specs.Counts.{Rose}
 use Rattle.hz_outside.specs.WrittenText.{extended_text, GrewByPrefix}
 use Rattle.hz_refusal.specs.declared.status.Status.{Status}
@@ -34,6 +34,11 @@ Answers written faults comes was now TooLong = WroteWhole written comes was now 
 Answers written faults comes was now Sink =
     Rose (faults was) (faults now) × WrotePrefix written comes was now
 Answers written faults comes was now Memory = WrotePrefix written comes was now
+
+-- The status is that of an output that failed if and only if the sink's count rose: with this status it rose, and with any
+-- other one it is as it was.
+abbrev pub CountTells : (was now : ℕ) → Status → Type 0
+CountTells was now status = (status ≡ Sink → Rose was now) × (status ≢ Sink → now ≡ was)
 
 -- this status with this text, and nothing else
 abbrev pub Prints : Status → List ℕ → Status → List ℕ → Type 0

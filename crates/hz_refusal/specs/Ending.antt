@@ -11,6 +11,11 @@ status_after (Ok done) own = own
 status_after (Err fault.Failed) own = status.Sink
 status_after (Err fault.Memory) own = status.Memory
 
+-- the status after the last flush: where the output had failed before, that is told also if the flush lacks memory
+abbrev pub status_flushed : Result (Unit {0}) PutFault → Status → Status
+status_flushed (Err fault.Memory) status.Sink = status.Sink
+status_flushed flush own = status_after flush own
+
 -- the exit code of a status
 abbrev pub code_of : Status → ℕ
 code_of status.Done = 0

@@ -3,6 +3,7 @@
 -- code_of status: the exit status
 -- Answers written faults comes was now status: a text that comes with this status was written, or a prefix of one
 -- WroteWhole, WrotePrefix: the two cases
+-- CountTells was now status: the sink's count rose if the output failed, and else it is as it was
 -- NetlistRefused name bytes line, IsNetlistText name bytes netlist: the first text
 -- IsTextOutcome called holds stands_for judge: its least fault, or what a judge says of its value
 -- OfScript judge, OfRuns judge: the same of a script and of a run text

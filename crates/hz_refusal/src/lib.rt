@@ -16,4 +16,4 @@ mod status;
 pub use netlist::{NetlistFault, read_netlist, texts_are_circuits};
 pub use refusal::{put_words, refuse_load, refuse_netlist, refuse_start, refuse_text};
 pub use second::{OnPatterns, OnRuns, OnScript, on_patterns, on_runs, on_script};
-pub use status::{Status, status_after};
+pub use status::{Status, status_after, status_flushed};

@@ -1,6 +1,6 @@
 //! How a call of the program ends.
 ghost use Rattle.std.specs.Prelude.{◌≡◌};
-ghost use Rattle.hz_refusal.specs.Ending.{code_of, status_after};
+ghost use Rattle.hz_refusal.specs.Ending.{code_of, status_after, status_flushed};
 
 use hz_outside::PutFault;
 
@@ -46,5 +46,15 @@ pub fn status_after(put: Result<(), PutFault>, status: Status) -> Status
         Ok(()) => status,
         Err(PutFault::Failed) => Status::Sink,
         Err(PutFault::Memory) => Status::Memory,
+    }
+}
+
+// The status of a call after its last flush. If the output failed before, the flush changes nothing.
+pub fn status_flushed(flush: Result<(), PutFault>, status: Status) -> Status
+    ensures { result ≡ status_flushed flush status }
+{
+    match status {
+        Status::Sink => Status::Sink,
+        _ => status_after(flush, status),
     }
 }

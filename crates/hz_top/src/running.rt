@@ -3,7 +3,7 @@ ghost use Rattle.std.specs.Prelude.{◌≡◌, ◌⊎◌, [], map, Some};
 ghost use Rattle.std.specs.String.{string_bytes};
 ghost use Rattle.hz_outside.specs.Counts.{Rose};
 ghost use Rattle.hz_words.specs.Job.{JobOf, job_of, job_model, HasNumbersInRange};
-ghost use Rattle.hz_refusal.specs.Answer.{Answers};
+ghost use Rattle.hz_refusal.specs.Answer.{Answers, CountTells};
 ghost use Rattle.hz_refusal.specs.Ends.{written_of, Ends};
 ghost use Rattle.hz_top.specs.Faultless.{IsFaultlessJob};
 ghost use Rattle.hz_top.specs.Headline.{Headline};
@@ -13,7 +13,7 @@ ghost use Rattle.hz_top.specs.Outcome.{observation_of, IsJobOutcome, MayLoad};
 use crate::order::{FileWork, work_on_files};
 use hz_changes::demo;
 use hz_outside::{Files, Sink};
-use hz_refusal::{Status, put_words, status_after, texts_are_circuits};
+use hz_refusal::{Status, put_words, status_after, status_flushed, texts_are_circuits};
 use hz_words::{Job, WordsFault};
 use std::alloc::Global;
 
@@ -32,6 +32,7 @@ pub fn run<F: Files, K: Sink>(alloc: Global, words: &[String], files: &mut F, ou
         (IsJobOutcome (observation_of F.held F.faults F.longs files.old files.new)
         (job_of (map string_bytes words.now)))
         out.old out.new result }
+    ensures counted { CountTells (K.faults out.old) (K.faults out.new) result }
     ensures files { LeavesFiles (observation_of F.held F.faults F.longs files.old files.new)
         (job_of (map string_bytes words.now)) }
     ensures done { (job : JobOf) (own : Status) → job_of (map string_bytes words.now) ≡ Some job
@@ -41,7 +42,7 @@ pub fn run<F: Files, K: Sink>(alloc: Global, words: &[String], files: &mut F, ou
 {
     texts_are_circuits();
     let status = answer(alloc, words, files, out);
-    status_after(out.flush(), status)
+    status_flushed(out.flush(), status)
 }
 
 // Reads the words, and does the job that they ask for.

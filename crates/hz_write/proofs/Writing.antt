@@ -1,5 +1,5 @@
 -- What was put of a text, piece by piece, and what waits of it.
-use Rattle.std.proofs.Common.{Result, Ok, Err, OnOk, OnErr, IsErrAnd, ◌≡◌, ◌≤◌, ℕ, List, [], ◌++◌, Option, Some, None, refl, ap, sym, ◌∙◌, arith, append_assoc, rules}
+use Rattle.std.proofs.Common.{◌≢◌, Result, Ok, Err, OnOk, OnErr, IsErrAnd, ◌≡◌, ◌≤◌, ℕ, List, [], ◌++◌, Option, Some, None, refl, ap, sym, ◌∙◌, arith, append_assoc, rules}
 use Rattle.std.proofs.lemmas.List.{append-nil}
 use Rattle.hz_outside.specs.Counts.{Rose}
 use Rattle.hz_outside.specs.WrittenText.{Output, Took, TookPrefix}
@@ -11,19 +11,24 @@ use Rattle.hz_write.specs.Writes.{Puts, Stops, Wrote, IsBuffered, WroteBuffered}
 module _ {S : Type 0} {output : S → Output} {faults : S → ℕ} where
   -- nothing was written
   pub Puts-nil : (out : S) → Puts output faults [] out out
-  Puts-nil out = record { grew = Took-nothing (output out); never_fell = omega arith }
+  Puts-nil out = record { grew = Took-nothing (output out); quiet = refl }
 
   -- a text after a text
   pub Puts-append : {xs ys : List ℕ} {a b c : S} → Puts output faults xs a b → Puts output faults ys b c → Puts output faults (xs ++ ys) a c
-  Puts-append p q = record { grew = Took-append p.grew q.grew; never_fell = omega arith }
+  Puts-append p q = record { grew = Took-append p.grew q.grew; quiet = q.quiet ∙ p.quiet }
 
   -- a stop is one of every longer text
   pub Stops-longer : {fault : PutFault} {xs : List ℕ} {a b : S} (more : List ℕ) → Stops output faults fault xs a b → Stops output faults fault (xs ++ more) a b
-  Stops-longer more s = record { front = TookPrefix-longer more s.front; cause = s.cause; never_fell = s.never_fell }
+  Stops-longer more s = record { front = TookPrefix-longer more s.front; cause = s.cause; quiet = s.quiet; never_fell = s.never_fell }
 
   -- a stop after a text that was written
   pub Stops-append : {fault : PutFault} {xs ys : List ℕ} {a b c : S} → Puts output faults xs a b → Stops output faults fault ys b c → Stops output faults fault (xs ++ ys) a c
-  Stops-append p s = record { front = TookPrefix-append p.grew s.front; cause = λ e. search rules; never_fell = omega arith }
+  Stops-append p s = record {
+    front = TookPrefix-append p.grew s.front;
+    cause = λ e. rw p.quiet at (s.cause e);
+    quiet = λ other. s.quiet other ∙ p.quiet;
+    never_fell = rw p.quiet at s.never_fell;
+  }
 
   -- a text that waits as a whole
   pub IsBuffered-start : (text : List ℕ) (out : S) → IsBuffered output faults text out out text
@@ -85,10 +90,16 @@ module _ {S : Type 0} (output : S → Output) (faults : S → ℕ) where
       → OnOk result (Took (output a) piece (output b))
       → OnErr result (TookPrefix (output a) piece (output b))
       → (result ≡ Err Failed → Rose (faults a) (faults b))
+      → (result ≢ Err Failed → faults b ≡ faults a)
       → faults a ≤ faults b
       → Wrote output faults piece a b result
-  Wrote-put piece a b (Ok _) whole front failed rose = record { grew = whole; never_fell = rose }
-  Wrote-put piece a b (Err fault) whole front failed rose = record { front = front; cause = λ e. failed (ap (λ (some : PutFault). Err some) e); never_fell = rose }
+  Wrote-put piece a b (Ok done) whole front failed quiet rose = record { grew = whole; quiet = quiet (λ e. cc) }
+  Wrote-put piece a b (Err fault) whole front failed quiet rose = record {
+    front = front;
+    cause = λ e. failed (ap (λ (some : PutFault). Err some) e);
+    quiet = λ other. quiet (λ e. other (cc));
+    never_fell = rose;
+  }
 
   -- what waits was put, whatever the answer
   pub Wrote-ended : (text waiting : List ℕ) (a b c : S) (result : Result (Unit {0}) PutFault)

@@ -1,6 +1,6 @@
 -- What a writer of a text over a sink ensures. The sink's `output` and `faults` come first, then the text, then the sink as it
 -- was and as it is now.
-use Rattle.std.specs.Prelude.{◌≡◌, ℕ, ◌≤◌, List, [], ◌∷◌, ◌++◌, Option, Result, MatchResult}
+use Rattle.std.specs.Prelude.{◌≡◌, ◌≢◌, ℕ, ◌≤◌, List, [], ◌∷◌, ◌++◌, Option, Result, MatchResult}
 use Rattle.std.specs.List.{concat}
 use Rattle.hz_outside.specs.Counts.{Rose}
 use Rattle.hz_outside.specs.WrittenText.{Output, Took, TookPrefix}
@@ -15,17 +15,18 @@ newline = 10 ∷ []
 unfoldable pub line_of : List (List ℕ) → List ℕ
 line_of pieces = concat pieces ++ newline
 
--- the sink took the whole text
+-- the sink took the whole text, and counted no fault
 pub record Puts {S : Type 0} (output : S → Output) (faults : S → ℕ) (text : List ℕ)
     (was now : S) : Type 0 where
   pub grew : Took (output was) text (output now)
-  pub never_fell : faults was ≤ faults now
+  pub quiet : faults now ≡ faults was
 
--- the sink took a prefix of the text, and a put failed only where the count rose
+-- the sink took a prefix of the text; its count tells whether a put failed: it rose where one did, and else it is as it was
 pub record Stops {S : Type 0} (output : S → Output) (faults : S → ℕ) (fault : PutFault)
     (text : List ℕ) (was now : S) : Type 0 where
   pub front : TookPrefix (output was) text (output now)
   pub cause : fault ≡ Failed → Rose (faults was) (faults now)
+  pub quiet : fault ≢ Failed → faults now ≡ faults was
   pub never_fell : faults was ≤ faults now
 
 -- the answer of a writer of this text

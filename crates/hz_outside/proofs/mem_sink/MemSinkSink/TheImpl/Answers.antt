@@ -1,5 +1,5 @@
 -- What a sink in memory answers gives what every sink ensures.
-use Rattle.std.proofs.Common.{◌≡◌, ◌≤◌, ℕ, List, take, Option, Some, None, IsSomeAnd, rules, arith, refl, OnOk, OnErr, IfErr, Ok, Err, Result}
+use Rattle.std.proofs.Common.{◌≡◌, ◌≢◌, ap, ◌≤◌, ℕ, List, take, Option, Some, None, IsSomeAnd, rules, arith, refl, OnOk, OnErr, IfErr, Ok, Err, Result}
 use Rattle.hz_outside.specs.declared.fault.PutFault.{PutFault}
 use Rattle.hz_outside.specs.declared.fault.PutFault.TheVariants.{Failed, Memory}
 use Rattle.hz_outside.specs.Counts.{Rose, count_after}
@@ -26,6 +26,12 @@ stopped (Some some) old new piece e =
     } in
     rw e after
 
+quiet : {A : Type 0} (old new : SinkState) (piece : List ℕ) (result : Result A PutFault) → OnOk result (new ≡ put_by old piece)
+    → IfErr result (λ fault. PutsLess old piece fault new) → result ≢ Err Failed → new.faults ≡ old.faults
+quiet old new piece (Ok _) e h other = ap (λ (state : SinkState). state.faults) e
+quiet old new piece (Err Failed) e h other = absurd (other refl)
+quiet old new piece (Err Memory) e h other = ap (λ (state : SinkState). state.faults) h
+
 front : {A : Type 0} (old new : SinkState) (piece : List ℕ) (result : Result A PutFault) → IfErr result (λ fault. PutsLess old piece fault new)
     → OnErr result (TookPrefix (settled (Some old.bytes)) piece (settled (Some new.bytes)))
 front old new piece (Ok _) h = tt
@@ -37,6 +43,7 @@ put-tells c = record {
   whole = on_ok _ _ c.result (λ e. rw e (Took-told c.args.self.now.bytes c.args.piece.now)) c.ensures.whole;
   front = front c.args.self.now _ c.args.piece.now c.result c.ensures.err;
   failed = λ e. let h = rw e at c.ensures.err in (stopped (taken_next c.args.self.now) _ _ _ h).rose;
+  quiet = quiet c.args.self.now _ c.args.piece.now c.result c.ensures.whole c.ensures.err;
   never_falls = c.ensures.never_falls;
 }
 
@@ -46,5 +53,6 @@ flush-tells c = record {
   none_waits = on_any_ok _ c.result refl;
   front = on_any_err _ c.result (rw c.ensures.same (Took-prefix (Took-nothing _)));
   failed = λ e. let h = rw e at c.ensures.done in absurd h;
+  quiet = λ other. rw c.ensures.same;
   never_falls = rw c.ensures.same (omega arith);
 }

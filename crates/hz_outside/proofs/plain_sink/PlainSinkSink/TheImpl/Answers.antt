@@ -14,6 +14,7 @@ put-tells c = record {
   whole = on_ok _ _ c.result (λ e. rw e (Took-told c.args.self.now c.args.piece.now)) c.ensures.ok;
   front = unchanged_front c.args.self.now c.args.piece.now _ c.result c.ensures.unchanged;
   failed = λ e. let h = rw e at c.ensures.memory in cc;
+  quiet = λ other. refl;
   never_falls = omega arith;
 }
 
@@ -23,5 +24,6 @@ flush-tells c = record {
   none_waits = on_any_ok _ c.result refl;
   front = on_any_err _ c.result (rw c.ensures.same (Took-prefix (Took-nothing _)));
   failed = λ e. let h = rw e at c.ensures.done in absurd h;
+  quiet = λ other. refl;
   never_falls = omega arith;
 }
