@@ -1,10 +1,11 @@
 -- The words of outputs, and where their letters stand.
-use Rattle.std.proofs.Common.{◌≡◌, ◌∙◌, refl, sym, ap, subst, ℕ, zero, suc, ◌+◌, ◌-◌, ◌<◌, ◌≤◌, List, [], ◌∷◌, ◌++◌, length, set, map, take, get_or, slice_get, Some, append_assoc, arith}
-use Rattle.std.proofs.lemmas.List.{length-append, length-map, map-append, append-nil, set-append_right, get_or-append_right, get_or_default, take_more, take_all}
+use Rattle.std.proofs.Common.{◌≡◌, ◌∙◌, refl, sym, ap, subst, ℕ, zero, suc, ◌+◌, ◌-◌, ◌<◌, ◌≤◌, List, [], ◌∷◌, ◌++◌, length, set, map, take, drop, get_or, slice_get, Some, append_assoc, arith}
+use Rattle.std.proofs.lemmas.List.{length-append, length-drop, length-map, length-set, length-take-le, map-append, append-nil, set-append_left, set-append_right, drop-append-le, drop-set-add, get_or-append_right, get_or_default, take_more, take_all, take-append-drop}
 use Rattle.std.proofs.lemmas.Option.{get_or_from_slice_get}
 use Rattle.hz_core.specs.declared.tri.Tri.{Tri}
 use Rattle.hz_core.specs.declared.tri.Tri.TheVariants.{Zero, One, Unknown}
 use Rattle.hz_core.specs.Netlist.{Netlist, node_name}
+use Rattle.hz_write.specs.Writes.{newline}
 use Rattle.hz_report.specs.Outputs.{output_stem, output_word, output_words}
 use Rattle.hz_report.specs.LineInside.{letter_places, values_at}
 use Rattle.hz_report.specs.Words.{letter_value, tri_letter}
@@ -94,27 +95,53 @@ words-set netlist (node ∷ nodes) (pair ∷ values) (suc place) now x y long in
 
 -- each output has a place, and its letters stand in the text
 pub has-place : (netlist : Netlist) (values : List (Tri × Tri)) (places : List ℕ) (output : ℕ) → length values ≡ length netlist.outputs → output < length values →
-    places ≡ letter_places netlist 0 netlist.outputs → output < length places
-has-place netlist values places output long inside at = rw at (omega (arith, long, inside, length-places netlist 0 netlist.outputs))
+    places ≡ letter_places netlist 10 netlist.outputs → output < length places
+has-place netlist values places output long inside at = rw at (omega (arith, long, inside, length-places netlist 10 netlist.outputs))
 
 place-is : (netlist : Netlist) (values : List (Tri × Tri)) (places : List ℕ) (output place : ℕ) (d : ℕ) → length values ≡ length netlist.outputs → output < length values →
-    places ≡ letter_places netlist 0 netlist.outputs → place ≡ get_or places output d → place ≡ letter_place netlist netlist.outputs output
+    places ≡ letter_places netlist 10 netlist.outputs → place ≡ get_or places output d → place ≡ 10 + letter_place netlist netlist.outputs output
 place-is netlist values places output place d long inside at is =
     let within : output < length netlist.outputs = omega (arith, long, inside) in
-    let there : get_or places output 0 ≡ letter_place netlist netlist.outputs output = rw at (place-at netlist 0 netlist.outputs output within ∙ omega arith) in
+    let there : get_or places output 0 ≡ 10 + letter_place netlist netlist.outputs output = rw at (place-at netlist 10 netlist.outputs output within) in
     is ∙ get_or_default places output d 0 (has-place netlist values places output long inside at) ∙ there
 
+-- how long a text is, by what stands behind its first ten bytes
+how-long : (text words : List ℕ) → drop 10 text ≡ words ++ newline → length text ≡ 11 + length words
+how-long text words is = omega (arith, sym (length-drop 10 text) ∙ ap (length {A = ℕ}) is ∙ length-append words newline)
+
 pub has-letters : (netlist : Netlist) (values : List (Tri × Tri)) (text places : List ℕ) (output place : ℕ) (d : ℕ) → length values ≡ length netlist.outputs → output < length values →
-    text ≡ output_words netlist netlist.outputs values → places ≡ letter_places netlist 0 netlist.outputs → place ≡ get_or places output d → place + 1 < length text
+    drop 10 text ≡ output_words netlist netlist.outputs values ++ newline → places ≡ letter_places netlist 10 netlist.outputs → place ≡ get_or places output d → place + 1 < length text
 has-letters netlist values text places output place d long inside words at is =
-    rw (place-is netlist values places output place d long inside at is, words) (place-inside netlist netlist.outputs values output long (omega (arith, long, inside)))
+    omega (
+      arith,
+      place-is netlist values places output place d long inside at is,
+      how-long text (output_words netlist netlist.outputs values) words,
+      place-inside netlist netlist.outputs values output long (omega (arith, long, inside)),
+    )
+
+-- two bytes behind the first ten change, which are not the last one
+two-behind : (text words : List ℕ) (k x y : ℕ) → drop 10 text ≡ words ++ newline → k + 1 < length words →
+    drop 10 (set (set text (10 + k) x) (10 + k + 1) y) ≡ set (set words k x) (k + 1) y ++ newline
+two-behind text words k x y is inside =
+    let next : 10 + k + 1 ≡ 10 + (k + 1) = omega arith in
+    let one : drop 10 (set text (10 + k) x) ≡ set words k x ++ newline =
+    drop-set-add 10 text k x ∙ ap (λ (list : List ℕ). set list k x) is ∙ set-append_left words newline k x (omega (arith, inside)) in
+    let within : k + 1 < length (set words k x) = omega (arith, inside, length-set words k x) in
+    ap (λ (m : ℕ). drop 10 (set (set text (10 + k) x) m y)) next
+    ∙ drop-set-add 10 (set text (10 + k) x) (k + 1) y
+    ∙ ap (λ (list : List ℕ). set list (k + 1) y) one
+    ∙ set-append_left (set words k x) newline (k + 1) y within
 
 -- what a line's text is once an output has other values
 pub line-set : (netlist : Netlist) (values : List (Tri × Tri)) (text places : List ℕ) (output place d : ℕ) (now : Tri × Tri) (x y : ℕ) → length values ≡ length netlist.outputs → output < length values →
-    text ≡ output_words netlist netlist.outputs values → places ≡ letter_places netlist 0 netlist.outputs → place ≡ get_or places output d → tri_letter now.0 ≡ x ∷ [] → tri_letter now.1 ≡ y ∷ [] →
-    set (set text place x) (place + 1) y ≡ output_words netlist netlist.outputs (set values output now)
+    drop 10 text ≡ output_words netlist netlist.outputs values ++ newline → places ≡ letter_places netlist 10 netlist.outputs → place ≡ get_or places output d → tri_letter now.0 ≡ x ∷ [] → tri_letter now.1 ≡ y ∷ [] →
+    drop 10 (set (set text place x) (place + 1) y) ≡ output_words netlist netlist.outputs (set values output now) ++ newline
 line-set netlist values text places output place d now x y long inside words at is first second =
-    rw (place-is netlist values places output place d long inside at is, words) (words-set netlist netlist.outputs values output now x y long (omega (arith, long, inside)) first second)
+    let within : output < length netlist.outputs = omega (arith, long, inside) in
+    let k = letter_place netlist netlist.outputs output in
+    rw (place-is netlist values places output place d long inside at is)
+    (two-behind text (output_words netlist netlist.outputs values) k x y words (place-inside netlist netlist.outputs values output long within)
+    ∙ ap (λ (list : List ℕ). list ++ newline) (words-set netlist netlist.outputs values output now x y long within first second))
 
 -- one output more
 pub words-push : (netlist : Netlist) (nodes : List ℕ) (values : List (Tri × Tri)) (node : ℕ) (pair : Tri × Tri) → length values ≡ length nodes →
@@ -182,37 +209,57 @@ said-by-word netlist node pair front rest = by_letters pair.0 pair.1
     by_letters Unknown Unknown = by_bytes 88 88
 
 -- the letters of all outputs say their values
-said-behind : (netlist : Netlist) (nodes : List ℕ) (values : List (Tri × Tri)) (front : List ℕ) (n : ℕ) → length values ≡ length nodes → length front ≡ n →
-    values_at (front ++ output_words netlist nodes values) (letter_places netlist n nodes) ≡ values
-said-behind netlist [] [] front n long at = refl
-said-behind netlist [] (pair ∷ values) front n long at = absurd (omega (arith, long))
-said-behind netlist (node ∷ nodes) [] front n long at = absurd (omega (arith, long))
-said-behind netlist (node ∷ nodes) (pair ∷ values) front n long at =
+said-behind : (netlist : Netlist) (nodes : List ℕ) (values : List (Tri × Tri)) (front rest : List ℕ) (n : ℕ) → length values ≡ length nodes → length front ≡ n →
+    values_at (front ++ (output_words netlist nodes values ++ rest)) (letter_places netlist n nodes) ≡ values
+said-behind netlist [] [] front rest n long at = refl
+said-behind netlist [] (pair ∷ values) front rest n long at = absurd (omega (arith, long))
+said-behind netlist (node ∷ nodes) [] front rest n long at = absurd (omega (arith, long))
+said-behind netlist (node ∷ nodes) (pair ∷ values) front rest n long at =
     let word = output_word netlist node pair in
     let words = output_words netlist nodes values in
     let stem = length (output_stem netlist node) in
+    let whole = front ++ ((word ++ words) ++ rest) in
     let next : length (front ++ word) ≡ n + stem + 2 = omega (arith, length-append front word, word-length netlist node pair, at) in
-    let later : values_at (front ++ (word ++ words)) (letter_places netlist (n + stem + 2) nodes) ≡ values =
-    ap (λ (text : List ℕ). values_at text (letter_places netlist (n + stem + 2) nodes)) (sym (append_assoc front word words))
-    ∙ said-behind netlist nodes values (front ++ word) (n + stem + 2) (omega (arith, long)) next in
-    let here : said (front ++ (word ++ words)) (n + stem) ≡ pair =
-    ap (λ (m : ℕ). said (front ++ (word ++ words)) (m + stem)) (sym at) ∙ said-by-word netlist node pair front words in
-    ap (λ (first : Tri × Tri). first ∷ values_at (front ++ (word ++ words)) (letter_places netlist (n + stem + 2) nodes)) here ∙ ap (λ (rest : List (Tri × Tri)). pair ∷ rest) later
+    let behind : whole ≡ front ++ (word ++ (words ++ rest)) = ap (λ (list : List ℕ). front ++ list) (append_assoc word words rest) in
+    let later : values_at whole (letter_places netlist (n + stem + 2) nodes) ≡ values =
+    ap (λ (text : List ℕ). values_at text (letter_places netlist (n + stem + 2) nodes)) (behind ∙ sym (append_assoc front word (words ++ rest)))
+    ∙ said-behind netlist nodes values (front ++ word) rest (n + stem + 2) (omega (arith, long)) next in
+    let here : said whole (n + stem) ≡ pair =
+    ap (λ (text : List ℕ). said text (n + stem)) behind
+    ∙ ap (λ (m : ℕ). said (front ++ (word ++ (words ++ rest))) (m + stem)) (sym at) ∙ said-by-word netlist node pair front (words ++ rest) in
+    ap (λ (first : Tri × Tri). first ∷ values_at whole (letter_places netlist (n + stem + 2) nodes)) here ∙ ap (λ (list : List (Tri × Tri)). pair ∷ list) later
 
-pub said-by-line : (netlist : Netlist) (values : List (Tri × Tri)) (text places : List ℕ) → length values ≡ length netlist.outputs → text ≡ output_words netlist netlist.outputs values → places ≡ letter_places netlist 0 netlist.outputs → values_at text places ≡ values
-said-by-line netlist values text places long words at = rw (words, at) (said-behind netlist netlist.outputs values [] 0 long refl)
+pub said-by-line : (netlist : Netlist) (values : List (Tri × Tri)) (text places : List ℕ) → length values ≡ length netlist.outputs → drop 10 text ≡ output_words netlist netlist.outputs values ++ newline → places ≡ letter_places netlist 10 netlist.outputs → values_at text places ≡ values
+said-by-line netlist values text places long words at =
+    let tall : 10 ≤ length text = omega (arith, how-long text (output_words netlist netlist.outputs values) words) in
+    let parts : text ≡ take 10 text ++ (output_words netlist netlist.outputs values ++ newline) =
+    sym (take-append-drop 10 text) ∙ ap (λ (list : List ℕ). take 10 text ++ list) words in
+    ap (λ (list : List ℕ). values_at list places) parts
+    ∙ ap (values_at (take 10 text ++ (output_words netlist netlist.outputs values ++ newline))) at
+    ∙ said-behind netlist netlist.outputs values (take 10 text) newline 10 long (length-take-le 10 text tall)
 
 -- there are two values for each output
-pub count-values : (netlist : Netlist) (text places : List ℕ) → places ≡ letter_places netlist 0 netlist.outputs → length (values_at text places) ≡ length netlist.outputs
-count-values netlist text places at = length-map places (said text) ∙ (ap (length {A = ℕ}) at ∙ length-places netlist 0 netlist.outputs)
+pub count-values : (netlist : Netlist) (text places : List ℕ) → places ≡ letter_places netlist 10 netlist.outputs → length (values_at text places) ≡ length netlist.outputs
+count-values netlist text places at = length-map places (said text) ∙ (ap (length {A = ℕ}) at ∙ length-places netlist 10 netlist.outputs)
+
+-- other digits in front leave the values
+pub same-values : (netlist : Netlist) (text text' places : List ℕ) → drop 10 text' ≡ drop 10 text → drop 10 text ≡ output_words netlist netlist.outputs (values_at text places) ++ newline → places ≡ letter_places netlist 10 netlist.outputs →
+    values_at text' places ≡ values_at text places
+same-values netlist text text' places same words at = said-by-line netlist (values_at text places) text' places (count-values netlist text places at) (same ∙ words) at
+
+pub line-kept : (netlist : Netlist) (text text' places : List ℕ) → drop 10 text' ≡ drop 10 text → drop 10 text ≡ output_words netlist netlist.outputs (values_at text places) ++ newline → places ≡ letter_places netlist 10 netlist.outputs →
+    drop 10 text' ≡ output_words netlist netlist.outputs (values_at text' places) ++ newline
+line-kept netlist text text' places same words at =
+    same ∙ words ∙ ap (λ (values : List (Tri × Tri)). output_words netlist netlist.outputs values ++ newline) (sym (same-values netlist text text' places same words at))
 
 -- the line of the outputs so far, with X for each value
 abbrev pub unknowns : List ℕ → List (Tri × Tri)
 unknowns nodes = map (λ _. (Unknown, Unknown)) nodes
 
 pub record IsLineOf (netlist : Netlist) (nodes text places : List ℕ) : Type 0 where
-  pub text_is : text ≡ output_words netlist nodes (unknowns nodes)
-  pub places_are : places ≡ letter_places netlist 0 nodes
+  pub tall : 10 ≤ length text
+  pub text_is : drop 10 text ≡ output_words netlist nodes (unknowns nodes)
+  pub places_are : places ≡ letter_places netlist 10 nodes
 
 pub line-next : (netlist : Netlist) (items : List ℕ) (i : ℕ) (name text text' places places' : List ℕ) →
     items ≡ netlist.outputs → i < length items → slice_get netlist.names (get_or items i 0) ≡ Some name →
@@ -223,23 +270,31 @@ line-next netlist items i name text text' places places' same inside named line 
     let nodes = take i netlist.outputs in
     let node = get_or items i 0 in
     let values = unknowns nodes in
+    let word = ((32 ∷ name) ++ 61 ∷ []) ++ 88 ∷ 88 ∷ [] in
     let unknown : ℕ → Tri × Tri = λ _. (Unknown, Unknown) in
     let is : node_name netlist.names node ≡ name = get_or_from_slice_get netlist.names node name [] named in
     let more : take (i + 1) netlist.outputs ≡ nodes ++ node ∷ [] = subst (λ (list : List ℕ). take (i + 1) list ≡ take i list ++ get_or items i 0 ∷ []) same (take_more items i 0 inside) in
     let long : length values ≡ length nodes = length-map nodes unknown in
     let pushed : unknowns (nodes ++ node ∷ []) ≡ values ++ (Unknown, Unknown) ∷ [] = map-append unknown nodes (node ∷ []) in
+    let grown : drop 10 text' ≡ output_words netlist nodes values ++ word =
+    ap (drop 10) worded ∙ drop-append-le 10 text word line.tall ∙ ap (λ (list : List ℕ). list ++ word) line.text_is in
+    let count : length text ≡ 10 + length (output_words netlist nodes values) =
+    omega (arith, line.tall, sym (length-drop 10 text) ∙ ap (length {A = ℕ}) line.text_is) in
     record {
-      text_is = rw (more, pushed) (worded ∙ (ap (λ (list : List ℕ). list ++ (((32 ∷ name) ++ 61 ∷ []) ++ 88 ∷ 88 ∷ [])) line.text_is ∙ (ap (λ (list : List ℕ). output_words netlist nodes values ++ (((32 ∷ list) ++ 61 ∷ []) ++ 88 ∷ 88 ∷ [])) (sym is) ∙ sym (words-push netlist nodes values node (Unknown, Unknown) long))));
-      places_are = rw more (placed ∙ (ap (λ (list : List ℕ). list ++ (length text + length ((32 ∷ name) ++ 61 ∷ [])) ∷ []) line.places_are ∙ sym (places-push netlist 0 nodes values node (length text + length ((32 ∷ name) ++ 61 ∷ [])) long (rw (is, line.text_is) (omega arith)))));
+      tall = rw worded (omega (arith, line.tall, length-append text word));
+      text_is = rw (more, pushed) (grown ∙ (ap (λ (list : List ℕ). output_words netlist nodes values ++ (((32 ∷ list) ++ 61 ∷ []) ++ 88 ∷ 88 ∷ [])) (sym is) ∙ sym (words-push netlist nodes values node (Unknown, Unknown) long)));
+      places_are = rw more (placed ∙ (ap (λ (list : List ℕ). list ++ (length text + length ((32 ∷ name) ++ 61 ∷ [])) ∷ []) line.places_are ∙ sym (places-push netlist 10 nodes values node (length text + length ((32 ∷ name) ++ 61 ∷ [])) long (rw (is, count) (omega arith)))));
     }
 
--- the line of all outputs says X for each
-pub line-whole : (netlist : Netlist) (i : ℕ) (text places : List ℕ) → length netlist.outputs ≤ i → IsLineOf netlist (take i netlist.outputs) text places →
-    (values_at text places ≡ unknowns netlist.outputs) × (text ≡ output_words netlist netlist.outputs (values_at text places)) × (places ≡ letter_places netlist 0 netlist.outputs)
-line-whole netlist i text places all line =
+-- the line of all outputs, with its end, says X for each
+pub line-whole : (netlist : Netlist) (i : ℕ) (text text' places : List ℕ) → length netlist.outputs ≤ i → IsLineOf netlist (take i netlist.outputs) text places → text' ≡ text ++ newline →
+    (values_at text' places ≡ unknowns netlist.outputs) × (drop 10 text' ≡ output_words netlist netlist.outputs (values_at text' places) ++ newline) × (places ≡ letter_places netlist 10 netlist.outputs)
+line-whole netlist i text text' places all line ended =
     let outputs = netlist.outputs in
     let whole : take i outputs ≡ outputs = take_all i outputs all in
-    let words : text ≡ output_words netlist outputs (unknowns outputs) = line.text_is ∙ ap (λ (nodes : List ℕ). output_words netlist nodes (unknowns nodes)) whole in
-    let at : places ≡ letter_places netlist 0 outputs = line.places_are ∙ ap (letter_places netlist 0) whole in
-    let said_is = said-by-line netlist (unknowns outputs) text places (length-map outputs (λ _. (Unknown, Unknown))) words at in
-    (said_is, words ∙ ap (output_words netlist outputs) (sym said_is), at)
+    let words : drop 10 text ≡ output_words netlist outputs (unknowns outputs) = line.text_is ∙ ap (λ (nodes : List ℕ). output_words netlist nodes (unknowns nodes)) whole in
+    let behind : drop 10 text' ≡ output_words netlist outputs (unknowns outputs) ++ newline =
+    ap (drop 10) ended ∙ drop-append-le 10 text newline line.tall ∙ ap (λ (list : List ℕ). list ++ newline) words in
+    let at : places ≡ letter_places netlist 10 outputs = line.places_are ∙ ap (letter_places netlist 10) whole in
+    let said_is = said-by-line netlist (unknowns outputs) text' places (length-map outputs (λ _. (Unknown, Unknown))) behind at in
+    (said_is, behind ∙ ap (λ (values : List (Tri × Tri)). output_words netlist outputs values ++ newline) (sym said_is), at)

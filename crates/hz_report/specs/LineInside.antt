@@ -1,8 +1,9 @@
 -- What the fields of a line of outputs stand for.
-use Rattle.std.specs.Prelude.{◌≡◌, ℕ, ◌+◌, List, [], ◌∷◌, length, map, slice_index}
+use Rattle.std.specs.Prelude.{◌≡◌, ℕ, ◌+◌, List, [], ◌∷◌, ◌++◌, drop, length, map, slice_index}
 use Rattle.hz_core.specs.declared.tri.Tri.{Tri}
 use Rattle.hz_core.specs.Netlist.{Netlist, IsCircuit}
 use Rattle.hz_report.specs.declared.outputs.OutputLine.TheInside.{Inside}
+use Rattle.hz_write.specs.Writes.{newline}
 use Rattle.hz_report.specs.Outputs.{LineOf, output_stem, output_words}
 use Rattle.hz_report.specs.Words.{letter_value}
 
@@ -31,10 +32,11 @@ letter_places netlist start (node ∷ nodes) =
     let place = start + length (output_stem netlist node) in
     place ∷ letter_places netlist (place + 2) nodes
 
--- the words of all outputs, and where the letters of each stand
+-- room for the digits of any number, the words of all outputs and the end of the line, and where the letters stand
 pub record HoldsLine (fields : Inside) : Type 0 where
   pub circuit : IsCircuit fields.circuit.now
-  pub text : fields.text.items
+  pub text : drop 10 fields.text.items
       ≡ output_words fields.circuit.now fields.circuit.now.outputs
       (values_at fields.text.items fields.places.items)
-  pub places : fields.places.items ≡ letter_places fields.circuit.now 0 fields.circuit.now.outputs
+      ++ newline
+  pub places : fields.places.items ≡ letter_places fields.circuit.now 10 fields.circuit.now.outputs

@@ -1,20 +1,21 @@
 //! The digits of a number that is counted up.
-ghost use Rattle.std.specs.Prelude.{◌≡◌, ◌≢◌, ◌+◌, ◌%◌, ◌<◌, ◌≤◌, IfOk, decimal, length, take};
+ghost use Rattle.std.specs.Prelude.{◌≡◌, ◌≢◌, ◌+◌, ◌++◌, ◌%◌, ◌<◌, ◌≤◌, IfOk, decimal, length, drop};
 
 use hz_core::Memory;
 use itoa::Buffer;
 use std::alloc::Global;
 use std::marker::Model;
 
-// The most digits of a number.
-const MAX_DIGITS: usize = 10;
+/// The most digits of a number.
+pub(crate) const MAX_DIGITS: usize = 10;
 
 /// A number with its decimal digits.
 #[derive(Drop)]
 pub(crate) struct Digits {
     number: u32,
+    // The digits stand at the end of these.
     bytes: Vec<u8>,
-    len: usize,
+    begin: usize,
 }
 
 impl Model for Digits {
@@ -37,16 +38,22 @@ impl Digits {
         Ok(Digits {
             number: 0,
             bytes,
-            len: 1,
+            begin: MAX_DIGITS - 1,
         })
     }
 
-    // The digits.
+    // Writes the digits to the room in front of a text, which is as long as the most digits, and says
+    // where they begin.
     #[inline(always)]
-    pub(crate) fn text(&self) -> &[u8]
-        ensures { result.now ≡ decimal self.now }
+    pub(crate) fn put(&self, text: &mut [u8]) -> usize
+        requires { 10 ≤ length text.old }
+        ensures long { length text.new ≡ length text.old }
+        ensures few { result ≤ 10 }
+        ensures behind { drop 10 text.new ≡ drop 10 text.old }
+        ensures digits { drop result text.new ≡ decimal self.now ++ drop 10 text.old }
     {
-        &self.bytes.as_slice()[..self.len]
+        text[..MAX_DIGITS].copy_from_slice(&self.bytes.as_slice()[..MAX_DIGITS]);
+        self.begin
     }
 
     // Goes to another number. If it is the next one, mostly the last digit alone changes.
@@ -70,7 +77,7 @@ impl Digits {
         ensures { self.new ≡ number }
     {
         self.number = number;
-        self.bytes[self.len - 1] = b'0' + (number % 10) as u8;
+        self.bytes[MAX_DIGITS - 1] = b'0' + (number % 10) as u8;
     }
 
     // Goes to any number.
@@ -79,20 +86,21 @@ impl Digits {
         ensures { self.new ≡ number }
     {
         self.number = number;
-        self.len = write_digits(number, self.bytes.as_mut_slice());
+        self.begin = write_digits(number, self.bytes.as_mut_slice());
     }
 }
 
-// Writes the digits of a number to the front of bytes, and says how many there are.
+// Writes the digits of a number to the end of bytes, and says where they begin.
 #[inline(never)]
 fn write_digits(number: u32, bytes: &mut [u8]) -> usize
     requires { length bytes.old ≡ 10 }
     ensures long { length bytes.new ≡ 10 }
     ensures few { result ≤ 10 }
-    ensures digits { take result bytes.new ≡ decimal number }
+    ensures digits { drop result bytes.new ≡ decimal number }
 {
     let mut buffer = Buffer::new();
     let digits = buffer.format(number).as_bytes();
-    bytes[..digits.len()].copy_from_slice(digits);
-    digits.len()
+    let begin = MAX_DIGITS - digits.len();
+    bytes[begin..].copy_from_slice(digits);
+    begin
 }

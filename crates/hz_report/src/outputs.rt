@@ -4,7 +4,7 @@ ghost use Rattle.hz_core.specs.declared.tri.Tri.TheVariants.{Unknown};
 ghost use Rattle.hz_write.specs.Writer.{Writes, NoneWaits};
 ghost use Rattle.hz_report.specs.Outputs.{outputs_line};
 
-use crate::digits::Digits;
+use crate::digits::{Digits, MAX_DIGITS};
 use crate::letter::Letter;
 use hz_core::{Circuit, Memory};
 use hz_outside::Sink;
@@ -14,8 +14,8 @@ use std::marker::Model;
 
 /// The line of a number, in which each output of a circuit has two values: `7 z=X0 carry=11`.
 ///
-/// What stands behind the number is kept as bytes, and from one line to the next only letters change. The values are what these
-/// letters say.
+/// The line is kept as bytes, with room for the digits of any number in front. From one line to the next only digits and letters
+/// change, so it is put as it is. The values are what these letters say.
 #[derive(Drop)]
 pub struct OutputLine<'c> {
     circuit: &'c Circuit,
@@ -47,11 +47,14 @@ impl<'c> OutputLine<'c> {
             }) }
     {
         let _nodes = circuit.nodes();
-        let mut text = Vec::new(alloc);
+        let mut text = vec![in alloc; b' '; MAX_DIGITS]?;
         let mut places = Vec::new(alloc);
         for node in circuit.outputs() {
             add_word(circuit.name(*node), &mut text, &mut places)?;
         }
+        let Ok(()) = text.push(b'\n') else {
+            return Err(Memory);
+        };
         Ok(OutputLine {
             circuit,
             digits: Digits::new(alloc)?,
@@ -73,7 +76,7 @@ impl<'c> OutputLine<'c> {
     }
 
     /// Gives the line to a writer, with a number in front. The number after the one before takes least time.
-    #[tactic(auto, using(hz_write::proofs::Writers::writes_then), unfolding(crate::specs::Outputs::outputs_line))]
+    #[inline(always)]
     pub fn write<K: Sink>(&mut self, writer: &mut Writer<'_, K>, number: u32)
         ensures same { self.new ≡ self.old }
         ensures gave { Writes K.output K.faults
@@ -82,9 +85,8 @@ impl<'c> OutputLine<'c> {
         ensures none_waits { NoneWaits writer.new }
     {
         self.digits.count_to(number);
-        writer.text(self.digits.text());
-        writer.text(self.text.as_slice());
-        writer.end();
+        let begin = self.digits.put(self.text.as_mut_slice());
+        writer.end_by(&self.text.as_slice()[begin..]);
     }
 }
 

@@ -70,6 +70,19 @@ impl Line {
         self.put_waiting(out)
     }
 
+    /// Ends the line by its last bytes and puts what waits. If nothing waits, they are put without a copy. Afterwards nothing waits,
+    /// also after a refusal.
+    pub(crate) fn end_by<K: Sink>(&mut self, out: &mut K, last: &[u8]) -> Result<(), PutFault>
+        ensures wrote { Wrote K.output K.faults (self.old ++ last.now) out.old out.new result }
+        ensures emptied { self.new ≡ [] }
+    {
+        if self.len == 0 && !last.is_empty() && last.len() <= BUFFER_SIZE {
+            return out.put(last);
+        }
+        self.add(out, last)?;
+        self.put_waiting(out)
+    }
+
     /// How many bytes fit until the buffer is full.
     pub(crate) fn room(&self) -> usize
         ensures room { result + length self.now ≡ BUFFER_SIZE }

@@ -126,6 +126,19 @@ impl<'k, K: Sink> Writer<'k, K> {
         }
     }
 
+    /// Gives the last bytes of a line, its line feed among them, and puts what waits. If nothing waits, they are put as they are.
+    pub fn end_by(&mut self, last: &[u8])
+        ensures gave { Writes K.output K.faults last.now self.old self.new }
+        ensures none_waits { NoneWaits self.new }
+    {
+        if self.fault.is_some() {
+            return;
+        }
+        if let Err(fault) = self.line.end_by(self.out, last) {
+            self.fault = Some(fault);
+        }
+    }
+
     /// Whether a put failed. From then on nothing is put.
     pub fn has_failed(&self) -> bool
         ensures { result ≡ has_failed self.now }

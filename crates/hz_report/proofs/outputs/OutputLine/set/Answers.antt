@@ -1,8 +1,9 @@
 -- Two letters change.
-use Rattle.std.proofs.Common.{◌≡◌, ◌∙◌, List, length, set, ap, sym, arith, rules}
+use Rattle.std.proofs.Common.{◌≡◌, ◌∙◌, ◌+◌, ◌++◌, List, length, set, ap, sym, arith, rules}
 use Rattle.std.specs.Vec.{vec_len}
 use Rattle.std.proofs.lemmas.List.{length-set}
 use Rattle.hz_core.specs.declared.tri.Tri.{Tri}
+use Rattle.hz_write.specs.Writes.{newline}
 use Rattle.hz_report.specs.Outputs.{LineOf, output_words}
 use Rattle.hz_report.specs.LineInside.{values_at}
 use Rattle.hz_report.proofs.OutputLemmas.{has-place, has-letters, line-set, said-by-line, count-values}
@@ -45,7 +46,7 @@ invariant_of-self c =
     let values = set (values_at text places) c.args.output (c.args.first, c.args.second) in
     record {
       circuit = c.self.invariant.circuit;
-      text = now ∙ ap (output_words netlist netlist.outputs) (sym (said-by-line netlist values _ places (length-set (values_at text places) c.args.output (c.args.first, c.args.second) ∙ count) now c.self.invariant.places));
+      text = now ∙ ap (λ (list : List (Tri × Tri)). output_words netlist netlist.outputs list ++ newline) (sym (said-by-line netlist values (set (set c.self.inside.text.items c.index-place.result.now c.byte.result) (c.index-place.result.now + 1) c.byte-2.result) places (length-set (values_at text places) c.args.output (c.args.first, c.args.second) ∙ count) now c.self.invariant.places));
       places = c.self.invariant.places;
     }
 
@@ -59,5 +60,5 @@ returns c =
     let now = line-set netlist (values_at text places) text places c.args.output c.index-place.result.now _ (c.args.first, c.args.second) c.byte.result c.byte-2.result count inside c.self.invariant.text c.self.invariant.places c.index-place.ensures c.byte.ensures c.byte-2.ensures in
     let pair : Tri × Tri = (c.args.first, c.args.second) in
     let values = set (values_at text places) c.args.output pair in
-    ap (λ (list : List (Tri × Tri)). record { netlist = netlist; values = list }) (said-by-line netlist values _ places (length-set (values_at text places) c.args.output pair ∙ count) now c.self.invariant.places)
+    ap (λ (list : List (Tri × Tri)). record { netlist = netlist; values = list }) (said-by-line netlist values (set (set c.self.inside.text.items c.index-place.result.now c.byte.result) (c.index-place.result.now + 1) c.byte-2.result) places (length-set (values_at text places) c.args.output pair ∙ count) now c.self.invariant.places)
     ∙ ap (λ (line : LineOf). record line { values = set line.values c.args.output pair }) c.self.view_is
