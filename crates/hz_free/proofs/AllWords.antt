@@ -39,7 +39,7 @@ pub ordered-part : (netlist : Netlist) (part : FreePart) → IsFreePart netlist 
 ordered-part netlist part is =
     record { marks = is.marks; listed = is.listed; once = is.once; inside = is.inside; after = is.after }
 
-module _ (netlist : Netlist) (input start : List Bool) (cap : ℕ) (part : FreePart) (is : IsOrdered netlist part) where
+module _ (netlist : Netlist) (input start : List Bool) (cap : ℕ) (first : List (Option Word)) (part : FreePart) (is : IsOrdered netlist part) where
   -- what a placed variable reads is placed
   reads-placed : (place i j : ℕ) → place ≤ length part.order → is_listed (take place part.order) i ≡ true → Reads (driver_at (network_of netlist) i) j → is_listed (take place part.order) j ≡ true
   reads-placed zero i j within there reads = absurd (both_ways false refl there)
@@ -56,9 +56,10 @@ module _ (netlist : Netlist) (input start : List Bool) (cap : ℕ) (part : FreeP
             (is.after place j few (subst (λ (m : ℕ). Reads (driver_at (network_of netlist) m) j) (listed-one i (get_or part.order place 0) here) reads)))
       ]
 
-  module _ (place : ℕ) (few : place < length part.order) (told : List (Option Word)) (words : List (List Bool)) (are : AreWordsSoFar (network_of netlist) input start cap (take place part.order) told words) where
+  module _ (place : ℕ) (few : place < length part.order) (told : List (Option Word)) (words : List (List Bool)) (are : AreWordsSoFar (network_of netlist) input start cap first (take place part.order) told words) where
     unfoldable pub ready-words : IsReady (network_of netlist) input start cap told (get_or part.order place 0)
     ready-words = record {
+      first = first;
       placed = take place part.order;
       words = words;
       are_told = are;
@@ -91,7 +92,7 @@ module _ (netlist : Netlist) (input start : List Bool) (cap : ℕ) (part : FreeP
             | inr now ↦ subst P (sym (listed-one i (get_or part.order place 0) now)) here
           ]
 
-      pub one-more : AreWordsSoFar (network_of netlist) input start cap (take (place + 1) part.order) (set told (get_or part.order place 0) (Some (capped_word cap word))) (set words (get_or part.order place 0) word)
+      pub one-more : AreWordsSoFar (network_of netlist) input start cap first (take (place + 1) part.order) (set told (get_or part.order place 0) (Some (capped_word cap word))) (set words (get_or part.order place 0) word)
       one-more =
           let below = var-below in
           let told_long = are.told_long in
@@ -114,11 +115,11 @@ module _ (netlist : Netlist) (input start : List Bool) (cap : ℕ) (part : FreeP
                 (λ i there.
                 let ne : i ≢ get_or part.order place 0 = not-var i there in
                 rw get_or-set_other (are.tells i there ∙ ap (λ (w : List Bool). Some (capped_word cap w)) (old-word i there)));
-            others = λ i out. later-none i out;
+            others = λ i out. later-first i out;
           })
         where
-          later-none : (i : ℕ) → is_listed (take (suc place) part.order) i ≡ false → get_or (set told (get_or part.order place 0) (Some (capped_word cap word))) i None ≡ None
-          later-none i out =
+          later-first : (i : ℕ) → is_listed (take (suc place) part.order) i ≡ false → get_or (set told (get_or part.order place 0) (Some (capped_word cap word))) i None ≡ get_or first i None
+          later-first i out =
               let out' : is_listed (take place part.order ++ get_or part.order place 0 ∷ []) i ≡ false = subst (λ (list : List ℕ). is_listed list i ≡ false) (take-suc part.order place 0 few) out in
               elim (cases_eq i (get_or part.order place 0)) [
                 | inl e ↦ absurd (both_ways (is_listed (take place part.order ++ get_or part.order place 0 ∷ []) i) out'
@@ -126,9 +127,10 @@ module _ (netlist : Netlist) (input start : List Bool) (cap : ℕ) (part : FreeP
                 | inr ne ↦ rw get_or-set_other (are.others i (sym (listed-push-other (take place part.order) (get_or part.order place 0) i ne) ∙ out'))
               ]
 
-  -- all
-  pub all-words : (told : List (Option Word)) (words : List (List Bool)) → AreWordsSoFar (network_of netlist) input start cap part.order told words → AreCappedWords (network_of netlist) input start cap told
-  all-words told words are = record {
+  -- all, if no other variable was told a word at first
+  pub all-words : (told : List (Option Word)) (words : List (List Bool)) → ((i : ℕ) → i < length (network_of netlist) → bit_at part.free i ≡ false → get_or first i None ≡ None)
+      → AreWordsSoFar (network_of netlist) input start cap first part.order told words → AreCappedWords (network_of netlist) input start cap told
+  all-words told words none are = record {
     words = words;
     are_words = record {
       long = are.long;
@@ -140,7 +142,7 @@ module _ (netlist : Netlist) (input start : List Bool) (cap : ℕ) (part : FreeP
         slice_get-get_or told i None (omega arith) ∙ ap Some (are.tells i (free-placed i few free));
     others = λ i few not_free.
         let told_long = are.told_long in
-        slice_get-get_or told i None (omega arith) ∙ ap Some (are.others i (not-placed i few not_free));
+        slice_get-get_or told i None (omega arith) ∙ ap Some (are.others i (not-placed i few not_free) ∙ none i few (sym (is.listed i few) ∙ not-placed i few not_free));
   }
     where
       free-placed : (i : ℕ) → i < length (network_of netlist) → IsFeedbackFree (network_of netlist) i → is_listed part.order i ≡ true
@@ -154,12 +156,12 @@ module _ (netlist : Netlist) (input start : List Bool) (cap : ℕ) (part : FreeP
           ]
 
 -- none yet
-pub none-told : (netlist : Netlist) (input start : List Bool) (cap : ℕ) (told : List (Option Word)) (words : List (List Bool)) → length words ≡ length (network_of netlist) → length told ≡ length (network_of netlist) → ((i : ℕ) → get_or told i None ≡ None) → AreWordsSoFar (network_of netlist) input start cap [] told words
-none-told netlist input start cap told words long told_long none = record {
+pub none-told : (netlist : Netlist) (input start : List Bool) (cap : ℕ) (told : List (Option Word)) (words : List (List Bool)) → length words ≡ length (network_of netlist) → length told ≡ length (network_of netlist) → AreWordsSoFar (network_of netlist) input start cap told [] told words
+none-told netlist input start cap told words long told_long = record {
   long = long;
   told_long = told_long;
   is_word = λ i there. absurd (both_ways false refl there);
   driven = λ i there. absurd (both_ways false refl there);
   tells = λ i there. absurd (both_ways false refl there);
-  others = λ i out. none i;
+  others = λ i out. refl;
 }

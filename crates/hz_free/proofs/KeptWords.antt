@@ -1,8 +1,8 @@
 -- Lists of words as they are kept, and the words that are in them.
-use Rattle.std.proofs.Common.{◌≡◌, ◌∙◌, ℕ, zero, suc, ◌+◌, ◌-◌, ◌<◌, ◌≤◌, List, [], ◌∷◌, map, length, take, drop, get_or, set, Option, Some, None, Bool, refl, sym, ap, subst, arith, inl, inr}
+use Rattle.std.proofs.Common.{◌≡◌, ◌∙◌, ℕ, ◌+◌, ◌-◌, ◌<◌, ◌≤◌, List, map, length, take, drop, get_or, set, Option, Some, None, Bool, refl, sym, ap, subst, arith, inl, inr, get_or-set_same, get_or-set_other}
 use Rattle.std.specs.Prelude.{slice_range, IsSome}
 use Rattle.std.specs.Bool.{nat_le}
-use Rattle.std.proofs.lemmas.Bool.{cases_Bool, leb-true}
+use Rattle.std.proofs.lemmas.Bool.{cases_Bool, cases_eq, leb-true}
 use Rattle.std.proofs.lemmas.List.{take-map, drop-map, map-set, length-map}
 use Rattle.hz_word.specs.declared.word.Word.{Word}
 use Rattle.hz_word.specs.Word.{change_count}
@@ -22,24 +22,16 @@ module _ {X Y : Type 0} (f : X → Y) where
   pub map-set_told : (list : List X) (place : ℕ) (x : X) (y : Y) → f x ≡ y → map f (set list place x) ≡ set (map f list) place y
   map-set_told list place x y same = map-set f list place x ∙ ap (set (map f list) place) same
 
-module _ {X Y : Type 0} (f : X → Option Y) where
-  -- one more that is None
-  none-set_suc : (list : List X) (place : ℕ) (x : X) → f x ≡ None → ((k : ℕ) → k < place → get_or (map f list) k None ≡ None) → (k : ℕ) → k < suc place → get_or (map f (set list place x)) k None ≡ None
-  none-set_suc [] place x none before k few = refl
-  none-set_suc (y ∷ list) zero x none before zero few = none
-  none-set_suc (y ∷ list) zero x none before (suc k) few = absurd (omega arith)
-  none-set_suc (y ∷ list) (suc place) x none before zero few = before 0 (omega arith)
-  none-set_suc (y ∷ list) (suc place) x none before (suc k) few =
-      none-set_suc list place x none (λ j less. before (suc j) (omega arith)) k (omega arith)
-
-  pub none-set : (list : List X) (place : ℕ) (x : X) → f x ≡ None → ((k : ℕ) → k < place → get_or (map f list) k None ≡ None) → (k : ℕ) → k < place + 1 → get_or (map f (set list place x)) k None ≡ None
-  none-set list place x none before k few = none-set_suc list place x none before k (omega arith)
-
-  -- all are None
-  pub none-all : (list : List X) → ((k : ℕ) → k < length list → get_or (map f list) k None ≡ None) → (i : ℕ) → get_or (map f list) i None ≡ None
-  none-all [] none i = refl
-  none-all (x ∷ list) none zero = none 0 (omega arith)
-  none-all (x ∷ list) none (suc i) = none-all list (λ k few. none (suc k) (omega arith)) i
+  -- one more element is what it is to be
+  pub told-set : (list : List X) (place : ℕ) (x : X) (none : Y) (want : ℕ → Y) → f x ≡ want place → place < length list → ((k : ℕ) → k < place → get_or (map f list) k none ≡ want k)
+      → (k : ℕ) → k < place + 1 → get_or (map f (set list place x)) k none ≡ want k
+  told-set list place x none want same within before k few =
+      let inside : place < length (map f list) = omega (arith, within, length-map list f) in
+      ap (λ (told : List Y). get_or told k none) (map-set f list place x)
+      ∙ elim (cases_eq k place) [
+        | inl here ↦ rw here (rw get_or-set_same same)
+        | inr ne ↦ rw get_or-set_other (before k (omega (arith, few, ne)))
+      ]
 
 -- a word that is counted is there
 pub some-counted : (cap : ℕ) (word : Option Word) → HasCountedWord cap word → IsSome word

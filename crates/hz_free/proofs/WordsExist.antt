@@ -163,14 +163,17 @@ module _ (netlist : Netlist) (circuit : IsCircuit netlist) (whole : IsWhole netl
       let made = IsFold-kind_word kind (map (capped_word cap) (slice_range words first (first + pins))) cap taken (slice_range words first (first + pins)) are refl in
       (made.0, made.1.is_word, made.1)
 
+  first : List (Option Word)
+  first = replicate (length (network_of netlist)) None
+
   -- one variable of the order after the other
-  words-to : (place : ℕ) → place ≤ length part.order → (told : List (Option Word)) × (words : List (List Bool)) × AreWordsSoFar (network_of netlist) input start cap (take place part.order) told words
+  words-to : (place : ℕ) → place ≤ length part.order → (told : List (Option Word)) × (words : List (List Bool)) × AreWordsSoFar (network_of netlist) input start cap first (take place part.order) told words
+  unfolding first
   words-to zero within =
-      let told : List (Option Word) = replicate (length (network_of netlist)) None in
       let empty : List (List Bool) = replicate (length (network_of netlist)) [] in (
-        told,
+        first,
         empty,
-        none-told netlist input start cap told empty (length-replicate (length (network_of netlist)) []) (length-replicate (length (network_of netlist)) None) (λ i. none-at (length (network_of netlist)) i),
+        none-told netlist input start cap first empty (length-replicate (length (network_of netlist)) []) (length-replicate (length (network_of netlist)) None),
       )
   words-to (suc place) within =
       let few : place < length part.order = omega arith in
@@ -181,15 +184,16 @@ module _ (netlist : Netlist) (circuit : IsCircuit netlist) (whole : IsWhole netl
       (λ j reads. are.is_word j (is.after place j few reads)) in (
         set so_far.0 var (Some (capped_word cap next.0)),
         set so_far.1 var next.0,
-        rw add-one at (one-more netlist input start cap part is place few so_far.0 so_far.1 are next.0 next.1 next.2),
+        rw add-one at (one-more netlist input start cap first part is place few so_far.0 so_far.1 are next.0 next.1 next.2),
       )
 
   words-exist : (told : List (Option Word)) × AreCappedWords (network_of netlist) input start cap told
+  unfolding first
   words-exist =
       let all = words-to (length part.order) (omega arith) in (
         all.0,
-        all-words netlist input start cap part is all.0 all.1
-            (subst (λ (placed : List ℕ). AreWordsSoFar (network_of netlist) input start cap placed all.0 all.1) (take-length part.order) all.2),
+        all-words netlist input start cap first part is all.0 all.1 (λ i few clear. none-at (length (network_of netlist)) i)
+            (subst (λ (placed : List ℕ). AreWordsSoFar (network_of netlist) input start cap first placed all.0 all.1) (take-length part.order) all.2),
       )
 
 pub words : WordsExist

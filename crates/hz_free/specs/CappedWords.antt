@@ -1,9 +1,9 @@
 -- The words in the making: which variables have one so far, and how a variable is driven by what it is.
-use Rattle.std.specs.Prelude.{◌≡◌, ℕ, ◌+◌, ◌<◌, ◌≤◌, Bool, false, Option, Some, None, List, [], length, map, IsTrue, slice_index_or}
+use Rattle.std.specs.Prelude.{◌≡◌, ℕ, ◌+◌, ◌<◌, ◌≤◌, Bool, false, Option, Some, None, List, [], ◌∷◌, length, map, IsTrue, slice_index_or, if◌then◌else◌}
 use Rattle.hz_core.specs.declared.kind.Kind.{Kind}
 use Rattle.hz_core.specs.Gate.{takes}
 use Rattle.hz_core.specs.Netlist.{Netlist, IsGateNumber, gate_at}
-use Rattle.hz_net.specs.Network.{Driver, External, Function, Source, network_of, driver_at, IsVariable}
+use Rattle.hz_net.specs.Network.{Driver, External, Function, Source, network_of, driver_at, IsVariable, bit_at}
 use Rattle.hz_net.specs.Reads.{Reads}
 use Rattle.hz_net.specs.Variables.{first_wire}
 use Rattle.hz_net.specs.declared.variable.VarKind.{VarKind}
@@ -28,9 +28,21 @@ IsDrivenAs netlist var (GateVariable kind) =
 IsDrivenAs netlist var (WireVariable gate pin source) =
     (driver_at (network_of netlist) var ≡ Source source) × (IsVariable netlist source)
 
--- Each placed variable has a word, made of those that it reads, and its capped form is told; the others are told nothing.
-pub record AreWordsSoFar (net : List Driver) (input start : List Bool) (cap : ℕ) (placed : List ℕ)
-    (told : List (Option Word)) (words : List (List Bool)) : Type 0 where
+-- what a variable is told at first: if it is feedback-free, the word of one that keeps its value, else nothing
+abbrev pub constant_if : Bool → Bool → Option Word
+constant_if free value = if free then Some (capped_word 0 (value ∷ [])) else None
+
+-- so it is with each variable
+abbrev pub AreConstant : List Bool → List Bool → List (Option Word) → Type 0
+AreConstant free start told =
+    (i : ℕ) → i < length told →
+    slice_index_or told i None ≡ constant_if (bit_at free i) (bit_at start i)
+
+-- Each placed variable has a word, made of those that it reads, and its capped form is told; the others are told what they were
+-- told at first.
+pub record AreWordsSoFar (net : List Driver) (input start : List Bool) (cap : ℕ)
+    (first : List (Option Word)) (placed : List ℕ) (told : List (Option Word))
+    (words : List (List Bool)) : Type 0 where
   pub long : length words ≡ length net
   pub told_long : length told ≡ length net
   pub is_word : (i : ℕ) → IsTrue (is_listed placed i) → IsWord (slice_index_or words i [])
@@ -38,14 +50,16 @@ pub record AreWordsSoFar (net : List Driver) (input start : List Bool) (cap : �
       IsDrivenWord input start words i (driver_at net i) (slice_index_or words i [])
   pub tells : (i : ℕ) → IsTrue (is_listed placed i) →
       slice_index_or told i None ≡ Some (capped_word cap (slice_index_or words i []))
-  pub others : (i : ℕ) → is_listed placed i ≡ false → slice_index_or told i None ≡ None
+  pub others : (i : ℕ) → is_listed placed i ≡ false →
+      slice_index_or told i None ≡ slice_index_or first i None
 
 -- all variables that a variable reads are placed, and the placed variables have their words
 pub record IsReady (net : List Driver) (input start : List Bool) (cap : ℕ)
     (told : List (Option Word)) (var : ℕ) : Type 0 where
+  pub first : List (Option Word)
   pub placed : List ℕ
   pub words : List (List Bool)
-  pub are_told : AreWordsSoFar net input start cap placed told words
+  pub are_told : AreWordsSoFar net input start cap first placed told words
   pub reads : (j : ℕ) → Reads (driver_at net var) j → IsTrue (is_listed placed j)
 
 -- for all words that the placed variables have, among which are those that a variable reads, it has this word

@@ -10,13 +10,13 @@
 -- AreFeedbackCycles net cycles: all of them, by their least variables
 -- IsWayBack net i way end: from choice to choice
 -- IsCore net i cycle: the feedback cycle in which the way back ends
--- word_of_packed packed: the word that is packed, if there is one
+-- code_of word, word_of_code code: a word or none as one number, and back
 -- FreePart: what the code's Free keeps
 -- IsFreePart netlist part: it is that of the network
 -- MarksExist, WordsExist: there always are such marks and words
 -- occurrences i list: how often a list has a number
 -- IsOrdering readers variables place left unread order: a topological order so far
--- AreWordsSoFar net input start cap placed capped words: the words that were made so far
+-- AreWordsSoFar net input start cap first placed capped words: the words that were made so far
 -- IsNextWord net input start cap capped i word: the word of variable i by those that it reads
 -- AreLinks links, LeadsTo links i next, IsPath links start path end: a list of links, and the paths along it
 -- AreChoices net choices, AreRooted choices choosers roots below: the choices as links, and where they end

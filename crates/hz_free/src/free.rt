@@ -9,7 +9,7 @@ ghost use Rattle.hz_free.specs.Chains.{IsFeedbackFree};
 ghost use Rattle.hz_free.specs.Feedback.{IsFeedbackCycle, IsCore};
 ghost use Rattle.hz_free.specs.Order.{AreReads};
 ghost use Rattle.hz_free.specs.FreePart.{IsFreePart};
-ghost use Rattle.hz_free.specs.CappedWords.{IsReady, IsNextWord};
+ghost use Rattle.hz_free.specs.CappedWords.{AreConstant, constant_if, IsReady, IsNextWord};
 ghost use Rattle.hz_free.specs.VariableWords.{AreCappedWords};
 ghost use Rattle.hz_word.specs.Capped.{greatest_cap, IsWithinCap};
 
@@ -136,6 +136,7 @@ impl Free {
         requires out { AreByVariable net.now out.old }
         ensures { AreCappedWords (network_of net.now) input.now start.now cap out.new }
     {
+        fill(self.free.as_slice(), start, out);
         write_words(net, self.order.as_slice(), start, input, cap, None, out);
     }
 
@@ -159,12 +160,13 @@ impl Free {
         requires out { AreByVariable net.now out.old }
         ensures { AreCappedWords (network_of net.now) input.now start.now cap out.new }
     {
+        fill(self.free.as_slice(), start, out);
         write_words(net, self.order.as_slice(), start, input, cap, Some(a), out);
     }
 }
 
-// The words of the variables of an order, one after the other. If the result of Algorithm A is given, a variable that is 0 or 1
-// there is known not to change.
+// Folds the words of the variables of an order, one after the other. At first each has the word of a variable that does not change. If
+// the result of Algorithm A is given, a variable that is 0 or 1 there is known not to change.
 fn write_words<S: StoredWord>(
     net: &Net,
     order: &[u32],
@@ -176,7 +178,8 @@ fn write_words<S: StoredWord>(
 )
     requires part { (free : List Bool) × (cycles : List (List ℕ)) × (cores : List (Option ℕ))
         × IsFreePart net.now
-        (record { free = free; order = order.now; cycles = cycles; cores = cores }) }
+        (record { free = free; order = order.now; cycles = cycles; cores = cores })
+        × AreConstant free start.now (map S.word_in out.old) }
     requires start { IsStableStart net.now start.now }
     requires input { IsInput net.now input.now }
     requires cap_low { 1 ≤ cap }
@@ -188,14 +191,11 @@ fn write_words<S: StoredWord>(
 {
     // A getter of the network says that its circuit is one.
     let _variables = net.len();
-    clear(out);
     let mut pins = [NO_WORD; FEW_PINS];
     for var in order {
         if may_change(a, *var) {
             let word = word_of(net, start, input, cap, out, &mut pins, *var);
             keep(out, *var, word);
-        } else {
-            keep(out, *var, constant_word(start[*var as usize]));
         }
     }
 }
@@ -223,13 +223,24 @@ fn may_change(a: Option<&[Tri]>, var: u32) -> bool
 // Few gates have more pins.
 const FEW_PINS: usize = 16;
 
-// No variable has a word.
-fn clear<S: StoredWord>(out: &mut [S])
-    ensures { (i : ℕ) → slice_index_or (map S.word_in out.new) i None ≡ None }
+// Gives each feedback-free variable the word of one that does not change, and no word to the others.
+fn fill<S: StoredWord>(free: &[bool], start: &[bool], out: &mut [S])
+    requires free { length free.now ≡ length out.old }
+    requires start { length start.now ≡ length out.old }
+    ensures { AreConstant free.now start.now (map S.word_in out.new) }
 {
-    for word in out.iter_mut() {
-        *word = S::none();
+    for var in 0..out.len() {
+        out[var] = constant_if(free[var], start[var]);
     }
+}
+
+// The word of a variable that does not change, if it is feedback-free.
+#[inline(always)]
+fn constant_if<S: StoredWord>(free: bool, value: bool) -> S
+    ensures { S.word_in result ≡ constant_if free value }
+{
+    let constant = S::of(constant_word(value));
+    if free { constant } else { S::none() }
 }
 
 // The word of a variable, once all that it reads have one.

@@ -4,7 +4,7 @@
 //! |---|---|
 //! | `free` | `Free`, which is made for a network once, and gives its words for each change |
 //! | `order` | the feedback-free variables in a topological order |
-//! | `packed` | `PackedWord`, a word or none in eight bytes |
+//! | `packed` | `PackedWord`, a word or none in four bytes |
 //! | `words` | the words of an input and of a gate |
 //! | `feedback` | the feedback cycles, and the core of each variable that is not feedback-free |
 //! | `cycles` | a list of cycles |

@@ -5,32 +5,35 @@ ghost use Rattle.hz_word.specs.Capped.{IsWithinCap, greatest_cap};
 use hz_word::{Count, Word};
 use std::marker::Model;
 
-/// A word or none, in eight bytes.
+// The code of no word.
+const NO_CODE: u32 = 2_000_004;
+
+// The code of a word with too many changes whose first letter is 0. That of the other one is next.
+const MANY_CODE: u32 = 2_000_002;
+
+/// A word or none, in four bytes.
+///
+/// It is seen as the word. The code of an exact one is twice its number of changes, and one more if its first letter is 1. It is below
+/// the codes of the others, since no cap is greater than 1,000,000.
 #[derive(Clone, Copy, Debug)]
 pub struct PackedWord {
-    word: Packed,
-}
-
-// A word or none, by the number of its changes: 32 bits hold what the greatest cap allows to count.
-#[derive(Clone, Copy, Debug)]
-enum Packed {
-    None,
-    Exact { first: bool, changes: u32 },
-    Many { first: bool },
+    code: u32,
 }
 
 impl Model for PackedWord {
-    ghost use Rattle.std.specs.Prelude.{Option};
+    ghost use Rattle.std.specs.Prelude.{◌≡◌, Option};
     ghost use Rattle.hz_word.specs.declared.word.Word.{Word};
-    ghost use Rattle.hz_free.specs.PackedWords.{packed_of, word_of_packed, packed-word};
+    ghost use Rattle.hz_free.specs.PackedWords.{code_of, word_of_code};
 
     ghost Value = { Option Word };
 
-    ghost view = { λ fields. word_of_packed fields.word };
+    ghost view = { λ fields. word_of_code fields.code };
 
-    ghost inverse = { λ word. record { word = packed_of word } };
+    ghost invariant = { λ fields. code_of (word_of_code fields.code) ≡ fields.code };
 
-    ghost inverse_ok = { λ fields whole dim. record { word = packed-word fields.word dim } };
+    ghost inverse = { λ word. record { code = code_of word } };
+
+    ghost inverse_ok = { λ fields whole dim. record { code = whole dim } };
 }
 
 impl PackedWord {
@@ -38,7 +41,7 @@ impl PackedWord {
     pub fn none() -> PackedWord
         ensures { result ≡ None }
     {
-        PackedWord { word: Packed::None }
+        PackedWord { code: NO_CODE }
     }
 
     /// A word whose number of changes, if it is exact, is at most the greatest cap.
@@ -46,32 +49,34 @@ impl PackedWord {
         requires { IsWithinCap greatest_cap word.changes }
         ensures { result ≡ Some word }
     {
-        let first = word.first;
-        let word = match word.changes {
-            Count::Exact(changes) => Packed::Exact {
-                first,
-                changes: changes as u32,
+        let letter = u32::from(word.first);
+        match word.changes {
+            Count::Exact(changes) => PackedWord {
+                code: changes as u32 * 2 + letter,
             },
-            Count::Many => Packed::Many { first },
-        };
-        PackedWord { word }
+            Count::Many => PackedWord {
+                code: MANY_CODE + letter,
+            },
+        }
     }
 
     /// The word, if there is one.
     pub fn get(self) -> Option<Word>
         ensures { result ≡ self }
     {
-        match self.word {
-            Packed::None => None,
-            Packed::Exact { first, changes } => Some(Word {
-                first,
-                changes: Count::Exact(u64::from(changes)),
-            }),
-            Packed::Many { first } => Some(Word {
-                first,
-                changes: Count::Many,
-            }),
+        if self.code < MANY_CODE {
+            return Some(Word {
+                first: self.code % 2 == 1,
+                changes: Count::Exact(u64::from(self.code / 2)),
+            });
         }
+        if self.code < NO_CODE {
+            return Some(Word {
+                first: self.code % 2 == 1,
+                changes: Count::Many,
+            });
+        }
+        None
     }
 }
 

@@ -1,5 +1,5 @@
 -- The lines and words that are kept, node by node, and what is written of them.
-use Rattle.std.proofs.Common.{◌≡◌, ◌∙◌, refl, sym, ap, subst, ℕ, suc, ◌+◌, ◌-◌, ◌<◌, ◌≤◌, Bool, false, List, [], ◌∷◌, ◌++◌, length, map, take, drop, set, get_or, slice_get, Some, append_assoc, arith, codes, inl, inr, add-one, zero-add}
+use Rattle.std.proofs.Common.{◌≡◌, ◌∙◌, refl, sym, ap, subst, ℕ, suc, ◌+◌, ◌-◌, ◌<◌, ◌≤◌, Bool, false, List, [], ◌∷◌, ◌++◌, length, map, take, drop, set, get_or, slice_get, Some, append_assoc, arith, codes, inl, inr, add-one}
 use Rattle.std.specs.List.{between, flat_map}
 use Rattle.std.proofs.lemmas.List.{append-nil, take-take, take-append-drop, length-take-le}
 use Rattle.std.proofs.lemmas.List.Edits.{sets-eq, length-between}

@@ -1,11 +1,11 @@
 -- Texts of parts: where each part stands, and what a text is once the middle of one is written over.
-use Rattle.std.proofs.Common.{◌≡◌, ◌∙◌, refl, sym, ap, subst, ℕ, zero, suc, ◌+◌, ◌-◌, ◌<◌, ◌≤◌, List, [], ◌∷◌, ◌++◌, length, map, take, drop, get_or, slice_get, Some, append_assoc, arith, inl, inr, zero-add}
+use Rattle.std.proofs.Common.{◌≡◌, ◌∙◌, refl, sym, ap, subst, ℕ, zero, suc, ◌+◌, ◌-◌, ◌<◌, ◌≤◌, List, [], ◌∷◌, ◌++◌, length, map, take, drop, set, get_or, slice_get, Some, append_assoc, arith, zero-add}
 use Rattle.std.proofs.Math.Numerals.{add-one}
-use Rattle.std.specs.List.{between, range_with_len}
-use Rattle.std.proofs.lemmas.List.{append-nil, length-append, length-map, map-append, take_at, drop_at, take_all}
+use Rattle.std.specs.List.{between}
+use Rattle.std.proofs.lemmas.List.{append-nil, length-append, length-map, map-append, take_at, drop_at, take_all, take-append-drop, take-set, drop-set, set-get_or, length-take-le}
 use Rattle.std.proofs.lemmas.List.Edits.{between_none, between_more, length-between}
 use Rattle.std.proofs.lemmas.List.FromFn.{get_or-map-range_with_len, map-range_with_len_more, length-map-range_with_len}
-use Rattle.std.proofs.lemmas.Option.{get_or_from_slice_get, slice_get_within}
+use Rattle.std.proofs.lemmas.Option.{get_or_from_slice_get}
 use Rattle.std.proofs.lemmas.Slice.{between_from_start}
 use Rattle.hz_report.specs.Kept.{parts_text, part_place, AreWide, ArePartsOf, AreParts}
 
@@ -269,6 +269,35 @@ module _ {X : Type 0} (value : X → List ℕ) (stem : ℕ → List ℕ) (tail :
       (take (get_or begins (upto + 1) 0 - length tail - width) text ++ (now ++ drop (get_or begins (upto + 1) 0 - length tail) text)) begins
   under-more from upto item now text begins under within enough there is wide =
       more from upto under.ahead under.left item now text begins under.long under.ordered within enough there is wide under.are
+
+  -- one middle is written over
+  pub written-one : (upto : ℕ) (item : X) (now text begins : List ℕ) (middles : List (List ℕ)) → ArePartsOf stem tail width count middles text begins → upto < count → count ≤ length items
+      → slice_get items upto ≡ Some item → now ≡ value item → length now ≡ width
+      → ArePartsOf stem tail width count (set middles upto now)
+      (take (get_or begins (upto + 1) 0 - length tail - width) text ++ (now ++ drop (get_or begins (upto + 1) 0 - length tail) text)) begins
+  unfolding more
+  written-one upto item now text begins middles are within enough there is wide =
+      let inside : upto < length middles = omega (arith, are.long, within) in
+      let ahead = take upto middles in
+      let left = drop (upto + 1) middles in
+      let middle = get_or middles upto [] in
+      let cut : (one : List ℕ) → set middles upto one ≡ ahead ++ one ∷ left = λ one.
+      sym (take-append-drop upto (set middles upto one))
+      ∙ ap (λ (list : List (List ℕ)). list ++ drop upto (set middles upto one)) (take-set middles upto one)
+      ∙ ap (λ (list : List (List ℕ)). ahead ++ list) (drop-set middles upto one inside) in
+      let block : map value (between upto upto items) ≡ [] = ap (map value) (between_none items upto) in
+      let was : middles ≡ ahead ++ (map value (between upto upto items) ++ middle ∷ left) =
+      sym (set-get_or middles upto []) ∙ cut middle ∙ ap (λ (list : List (List ℕ)). ahead ++ (list ++ middle ∷ left)) (sym block) in
+      let one : map value (between upto (upto + 1) items) ≡ now ∷ [] =
+      ap (map value) (between_more items upto upto item (omega arith) (omega (arith, within, enough)))
+      ∙ ap (λ (list : List X). map value (list ++ get_or items upto item ∷ [])) (between_none items upto)
+      ∙ ap (λ (last : X). value last ∷ []) (get_or_from_slice_get items upto item item there)
+      ∙ ap (λ (last : List ℕ). last ∷ []) (sym is) in
+      let put = more upto upto ahead (middle ∷ left) item now text begins (length-take-le upto middles (omega arith)) (omega arith) within enough there is wide
+      (subst (λ (list : List (List ℕ)). ArePartsOf stem tail width count list text begins) was are) in
+      subst (λ (list : List (List ℕ)). ArePartsOf stem tail width count list
+      (take (get_or begins (upto + 1) 0 - length tail - width) text ++ (now ++ drop (get_or begins (upto + 1) 0 - length tail) text)) begins)
+      (ap (λ (list : List (List ℕ)). ahead ++ (list ++ left)) one ∙ sym (cut now)) put.are
 
   -- one middle more is passed over, and all before it too
   skip : (from upto : ℕ) (ahead left : List (List ℕ)) (text begins : List ℕ) → length ahead ≡ from → from ≤ upto → upto < count → count ≤ length items

@@ -1,11 +1,13 @@
 //! The lines of variables.
-ghost use Rattle.std.specs.Prelude.{◌≡◌, ◌<◌, ◌≤◌, ◌-◌, ◌+◌, ◌∷◌, ◌++◌, length, take, drop, slice_index, slice_range, codes, decimal, IfSome};
+ghost use Rattle.std.specs.Prelude.{◌≡◌, ◌<◌, ◌≤◌, ◌-◌, ◌+◌, ◌∷◌, ◌++◌, length, take, drop, slice_index, slice_range, codes, decimal, true, IfSome};
 ghost use Rattle.hz_core.specs.Netlist.{IsCircuit};
-ghost use Rattle.hz_net.specs.Network.{AreByVariable, IsVariable};
+ghost use Rattle.hz_net.specs.Network.{AreByVariable, IsVariable, network_of};
 ghost use Rattle.hz_text.specs.Printed.{letter_of};
 ghost use Rattle.hz_write.specs.Writer.{Writes, NoneWaits};
 ghost use Rattle.hz_desk.specs.declared.class.Class.TheVariants.{Single, Steady};
-ghost use Rattle.hz_report.specs.Kept.{AreRowParts, AreLines};
+ghost use Rattle.hz_report.specs.Kept.{AreRowParts, AreRowLines, AreLines};
+ghost use Rattle.hz_net.specs.Passes.{IsKnown};
+ghost use Rattle.hz_report.specs.Steady.{AreSteadyWhereKnown};
 ghost use Rattle.hz_report.specs.Report.{changes_word, class_word, row_line, row_lines, row_text, shown_count, shown_rows};
 ghost use Rattle.hz_report.specs.Words.{tri_letter};
 
@@ -37,30 +39,39 @@ pub(crate) fn write_rows<K: Sink>(writer: &mut Writer<'_, K>, net: &Net, rows: &
     }
 }
 
-// Gives the line of each node, most of them as lines that are kept, after the common rows are
-// written over them.
+// Gives the line of each node, most of them as lines that are kept. A node that stays as it is shown is passed over, and other common
+// rows are written over their lines.
 pub(crate) fn write_kept_rows<K: Sink>(
     writer: &mut Writer<'_, K>,
     net: &Net,
     rows: &Rows,
     text: &mut [u8],
     begins: &[usize],
+    shown: &mut [Tri],
 )
     requires rows { AreByVariable net.now rows.now }
-    requires kept { AreRowParts net.now (length net.now.names) text.old begins.now }
+    requires steady { AreSteadyWhereKnown (network_of net.now) rows.now }
+    requires kept { AreRowLines net.now text.old begins.now shown.old }
     requires none_waits { NoneWaits writer.old }
     ensures gave { Writes K.output K.faults
         (row_lines net.now 0 (take (length net.now.names) rows.now)) writer.old writer.new }
     ensures none_waits { NoneWaits writer.new }
-    ensures kept { AreRowParts net.now (length net.now.names) text.new begins.now }
+    ensures kept { AreRowLines net.now text.new begins.now shown.new }
 {
     let count = net.circuit().nodes() as usize;
     // The first node whose line was not given so far.
     let mut from = 0;
+    let a = rows.values_a();
     for var in 0..count {
+        if stays(shown[var], a[var]) {
+            continue;
+        }
         let row = rows.row(var);
         match common_text(row) {
-            Some(common) => set_row(net, text, begins, var, common),
+            Some(common) => {
+                set_row(net, text, begins, var, common);
+                shown[var] = row.a;
+            }
             None => {
                 write_lines(writer, kept_lines(net, text, begins, from, var));
                 write_rare_row(writer, net, var as u32, row);
@@ -69,6 +80,14 @@ pub(crate) fn write_kept_rows<K: Sink>(
         }
     }
     write_lines(writer, kept_lines(net, text, begins, from, count));
+}
+
+// Whether a variable is known, and has the value that is shown.
+#[inline(always)]
+fn stays(shown: Tri, a: Tri) -> bool
+    ensures { result ≡ true → (shown ≡ a) × IsKnown a }
+{
+    shown == a && a != Unknown
 }
 
 // Writes a common row over that of a node.

@@ -1,8 +1,8 @@
 -- One word after the other gets its bit.
-use Rattle.std.proofs.Common.{◌≡◌, ◌∙◌, ◌+◌, ◌-◌, ◌<◌, ◌≤◌, Bool, List, ℕ, [], ◌∷◌, length, get_or, slice_get, Some, refl, sym, ap, arith}
+use Rattle.std.proofs.Common.{◌+◌, ◌<◌, Bool, [], ◌∷◌, length, sym, ap, arith}
 use Rattle.hz_text.specs.Printed.{letter_of}
 use Rattle.hz_report.specs.Kept.{bit_stem}
-use Rattle.hz_report.proofs.PartLemmas.{under-begin, under-parts, under-whole, length-begins, middle-within, begin-within}
+use Rattle.hz_report.proofs.PartLemmas.{under-begin, under-parts, length-begins, middle-within, begin-within}
 use Rattle.hz_report.proofs.KeptLemmas.{bit-set}
 use Rattle.hz_report.proofs.head.set_bits.Goals as goal
 use Rattle.hz_report.proofs.head.set_bits.Goals.{then-bit, else-bit}

@@ -1,5 +1,5 @@
 -- Parts begin in their order, and in the text.
-use Rattle.std.proofs.Common.{◌+◌, ◌<◌, ◌≤◌, ℕ, length, Fits, w64, arith}
+use Rattle.std.proofs.Common.{length, arith}
 use Rattle.hz_core.specs.Netlist.{node_name}
 use Rattle.hz_write.specs.Writes.{newline}
 use Rattle.hz_report.proofs.PartLemmas.{length-begins, begin-ordered, begin-within}

@@ -1,5 +1,5 @@
 -- The row stands before the end of its line, which is in the text.
-use Rattle.std.proofs.Common.{◌+◌, ◌<◌, ◌≤◌, length, arith}
+use Rattle.std.proofs.Common.{◌+◌, length, arith}
 use Rattle.hz_core.specs.Netlist.{node_name}
 use Rattle.hz_write.specs.Writes.{newline}
 use Rattle.hz_report.proofs.PartLemmas.{length-begins, middle-within, begin-within}

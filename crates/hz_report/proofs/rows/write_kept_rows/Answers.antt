@@ -1,14 +1,12 @@
 -- A common row is written over that of its node; before another row the lines so far are given.
-use Rattle.std.proofs.Common.{◌≡◌, ◌∙◌, ◌+◌, ◌<◌, ◌≤◌, ℕ, List, ◌++◌, length, take, refl, sym, subst, arith}
-use Rattle.hz_core.specs.Netlist.{Netlist, node_name}
+use Rattle.std.proofs.Common.{◌≡◌, ◌∙◌, ◌<◌, ◌≤◌, length, sym, ap, subst, arith}
+use Rattle.std.proofs.lemmas.List.{length-map}
+use Rattle.hz_core.specs.declared.tri.Tri.{Tri}
 use Rattle.hz_net.proofs.Places.{length-network_of}
-use Rattle.hz_write.specs.Writes.{newline}
-use Rattle.hz_write.specs.Writer.{Writes}
 use Rattle.hz_write.proofs.Writers.{writes_nothing, writes_same, writes_then}
 use Rattle.hz_desk.specs.declared.finding.Row.{Row}
 use Rattle.hz_report.specs.Kept.{AreLines}
-use Rattle.hz_report.specs.Report.{row_line, row_lines, row_text}
-use Rattle.hz_report.proofs.PartLemmas.{under-begin, under-parts, under-more, under-skip}
+use Rattle.hz_report.proofs.SteadyLemmas.{put-begin, put-skip, put-set, put-stay, put-under}
 use Rattle.hz_report.proofs.KeptLemmas.{kept-lines, lines-joined}
 use Rattle.hz_report.proofs.RowLemmas.{row_lines_more}
 use Rattle.hz_report.proofs.rows.write_kept_rows.Goals as goal
@@ -16,7 +14,7 @@ use Rattle.hz_report.proofs.rows.write_kept_rows.Goals.{in-Some, in-None}
 
 pub loop-var-init : goal.loop-var-init
 loop-var-init g c = (
-  under-begin row_text (node_name c.args.net.now.names) newline 33 (length c.args.net.now.names) c.args.rows.now c.args.text.now c.args.begins.now c.requires.kept,
+  put-begin c.args.net.now c.args.rows.now c.args.begins.now c.args.text.now c.args.shown.now c.requires.kept,
   writes_nothing c.args.writer.now,
   c.requires.none_waits,
 )
@@ -27,12 +25,32 @@ row-row-requires g c =
     let count : c.nodes-count.result ≡ length netlist.names = rw c.circuit.ensures.same at c.nodes-count.ensures.nodes in
     omega (arith, count, c.loop-var-test.true, c.requires.rows, length-network_of netlist c.circuit.ensures.circuit)
 
+pub bounds-a-var : goal.bounds-a-var
+bounds-a-var g c =
+    let netlist = c.args.net.now in
+    let count : c.nodes-count.result ≡ length netlist.names = rw c.circuit.ensures.same at c.nodes-count.ensures.nodes in
+    let long : length c.values_a-a.result.now ≡ length c.args.rows.now = ap (length {A = Tri}) c.values_a-a.ensures ∙ length-map c.args.rows.now (λ (row : Row). row.a) in
+    omega (arith, count, c.loop-var-test.true, c.requires.rows, length-network_of netlist c.circuit.ensures.circuit, long)
+
+pub loop-var-preserved-then-stays : goal.loop-var-preserved-then-stays
+loop-var-preserved-then-stays g c =
+    let netlist = c.args.net.now in
+    let rows = c.args.rows.now in
+    let count : c.nodes-count.result ≡ length netlist.names = rw c.circuit.ensures.same at c.nodes-count.ensures.nodes in
+    let within : c.loop-var.var < length netlist.names = omega (arith, count, c.loop-var-test.true) in
+    let enough : length netlist.names ≤ length rows = omega (arith, c.requires.rows, length-network_of netlist c.circuit.ensures.circuit) in
+    let told = rw c.values_a-a.ensures at (c.stays.ensures c.if-stays.true) in (
+      put-stay netlist rows c.args.begins.now c.loop-var.from c.loop-var.var c.loop-var.text c.loop-var.shown c.requires.steady enough within told.0 told.1 c.loop-var.invariant.0,
+      c.loop-var.invariant.1,
+      c.loop-var.invariant.2,
+    )
+
 pub write_lines-requires-clause-lines : goal.write_lines-requires-clause-lines
 write_lines-requires-clause-lines g c =
     let netlist = c.args.net.now in
     let count : c.nodes-count.result ≡ length netlist.names = rw c.circuit.ensures.same at c.nodes-count.ensures.nodes in
     let enough : length netlist.names ≤ length c.args.rows.now = omega (arith, c.requires.rows, length-network_of netlist c.circuit.ensures.circuit) in
-    let lines = kept-lines netlist c.args.rows.now c.loop-var.from c.loop-var.var c.loop-var.text c.args.begins.now enough (omega (arith, count, c.loop-var-test.true)) c.loop-var.invariant.0 in
+    let lines = kept-lines netlist c.args.rows.now c.loop-var.from c.loop-var.var c.loop-var.text c.args.begins.now enough (omega (arith, count, c.loop-var-test.true)) (put-under c.args.net.now c.args.rows.now c.args.begins.now c.loop-var.from c.loop-var.var c.loop-var.text c.loop-var.shown (omega (arith, count, c.loop-var-test.true, c.loop-var.invariant.0.ordered)) c.loop-var.invariant.0) in
     subst AreLines (sym c.kept_lines.ensures) lines.1
 
 pub write_rare_row-requires : goal.write_rare_row-requires
@@ -53,18 +71,19 @@ loop-var-preserved g c =
     let count : c.nodes-count.result ≡ length netlist.names = rw c.circuit.ensures.same at c.nodes-count.ensures.nodes in
     let within : var < length netlist.names = omega (arith, count, c.loop-var-test.true) in
     let enough : length netlist.names ≤ length rows = omega (arith, c.requires.rows, length-network_of netlist c.circuit.ensures.circuit) in
+    let under = put-under netlist rows begins from var text c.loop-var.shown (omega (arith, within, so_far.0.ordered)) so_far.0 in
     elim c.match-common_text.branch [
-      | in-Some w ↦ rw (w.writer-is, w.text-is, w.from-is, w.set_row.ensures.written) (
-        under-more row_text (node_name netlist.names) newline 33 (length netlist.names) rows from var c.row-row.result w.in-Some.common.now text begins so_far.0 within enough
-            c.row-row.ensures w.in-Some.ensures w.set_row.ensures.long,
+      | in-Some w ↦ rw (w.writer-is, w.text-is, w.shown-is, w.from-is, w.set_row.ensures.written) (
+        put-set netlist rows begins from var c.row-row.result w.in-Some.common.now text c.loop-var.shown c.requires.steady enough within
+            c.row-row.ensures w.in-Some.ensures w.set_row.ensures.long so_far.0,
         so_far.1,
         so_far.2,
       )
-      | in-None w ↦ rw (w.writer-is, w.text-is, w.from-is) (
-        under-skip row_text (node_name netlist.names) newline 33 (length netlist.names) rows from var text begins so_far.0 within enough,
+      | in-None w ↦ rw (w.writer-is, w.text-is, w.shown-is, w.from-is) (
+        put-skip netlist rows begins from var text c.loop-var.shown so_far.0,
         writes_then
             (writes_then so_far.1
-            (writes_same w.write_lines.ensures.gave (w.kept_lines.ensures ∙ (kept-lines netlist rows from var text begins enough (omega (arith, within)) so_far.0).0))
+            (writes_same w.write_lines.ensures.gave (w.kept_lines.ensures ∙ (kept-lines netlist rows from var text begins enough (omega (arith, within)) under).0))
             (lines-joined netlist rows from var so_far.0.ordered (omega (arith, within, enough))))
             w.write_rare_row.ensures.gave (sym (row_lines_more netlist rows var c.row-row.result c.row-row.ensures)),
         w.write_rare_row.ensures.none_waits,
@@ -77,7 +96,7 @@ write_lines-requires-2-clause-lines g c =
     let count : c.nodes-count.result ≡ length netlist.names = rw c.circuit.ensures.same at c.nodes-count.ensures.nodes in
     let end : c.nodes-count.result ≡ c.loop-var.var = omega (arith, c.loop-var-test.false, c.loop-var.auto.var-end) in
     let enough : length netlist.names ≤ length c.args.rows.now = omega (arith, c.requires.rows, length-network_of netlist c.circuit.ensures.circuit) in
-    let lines = kept-lines netlist c.args.rows.now c.loop-var.from c.loop-var.var c.loop-var.text c.args.begins.now enough (omega (arith, count, end)) c.loop-var.invariant.0 in
+    let lines = kept-lines netlist c.args.rows.now c.loop-var.from c.loop-var.var c.loop-var.text c.args.begins.now enough (omega (arith, count, end)) (put-under c.args.net.now c.args.rows.now c.args.begins.now c.loop-var.from c.loop-var.var c.loop-var.text c.loop-var.shown (omega (arith, count, end, c.loop-var.invariant.0.ordered)) c.loop-var.invariant.0) in
     subst AreLines (sym (rw end at c.kept_lines-2.ensures)) lines.1
 
 pub returns-clause-gave : goal.returns-clause-gave
@@ -87,7 +106,7 @@ returns-clause-gave g c =
     let count : c.nodes-count.result ≡ length netlist.names = rw c.circuit.ensures.same at c.nodes-count.ensures.nodes in
     let end : c.nodes-count.result ≡ c.loop-var.var = omega (arith, c.loop-var-test.false, c.loop-var.auto.var-end) in
     let enough : length netlist.names ≤ length rows = omega (arith, c.requires.rows, length-network_of netlist c.circuit.ensures.circuit) in
-    let lines = kept-lines netlist rows c.loop-var.from c.loop-var.var c.loop-var.text c.args.begins.now enough (omega (arith, count, end)) c.loop-var.invariant.0 in
+    let lines = kept-lines netlist rows c.loop-var.from c.loop-var.var c.loop-var.text c.args.begins.now enough (omega (arith, count, end)) (put-under c.args.net.now c.args.rows.now c.args.begins.now c.loop-var.from c.loop-var.var c.loop-var.text c.loop-var.shown (omega (arith, count, end, c.loop-var.invariant.0.ordered)) c.loop-var.invariant.0) in
     let all : c.loop-var.var ≡ length netlist.names = sym end ∙ count in
     rw all at (writes_then c.loop-var.invariant.1 (writes_same c.write_lines-2.ensures.gave ((rw end at c.kept_lines-2.ensures) ∙ lines.0))
     (lines-joined netlist rows c.loop-var.from c.loop-var.var c.loop-var.invariant.0.ordered (omega (arith, count, end, enough))))

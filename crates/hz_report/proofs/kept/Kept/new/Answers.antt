@@ -1,6 +1,5 @@
 -- One line and one word more.
-use Rattle.std.proofs.Common.{refl}
-use Rattle.hz_report.proofs.KeptLemmas.{row-more, bit-more, none-kept}
+use Rattle.hz_report.proofs.KeptLemmas.{row-more, bit-more}
 use Rattle.hz_report.proofs.kept.Kept.new.Goals as goal
 
 pub loop-node-preserved : goal.loop-node-preserved

@@ -1,6 +1,0 @@
--- None so far.
-use Rattle.std.proofs.Common.{◌≡◌, ℕ, ◌<◌, None, map, get_or}
-use Rattle.hz_free.proofs.free.clear.Given as goal
-
-abbrev pub invariant-loop-word : goal.invariant-loop-word
-invariant-loop-word g l = (k : ℕ) → k < l.word-index → get_or (map g.S.StoredWord.word_in l.out) k None ≡ None
