@@ -17,7 +17,7 @@ use hz_options::Options;
 use hz_outside::{PutFault, Sink};
 use hz_reach::run_counts;
 use hz_refusal::{Status, status_after};
-use hz_report::{Plate, rows_are_steady, write_change, write_head, write_stopped};
+use hz_report::{Plate, write_change, write_head, write_stopped};
 use hz_seq::Sequence;
 use hz_text::{Script, printed_runs_are_read};
 use hz_write::Writer;
@@ -143,9 +143,6 @@ fn write_next<K: Sink>(
     ensures none_waits { NoneWaits writer.new }
     ensures plate { plate.new ≡ plate.old }
 {
-    // A getter of the network says that its circuit is whole, and the law, what rows a right finding has.
-    let _variables = plate.net().len();
-    rows_are_steady();
     match sequence.next(change, cap) {
         Ok(finding) => write_change(writer, plate, number, change, finding),
         Err(stopped) => write_stopped(writer, plate.net(), number, change, stopped.var),

@@ -1,6 +1,7 @@
 -- The rows that lists of values and words stand for.
 use Rattle.std.proofs.Common.{◌≡◌, ◌∙◌, refl, sym, ap, subst, ℕ, ◌<◌, Bool, false, Option, Some, None, List, length, map, get_or, All, arith}
 use Rattle.std.specs.List.{slice_get, range_with_len}
+use Rattle.std.specs.Prelude.{IfSome}
 use Rattle.std.proofs.lemmas.List.{get_or-map, get_or_read, length-map}
 use Rattle.std.proofs.lemmas.List.Elements.{All-from_get_or, All-map}
 use Rattle.std.proofs.lemmas.List.FromFn.{fill_by_all, get_or-map-range_with_len, get_or-range_with_len, length-map-range_with_len, length-range_with_len}
@@ -11,6 +12,7 @@ use Rattle.hz_core.specs.declared.tri.Tri.TheVariants.{Zero}
 use Rattle.hz_core.specs.Netlist.{Netlist}
 use Rattle.hz_net.specs.Network.{Driver, bit_at, value_at}
 use Rattle.hz_word.specs.declared.word.Word.{Word}
+use Rattle.hz_desk.specs.declared.finding.Rest.{Rest}
 use Rattle.hz_desk.specs.declared.finding.Row.{Row}
 use Rattle.hz_desk.specs.Class.{IsClass}
 use Rattle.hz_free.specs.VariableWords.{AreCappedWords}
@@ -18,7 +20,7 @@ use Rattle.hz_desk.specs.Filled.{AreRowsOfChange}
 use Rattle.hz_desk.specs.Finding.{values_a, values_b}
 use Rattle.hz_desk.specs.ResultsOfPasses.{ArePassResults}
 use Rattle.hz_desk.specs.Rows.{changes_of, AreRowsOf, MayBeRows}
-use Rattle.hz_desk.specs.RowsOf.{row_with, row_at, rows_of, AreEquallyLong}
+use Rattle.hz_desk.specs.RowsOf.{row_with, row_at_rest, row_at, rows_of, AreEquallyLong}
 use Rattle.hz_desk.proofs.ClassTable.{has_class}
 
 -- a row has the class of what it holds
@@ -122,3 +124,9 @@ module _ (start : List Bool) (a b : List Tri) (words : List (Option Word)) where
         are_words = are;
         are_rows = record { starts = rows.starts; in_a = refl; in_b = refl; changes = rows.changes; classes = rows.classes };
       }
+
+-- the row of a variable that rests
+pub rest-read : (rows : List Row) (i : ℕ) (row : Row) → slice_get rows i ≡ Some row → (rest : Option Rest) → IfSome rest (λ (r : Rest). row ≡ row_at_rest r)
+    → IfSome rest (λ (r : Rest). slice_get rows i ≡ Some (row_at_rest r))
+rest-read rows i row there None known = known
+rest-read rows i row there (Some rest) known = there ∙ ap (λ (r : Row). Some r) known

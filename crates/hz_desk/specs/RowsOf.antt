@@ -1,9 +1,13 @@
 -- What the lists of a finding stand for: a row for each variable. Words about the inside of hz_desk.
-use Rattle.std.specs.Prelude.{◌≡◌, ℕ, Bool, Option, None, List, length, map}
+use Rattle.std.specs.Prelude.{◌≡◌, ℕ, Bool, Option, Some, None, List, length, map, if◌then◌else◌}
 use Rattle.std.specs.List.{slice_index_or, range_with_len}
 use Rattle.hz_core.specs.declared.tri.Tri.{Tri}
+use Rattle.hz_core.specs.Ternary.{tri_of}
 use Rattle.hz_net.specs.Network.{bit_at, value_at}
 use Rattle.hz_word.specs.declared.word.Word.{Word}
+use Rattle.hz_word.specs.declared.count.Count.TheVariants.{Exact}
+use Rattle.hz_desk.specs.declared.class.Class.TheVariants.{Steady}
+use Rattle.hz_desk.specs.declared.finding.Rest.{Rest}
 use Rattle.hz_desk.specs.declared.finding.Row.{Row}
 use Rattle.hz_desk.specs.Rows.{changes_of}
 use Rattle.hz_desk.specs.ClassTable.{class_in_table}
@@ -17,6 +21,17 @@ row_with start a b word =
       b = b;
       changes = changes_of word;
       class = class_in_table start a b (changes_of word);
+    }
+
+-- the row of a variable that never changes
+abbrev pub row_at_rest : Rest → Row
+row_at_rest rest =
+    record {
+      start = rest.value;
+      a = tri_of rest.value;
+      b = tri_of rest.value;
+      changes = if rest.counted then Some (Exact 0) else None;
+      class = Steady;
     }
 
 -- the row of variable i

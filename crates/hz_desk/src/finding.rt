@@ -1,9 +1,9 @@
 //! What is found of one change.
-ghost use Rattle.std.specs.Prelude.{◌≡◌, ◌<◌, ◌≤◌, Some, length, map, IfOk};
+ghost use Rattle.std.specs.Prelude.{◌≡◌, ◌<◌, ◌≤◌, Some, length, map, IfOk, IfSome};
 ghost use Rattle.std.specs.List.{slice_get};
 ghost use Rattle.hz_desk.specs.Finding.{values_a, values_b};
 ghost use Rattle.hz_desk.specs.Rows.{changes_of};
-ghost use Rattle.hz_desk.specs.RowsOf.{row_with};
+ghost use Rattle.hz_desk.specs.RowsOf.{row_with, row_at_rest};
 ghost use Rattle.hz_desk.specs.FindingRoom.{HasRooms};
 ghost use Rattle.hz_core.specs.Limits.{most_variables};
 
@@ -28,6 +28,15 @@ pub struct Row {
     pub changes: Option<Count>,
     /// What the change may do to it.
     pub class: Class,
+}
+
+/// What a variable rests at that never changes.
+#[derive(Clone, Copy, Debug, PartialEq, Eq)]
+pub struct Rest {
+    /// The value that it keeps.
+    pub value: bool,
+    /// Whether it has a number of changes, which is 0. It has none if it isn't feedback-free.
+    pub counted: bool,
 }
 
 /// A row for each variable, in the order of the network's variables. The values of all rows are kept in a list for each kind, and
@@ -88,6 +97,20 @@ impl Rows {
         )
     }
 
+    /// What a variable rests at, if its row is seen to be that of one that never changes. It takes less time than the row. If it
+    /// returns none, nothing is known of the row.
+    pub fn rest(&self, var: usize) -> Option<Rest>
+        requires { var < length self.now }
+        ensures { IfSome result (λ rest. slice_get self.now var ≡ Some (row_at_rest rest)) }
+    {
+        rest_of(
+            self.start[var],
+            self.a[var],
+            self.b[var],
+            self.words[var].get(),
+        )
+    }
+
     /// The values of all variables at the start.
     pub fn starts(&self) -> &[bool]
         ensures { result.now ≡ map (λ row. row.start) self.now }
@@ -135,6 +158,31 @@ fn row_of(start: bool, a: Tri, b: Tri, word: Option<Word>) -> Row
         b,
         changes,
         class: class_of(start, a, b, changes),
+    }
+}
+
+// What a variable rests at that is made of this, if it never changes.
+fn rest_of(start: bool, a: Tri, b: Tri, word: Option<Word>) -> Option<Rest>
+    ensures { IfSome result (λ rest. row_with start a b word ≡ row_at_rest rest) }
+{
+    match (start, a, b, changes_of(word)) {
+        (false, Tri::Zero, Tri::Zero, Some(Count::Exact(0))) => Some(Rest {
+            value: false,
+            counted: true,
+        }),
+        (true, Tri::One, Tri::One, Some(Count::Exact(0))) => Some(Rest {
+            value: true,
+            counted: true,
+        }),
+        (false, Tri::Zero, Tri::Zero, None) => Some(Rest {
+            value: false,
+            counted: false,
+        }),
+        (true, Tri::One, Tri::One, None) => Some(Rest {
+            value: true,
+            counted: false,
+        }),
+        _ => None,
     }
 }
 

@@ -24,4 +24,4 @@ mod runs;
 pub use class::{Class, one_class};
 pub use desk::Desk;
 pub use existence::findings_exist;
-pub use finding::{Bits, Finding, Row, Rows};
+pub use finding::{Bits, Finding, Rest, Row, Rows};

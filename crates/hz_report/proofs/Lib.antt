@@ -17,6 +17,4 @@ pub mod PartLemmas
 -- The lines and words that are kept, node by node, and what is written of them
 pub mod KeptLemmas
 -- The lines that are kept while rows are put over them: which of them stay
-pub mod SteadyLemmas
--- In a right finding each variable that is 0 or 1 in Algorithm A has the row of one that never changes
-pub mod SteadyFindings
+pub mod ShownLemmas

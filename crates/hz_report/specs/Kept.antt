@@ -1,12 +1,10 @@
 -- Texts of parts, one a node, that are kept as bytes: in each part only the middle changes, and not its length. Words about the inside of hz_report.
-use Rattle.std.specs.Prelude.{◌≡◌, ℕ, zero, suc, ◌+◌, ◌<◌, ◌⊎◌, Bool, List, [], ◌∷◌, ◌++◌, length, map}
+use Rattle.std.specs.Prelude.{◌≡◌, ℕ, zero, suc, ◌+◌, ◌<◌, ◌⊎◌, Bool, Option, Some, None, List, [], ◌∷◌, ◌++◌, length, map}
 use Rattle.std.specs.List.{range_with_len, slice_index_or}
-use Rattle.hz_core.specs.declared.tri.Tri.{Tri}
 use Rattle.hz_core.specs.Netlist.{Netlist, node_name}
-use Rattle.hz_net.specs.Network.{network_of, value_at}
-use Rattle.hz_desk.specs.declared.finding.Row.{Row}
+use Rattle.hz_desk.specs.declared.finding.Rest.{Rest}
+use Rattle.hz_desk.specs.RowsOf.{row_at_rest}
 use Rattle.hz_report.specs.Report.{row_text}
-use Rattle.hz_report.specs.Steady.{IsSteadyRow}
 use Rattle.hz_write.specs.Writes.{newline}
 use Rattle.hz_text.specs.Printed.{letter_of}
 use Rattle.hz_report.specs.declared.kept.Kept.{Kept}
@@ -51,15 +49,16 @@ abbrev pub AreRowParts : Netlist → ℕ → List ℕ → List ℕ → Type 0
 AreRowParts netlist count text begins =
     AreParts (node_name netlist.names) newline 33 count text begins
 
--- Lines of all nodes. If a node is shown as 0 or 1, its line is that of a variable which never changes and has this value.
-pub record AreRowLines (netlist : Netlist) (text begins : List ℕ) (shown : List Tri) : Type 0 where
+-- Lines of all nodes. If it is told what a node rests at, its line is that of a variable which rests at this.
+pub record AreRowLines (netlist : Netlist) (text begins : List ℕ)
+    (shown : List (Option Rest)) : Type 0 where
   pub middles : List (List ℕ)
   pub are : ArePartsOf (node_name netlist.names) newline 33 (length netlist.names) middles text
       begins
   pub shown_long : length shown ≡ length netlist.names
-  pub shows : (i : ℕ) (row : Row) → i < length netlist.names →
-      IsSteadyRow (network_of netlist) i row →
-      value_at shown i ≡ row.a → slice_index_or middles i [] ≡ row_text row
+  pub shows : (i : ℕ) (rest : Rest) → i < length netlist.names →
+      slice_index_or shown i None ≡ Some rest →
+      slice_index_or middles i [] ≡ row_text (row_at_rest rest)
 
 -- words of so many nodes, each with its name and a bit
 abbrev pub AreBitParts : Netlist → ℕ → List ℕ → List ℕ → Type 0

@@ -20,16 +20,12 @@
 -- parts_text stem tail node middles, part_place stem size node: a text of parts, one a node, and where the part of a node begins
 -- AreParts stem tail width count text begins, IsKept netlist kept: such a text whose middles have a fixed length
 -- AreLines lines: whole lines
--- IsSteadyRow net i row, AreSteadyWhereKnown net rows: rows of variables that never change
--- RightFindingsAreSteady: the rows of right findings are so
--- AreRowLines netlist text begins shown: lines of all nodes, and which of them are those of a variable that never changes
+-- AreRowLines netlist text begins shown: lines of all nodes, and what those show that never change
 
 pub mod Words
 pub mod Report
 pub mod Outputs
 pub mod DigitsInside
 pub mod LineInside
-pub mod Steady
-pub mod SteadyFindings
 pub mod Kept
 pub mod Plate

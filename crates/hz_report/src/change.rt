@@ -1,8 +1,6 @@
 //! The lines of a change.
 ghost use Rattle.std.specs.Prelude.{◌≡◌, ◌<◌, ◌++◌, length, codes, All};
-ghost use Rattle.hz_net.specs.Network.{AreByVariable, IsInput, IsVariable, network_of};
-ghost use Rattle.hz_report.specs.Steady.{AreSteadyWhereKnown};
-ghost use Rattle.hz_report.specs.SteadyFindings.{RightFindingsAreSteady};
+ghost use Rattle.hz_net.specs.Network.{AreByVariable, IsInput, IsVariable};
 ghost use Rattle.hz_write.specs.Writer.{Writes, NoneWaits};
 ghost use Rattle.hz_write.specs.Writes.{newline};
 ghost use Rattle.hz_text.specs.RunPrinted.{spaced_word, run_text_printed};
@@ -11,7 +9,6 @@ ghost use Rattle.hz_report.specs.Report.{change_line, rounds_line, races_line, r
 
 use crate::plate::Plate;
 use hz_desk::Finding;
-use hz_free::{marks_exist, words_change};
 use hz_net::Net;
 use hz_outside::Sink;
 use hz_text::{write_assignments, write_bits, write_end, write_run, write_variable, write_version};
@@ -32,7 +29,6 @@ pub fn write_change<K: Sink>(
 )
     requires change { All (λ pair. pair.0 < length plate.old.netlist.names) change.now }
     requires rows { AreByVariable plate.old.netlist finding.now.rows }
-    requires steady { AreSteadyWhereKnown (network_of plate.old.netlist) finding.now.rows }
     requires input { IsInput plate.old.netlist finding.now.input }
     requires spread { All (All (IsVariable plate.old.netlist)) finding.now.spread.steps }
     requires settle { All (All (IsVariable plate.old.netlist)) finding.now.settle.steps }
@@ -49,15 +45,6 @@ pub fn write_change<K: Sink>(
     plate.write_rows(writer, &finding.rows);
     write_races(writer, finding);
     write_runs(writer, plate, finding);
-}
-
-/// The rows of a right finding are as [`write_change`] wants them: where Algorithm A knows a variable, its row is that of one that never
-/// changes.
-pub fn rows_are_steady()
-    ensures { RightFindingsAreSteady }
-{
-    words_change();
-    marks_exist();
 }
 
 /// Gives what a change assigns that is not made, and the variable that stops it.

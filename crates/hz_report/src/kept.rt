@@ -2,7 +2,8 @@
 ghost use Rattle.std.specs.Prelude.{◌≡◌, [], ◌∷◌, ◌++◌, length, IfOk, OnOk};
 ghost use Rattle.hz_report.specs.Kept.{IsKept};
 
-use hz_core::{Circuit, Memory, Tri};
+use hz_core::{Circuit, Memory};
+use hz_desk::Rest;
 use std::alloc::Global;
 
 /// How many bytes stand between the name of a variable and the end of its line, if its row is a
@@ -59,8 +60,8 @@ impl Parts {
 #[derive(Drop)]
 pub(crate) struct Kept {
     pub rows: Parts,
-    /// The value with which the line of each node shows it, if it is the line of a node that never changes.
-    pub shown: Vec<Tri>,
+    /// What the line of each node shows, if it is that of a node which never changes.
+    pub shown: Vec<Option<Rest>>,
     pub start: Parts,
 }
 
@@ -76,7 +77,7 @@ impl Kept {
             rows.add(b"", name, b" start 0 A 0 B 0 changes 0 steady\n")?;
             start.add(b" ", name, b"=0")?;
         }
-        let shown = vec![in alloc; Tri::Unknown; circuit.nodes() as usize]?;
+        let shown = vec![in alloc; None; circuit.nodes() as usize]?;
         Ok(Kept { rows, shown, start })
     }
 }

@@ -26,7 +26,7 @@ mod plate;
 mod rows;
 mod summary;
 
-pub use change::{rows_are_steady, write_change, write_stopped};
+pub use change::{write_change, write_stopped};
 pub use head::write_head;
 pub use letter::Letter;
 pub use outputs::OutputLine;

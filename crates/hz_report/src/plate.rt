@@ -1,7 +1,6 @@
 //! The lines of changes, of which most bytes stay from one change to the next.
 ghost use Rattle.std.specs.Prelude.{◌≡◌, IfOk};
-ghost use Rattle.hz_net.specs.Network.{IsState, AreByVariable, network_of};
-ghost use Rattle.hz_report.specs.Steady.{AreSteadyWhereKnown};
+ghost use Rattle.hz_net.specs.Network.{IsState, AreByVariable};
 ghost use Rattle.hz_write.specs.Writer.{Writes, NoneWaits};
 ghost use Rattle.hz_report.specs.Report.{row_lines, shown_rows, start_line};
 
@@ -61,7 +60,6 @@ impl<'n> Plate<'n> {
     // Gives the line of each variable that is shown.
     pub(crate) fn write_rows<K: Sink>(&mut self, writer: &mut Writer<'_, K>, rows: &Rows)
         requires rows { AreByVariable self.old.netlist rows.now }
-        requires steady { AreSteadyWhereKnown (network_of self.old.netlist) rows.now }
         requires none_waits { NoneWaits writer.old }
         ensures gave { Writes K.output K.faults
             (row_lines self.old.netlist 0 (shown_rows self.old.netlist self.old.show rows.now))

@@ -1,13 +1,12 @@
 //! The lines of variables.
-ghost use Rattle.std.specs.Prelude.{◌≡◌, ◌<◌, ◌≤◌, ◌-◌, ◌+◌, ◌∷◌, ◌++◌, length, take, drop, slice_index, slice_range, codes, decimal, true, IfSome};
+ghost use Rattle.std.specs.Prelude.{◌≡◌, ◌<◌, ◌≤◌, ◌-◌, ◌+◌, ◌∷◌, ◌++◌, length, take, drop, slice_index, slice_range, codes, decimal, true, Some, IfSome};
 ghost use Rattle.hz_core.specs.Netlist.{IsCircuit};
-ghost use Rattle.hz_net.specs.Network.{AreByVariable, IsVariable, network_of};
+ghost use Rattle.hz_net.specs.Network.{AreByVariable, IsVariable};
 ghost use Rattle.hz_text.specs.Printed.{letter_of};
 ghost use Rattle.hz_write.specs.Writer.{Writes, NoneWaits};
 ghost use Rattle.hz_desk.specs.declared.class.Class.TheVariants.{Single, Steady};
 ghost use Rattle.hz_report.specs.Kept.{AreRowParts, AreRowLines, AreLines};
-ghost use Rattle.hz_net.specs.Passes.{IsKnown};
-ghost use Rattle.hz_report.specs.Steady.{AreSteadyWhereKnown};
+ghost use Rattle.hz_desk.specs.declared.finding.Rest.{Rest};
 ghost use Rattle.hz_report.specs.Report.{changes_word, class_word, row_line, row_lines, row_text, shown_count, shown_rows};
 ghost use Rattle.hz_report.specs.Words.{tri_letter};
 
@@ -15,7 +14,7 @@ use crate::kept::COMMON;
 use hz_core::Tri;
 use hz_core::Tri::{One, Unknown, Zero};
 use hz_desk::Class::{Single, Steady};
-use hz_desk::{Class, Row, Rows};
+use hz_desk::{Class, Rest, Row, Rows};
 use hz_net::Net;
 use hz_options::Show;
 use hz_outside::Sink;
@@ -47,10 +46,9 @@ pub(crate) fn write_kept_rows<K: Sink>(
     rows: &Rows,
     text: &mut [u8],
     begins: &[usize],
-    shown: &mut [Tri],
+    shown: &mut [Option<Rest>],
 )
     requires rows { AreByVariable net.now rows.now }
-    requires steady { AreSteadyWhereKnown (network_of net.now) rows.now }
     requires kept { AreRowLines net.now text.old begins.now shown.old }
     requires none_waits { NoneWaits writer.old }
     ensures gave { Writes K.output K.faults
@@ -61,16 +59,16 @@ pub(crate) fn write_kept_rows<K: Sink>(
     let count = net.circuit().nodes() as usize;
     // The first node whose line was not given so far.
     let mut from = 0;
-    let a = rows.values_a();
     for var in 0..count {
-        if stays(shown[var], a[var]) {
+        let rest = rows.rest(var);
+        if stays(shown[var], rest) {
             continue;
         }
         let row = rows.row(var);
         match common_text(row) {
             Some(common) => {
                 set_row(net, text, begins, var, common);
-                shown[var] = row.a;
+                shown[var] = rest;
             }
             None => {
                 write_lines(writer, kept_lines(net, text, begins, from, var));
@@ -82,12 +80,15 @@ pub(crate) fn write_kept_rows<K: Sink>(
     write_lines(writer, kept_lines(net, text, begins, from, count));
 }
 
-// Whether a variable is known, and has the value that is shown.
+// Whether a variable rests at what is shown.
 #[inline(always)]
-fn stays(shown: Tri, a: Tri) -> bool
-    ensures { result ≡ true → (shown ≡ a) × IsKnown a }
+fn stays(shown: Option<Rest>, rest: Option<Rest>) -> bool
+    ensures { result ≡ true → (same : Rest) × (shown ≡ Some same) × (rest ≡ Some same) }
 {
-    shown == a && a != Unknown
+    match (shown, rest) {
+        (Some(shown), Some(rest)) => shown.value == rest.value && shown.counted == rest.counted,
+        _ => false,
+    }
 }
 
 // Writes a common row over that of a node.

@@ -1,9 +1,7 @@
 -- What one change comes to fits its network, so that it can be written.
-use Rattle.std.proofs.Common.{ℕ, Option, subst, take}
-use Rattle.hz_core.specs.Netlist.{Netlist, IsWhole}
+use Rattle.std.proofs.Common.{ℕ, Option, subst}
 use Rattle.hz_desk.specs.Finding.{finding_of}
 use Rattle.hz_seq.specs.Analyses.{Found, Stopped}
-use Rattle.hz_seq.specs.Sequence.{IsFindingOfChange, changed_input}
 use Rattle.hz_changes.proofs.Writable.{below-names, fits, IsStopInside}
 use Rattle.hz_changes.proofs.reporting.write_next.Goals as goal
 
@@ -13,16 +11,6 @@ write_change-requires-clause-change g c = below-names c.args.plate.now.netlist c
 pub write_change-requires-clause-rows : goal.write_change-requires-clause-rows
 write_change-requires-clause-rows g c =
     (fits c.args.plate.now.netlist c.args.sequence.now.desk.netlist c.args.cap c.args.sequence.now.start c.args.change.now (finding_of c.in-Ok.finding.now) c.requires.net c.requires.circuit (c.requires.stable c.in-Ok.ensures.finding.0) c.in-Ok.ensures.finding.1).rows
-
-pub write_change-requires-clause-steady : goal.write_change-requires-clause-steady
-write_change-requires-clause-steady g c =
-    let netlist = c.args.plate.now.netlist in
-    let start = c.args.sequence.now.start in
-    let finding = finding_of c.in-Ok.finding.now in
-    let right : IsFindingOfChange netlist c.args.cap start c.args.change.now finding =
-    subst (λ (n : Netlist). IsFindingOfChange n c.args.cap start c.args.change.now finding) c.requires.net c.in-Ok.ensures.finding.1 in
-    let whole : IsWhole netlist = rw c.net.ensures at c.len-variables.ensures.whole in
-    c.rows_are_steady.ensures netlist (changed_input (take netlist.inputs start) c.args.change.now) start c.args.cap finding c.requires.circuit whole (c.requires.stable c.in-Ok.ensures.finding.0) right
 
 pub write_change-requires-clause-input : goal.write_change-requires-clause-input
 write_change-requires-clause-input g c =
@@ -41,10 +29,10 @@ write_change-requires-clause-cycle g c =
     (fits c.args.plate.now.netlist c.args.sequence.now.desk.netlist c.args.cap c.args.sequence.now.start c.args.change.now (finding_of c.in-Ok.finding.now) c.requires.net c.requires.circuit (c.requires.stable c.in-Ok.ensures.finding.0) c.in-Ok.ensures.finding.1).cycle
 
 pub write_stopped-requires-clause-change : goal.write_stopped-requires-clause-change
-write_stopped-requires-clause-change g c = rw c.net-in-Err.ensures (below-names c.args.plate.now.netlist c.args.change.now c.requires.circuit c.requires.change)
+write_stopped-requires-clause-change g c = rw c.net.ensures (below-names c.args.plate.now.netlist c.args.change.now c.requires.circuit c.requires.change)
 
 pub write_stopped-requires-clause-var : goal.write_stopped-requires-clause-var
-write_stopped-requires-clause-var g c = rw c.net-in-Err.ensures (subst (λ (stopped : Option ℕ). IsStopInside c.args.plate.now.netlist stopped) c.in-Err.ensures.finding c.requires.inside)
+write_stopped-requires-clause-var g c = rw c.net.ensures (subst (λ (stopped : Option ℕ). IsStopInside c.args.plate.now.netlist stopped) c.in-Err.ensures.finding c.requires.inside)
 
 pub returns-in-Ok-clause-gave : goal.returns-in-Ok-clause-gave
 returns-in-Ok-clause-gave g c =
@@ -52,4 +40,4 @@ returns-in-Ok-clause-gave g c =
 
 pub returns-in-Err-clause-gave : goal.returns-in-Err-clause-gave
 returns-in-Err-clause-gave g c =
-    (Stopped c.in-Err.stopped.var, (c.in-Err.ensures.finding, rw c.in-Err.is at c.next.follows.holds-at-none), rw c.net-in-Err.ensures at c.write_stopped.ensures.gave)
+    (Stopped c.in-Err.stopped.var, (c.in-Err.ensures.finding, rw c.in-Err.is at c.next.follows.holds-at-none), rw c.net.ensures at c.write_stopped.ensures.gave)

@@ -1,12 +1,12 @@
 -- A common row is written over that of its node; before another row the lines so far are given.
-use Rattle.std.proofs.Common.{◌≡◌, ◌∙◌, ◌<◌, ◌≤◌, length, sym, ap, subst, arith}
-use Rattle.std.proofs.lemmas.List.{length-map}
-use Rattle.hz_core.specs.declared.tri.Tri.{Tri}
+use Rattle.std.proofs.Common.{◌≡◌, ◌∙◌, ◌<◌, ◌≤◌, length, sym, ap, subst, arith, Option, Some, slice_get}
+use Rattle.std.specs.Prelude.{IfSome}
 use Rattle.hz_net.proofs.Places.{length-network_of}
 use Rattle.hz_write.proofs.Writers.{writes_nothing, writes_same, writes_then}
-use Rattle.hz_desk.specs.declared.finding.Row.{Row}
+use Rattle.hz_desk.specs.declared.finding.Rest.{Rest}
+use Rattle.hz_desk.specs.RowsOf.{row_at_rest}
 use Rattle.hz_report.specs.Kept.{AreLines}
-use Rattle.hz_report.proofs.SteadyLemmas.{put-begin, put-skip, put-set, put-stay, put-under}
+use Rattle.hz_report.proofs.ShownLemmas.{put-begin, put-skip, put-set, put-stay, put-under}
 use Rattle.hz_report.proofs.KeptLemmas.{kept-lines, lines-joined}
 use Rattle.hz_report.proofs.RowLemmas.{row_lines_more}
 use Rattle.hz_report.proofs.rows.write_kept_rows.Goals as goal
@@ -25,12 +25,11 @@ row-row-requires g c =
     let count : c.nodes-count.result ≡ length netlist.names = rw c.circuit.ensures.same at c.nodes-count.ensures.nodes in
     omega (arith, count, c.loop-var-test.true, c.requires.rows, length-network_of netlist c.circuit.ensures.circuit)
 
-pub bounds-a-var : goal.bounds-a-var
-bounds-a-var g c =
+pub rest-rest-requires : goal.rest-rest-requires
+rest-rest-requires g c =
     let netlist = c.args.net.now in
     let count : c.nodes-count.result ≡ length netlist.names = rw c.circuit.ensures.same at c.nodes-count.ensures.nodes in
-    let long : length c.values_a-a.result.now ≡ length c.args.rows.now = ap (length {A = Tri}) c.values_a-a.ensures ∙ length-map c.args.rows.now (λ (row : Row). row.a) in
-    omega (arith, count, c.loop-var-test.true, c.requires.rows, length-network_of netlist c.circuit.ensures.circuit, long)
+    omega (arith, count, c.loop-var-test.true, c.requires.rows, length-network_of netlist c.circuit.ensures.circuit)
 
 pub loop-var-preserved-then-stays : goal.loop-var-preserved-then-stays
 loop-var-preserved-then-stays g c =
@@ -38,9 +37,9 @@ loop-var-preserved-then-stays g c =
     let rows = c.args.rows.now in
     let count : c.nodes-count.result ≡ length netlist.names = rw c.circuit.ensures.same at c.nodes-count.ensures.nodes in
     let within : c.loop-var.var < length netlist.names = omega (arith, count, c.loop-var-test.true) in
-    let enough : length netlist.names ≤ length rows = omega (arith, c.requires.rows, length-network_of netlist c.circuit.ensures.circuit) in
-    let told = rw c.values_a-a.ensures at (c.stays.ensures c.if-stays.true) in (
-      put-stay netlist rows c.args.begins.now c.loop-var.from c.loop-var.var c.loop-var.text c.loop-var.shown c.requires.steady enough within told.0 told.1 c.loop-var.invariant.0,
+    let told = c.stays.ensures c.if-stays.true in (
+      put-stay netlist rows c.args.begins.now c.loop-var.from c.loop-var.var c.loop-var.text c.loop-var.shown told.0 within told.1
+          (subst (λ (rest : Option Rest). IfSome rest (λ (r : Rest). slice_get rows c.loop-var.var ≡ Some (row_at_rest r))) told.2 c.rest-rest.ensures) c.loop-var.invariant.0,
       c.loop-var.invariant.1,
       c.loop-var.invariant.2,
     )
@@ -74,8 +73,8 @@ loop-var-preserved g c =
     let under = put-under netlist rows begins from var text c.loop-var.shown (omega (arith, within, so_far.0.ordered)) so_far.0 in
     elim c.match-common_text.branch [
       | in-Some w ↦ rw (w.writer-is, w.text-is, w.shown-is, w.from-is, w.set_row.ensures.written) (
-        put-set netlist rows begins from var c.row-row.result w.in-Some.common.now text c.loop-var.shown c.requires.steady enough within
-            c.row-row.ensures w.in-Some.ensures w.set_row.ensures.long so_far.0,
+        put-set netlist rows begins from var c.row-row.result w.in-Some.common.now text c.loop-var.shown c.rest-rest.result enough within
+            c.row-row.ensures w.in-Some.ensures w.set_row.ensures.long c.rest-rest.ensures so_far.0,
         so_far.1,
         so_far.2,
       )

@@ -1,7 +1,7 @@
 use Rattle.std.proofs.Common.{take}
 use Rattle.hz_write.specs.Writer.{Writes, NoneWaits}
 use Rattle.hz_report.specs.Report.{row_lines}
-use Rattle.hz_report.proofs.SteadyLemmas.{ArePut}
+use Rattle.hz_report.proofs.ShownLemmas.{ArePut}
 use Rattle.hz_report.proofs.rows.write_kept_rows.Given as goal
 
 -- the lines before one node are given, and the rows from it on so far are put over theirs; nothing waits
