@@ -113,8 +113,9 @@ def refused_memory(program, folder):
             yield f"{words} with request {number} of {requests} refused", is_front(status, text, whole) or (status, text), True
             if status != MEMORY:
                 asked_again.append(number)
-        # A list of the library that can't grow by half asks once more, for one item: its first request may be refused.
-        yield f"{words} is out of memory at all but three requests at most", asked_again[3:], []
+        # A list of the library that can't grow by half asks once more, for one item: its first request may be refused. Patterns that are as
+        # they are printed are read in two parts, which have two such lists each.
+        yield f"{words} is out of memory at all but four requests at most", asked_again[4:], []
         status, text = run(program, words, folder, env={**around, "REFUSED": str(requests + 1)})
         yield f"{words} with no request left to refuse", (status, text), whole
 
