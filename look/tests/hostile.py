@@ -2,6 +2,7 @@
 
 What `hazard` writes of a file by itself may stand before the line.
 """
+import functools
 import os
 import signal
 import subprocess
@@ -102,11 +103,13 @@ def _outputs(folder, command, run, files):
 
 
 def _interrupted(folder, command, write):
-    """A call that is interrupted by the keyboard says nothing more."""
+    """A call that is interrupted by the keyboard says nothing more. It listens to the keyboard even if these tests don't, as in the
+    background of a shell."""
     slow = write(folder, "slow", "#!/bin/sh\necho >&2 begun\nexec sleep 60\n")
     os.chmod(slow, 0o755)
     words = [command, "start", "--hazard", slow, write(folder, "i.bench", GATE)]
-    with subprocess.Popen(words, stdout=subprocess.PIPE, stderr=subprocess.PIPE, text=True, start_new_session=True) as running:
+    listen = functools.partial(signal.signal, signal.SIGINT, signal.SIG_DFL)
+    with subprocess.Popen(words, stdout=subprocess.PIPE, stderr=subprocess.PIPE, text=True, start_new_session=True, preexec_fn=listen) as running:
         running.stderr.readline()
         os.killpg(running.pid, signal.SIGINT)
         _, errors = running.communicate(timeout=60)
