@@ -22,7 +22,7 @@ PATTERNS = "hold q=0\nfrom 11 to 00\nfrom 10 to 00\nfrom 00 to 01\nfrom 01 to 00
 MANY_PATTERNS = "from 11 to 00\n" * 512 + "from 10 to 00\n"
 
 # An allocator in front of the C library's: it counts the requests that the program makes once it has begun, and refuses the one with
-# the number REFUSED. In the end it writes their number into the file COUNTED.
+# the number REFUSED. In the end it writes into the file COUNTED their number, and whether the request after the refused one was for no more.
 ALLOCATOR = r"""
 #define _GNU_SOURCE
 #include <errno.h>
@@ -30,7 +30,8 @@ ALLOCATOR = r"""
 #include <stdlib.h>
 
 void *__libc_malloc(size_t), *__libc_calloc(size_t, size_t), *__libc_realloc(void *, size_t), *__libc_memalign(size_t, size_t);
-static long refused, made, has_begun;
+static long refused, made, has_begun, asked_again;
+static size_t refused_size;
 
 __attribute__((constructor)) static void begin(void) {
   const char *number = getenv("REFUSED");
@@ -43,21 +44,24 @@ __attribute__((destructor)) static void end(void) {
   const char *name = getenv("COUNTED");
   FILE *file = name ? fopen(name, "w") : NULL;
   if (file) {
-    fprintf(file, "%ld", made);
+    fprintf(file, "%ld %ld", made, asked_again);
     fclose(file);
   }
 }
 
-static int refuses(void) {
-  if (!has_begun || ++made != refused) return 0;
+static int refuses(size_t size) {
+  if (!has_begun) return 0;
+  if (++made == refused + 1) asked_again = size <= refused_size;
+  if (made != refused) return 0;
+  refused_size = size;
   errno = ENOMEM;
   return 1;
 }
 
-void *malloc(size_t size) { return refuses() ? NULL : __libc_malloc(size); }
-void *calloc(size_t count, size_t size) { return refuses() ? NULL : __libc_calloc(count, size); }
-void *realloc(void *old, size_t size) { return refuses() ? NULL : __libc_realloc(old, size); }
-void *memalign(size_t align, size_t size) { return refuses() ? NULL : __libc_memalign(align, size); }
+void *malloc(size_t size) { return refuses(size) ? NULL : __libc_malloc(size); }
+void *calloc(size_t count, size_t size) { return refuses(count * size) ? NULL : __libc_calloc(count, size); }
+void *realloc(void *old, size_t size) { return refuses(size) ? NULL : __libc_realloc(old, size); }
+void *memalign(size_t align, size_t size) { return refuses(size) ? NULL : __libc_memalign(align, size); }
 void *aligned_alloc(size_t align, size_t size) { return memalign(align, size); }
 int posix_memalign(void **place, size_t align, size_t size) {
   void *found = memalign(align, size);
@@ -105,7 +109,7 @@ def refused_memory(program, folder):
         around = {"LD_PRELOAD": library, "COUNTED": counted}
         yield f"{words} with no request refused", run(program, words, folder, env=around), whole
         with open(counted) as file:
-            requests = int(file.read())
+            requests = int(file.read().split()[0])
         yield f"{words} asks for memory", requests > 10, True
         asked_again = []
         for number in range(1, requests + 1):
@@ -113,9 +117,12 @@ def refused_memory(program, folder):
             yield f"{words} with request {number} of {requests} refused", is_front(status, text, whole) or (status, text), True
             if status != MEMORY:
                 asked_again.append(number)
-        # A list of the library that can't grow by half asks once more, for one item: its first request may be refused. Patterns that are as
-        # they are printed are read in two parts, which have two such lists each.
-        yield f"{words} is out of memory at all but four requests at most", asked_again[4:], []
+                with open(counted) as file:
+                    yield f"{words} asks for less if request {number} of {requests} is refused", file.read().split()[1], "1"
+        # A list of the library that can't grow by half asks once more, for one item: its first request may be refused. A text of patterns of
+        # more than a block is read in two parts, and has one such list more.
+        most = 4 if words[-1] == "many.patterns" else 3
+        yield f"{words} is out of memory at all but {most} requests at most", asked_again[most:], []
         status, text = run(program, words, folder, env={**around, "REFUSED": str(requests + 1)})
         yield f"{words} with no request left to refuse", (status, text), whole
 
