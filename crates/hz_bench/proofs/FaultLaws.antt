@@ -1,9 +1,8 @@
 -- The first answer of the passes over a text is its least fault.
-use Rattle.std.proofs.Common.{◌≡◌, ◌∙◌, ℕ, ◌<◌, ◌≤◌, ◌++◌, Bool, true, false, not, cond, zero, suc, List, [], ◌∷◌, Option, Some, None, is_some, refl, ap, sym, subst, inl, inr, arith, lit≤, append_assoc}
+use Rattle.std.proofs.Common.{◌≡◌, ◌∙◌, ℕ, ◌<◌, ◌≤◌, ◌++◌, Bool, true, false, not, cond, zero, suc, List, [], ◌∷◌, Option, Some, None, is_some, refl, ap, sym, subst, arith, lit≤, append_assoc}
 use Rattle.std.specs.Option.{option_or}
-use Rattle.std.specs.Prelude.{◌⊎◌, nat_lt, find, Contains, option_map, MatchOption}
+use Rattle.std.specs.Prelude.{nat_lt, find, Contains, option_map, MatchOption}
 use Rattle.std.specs.List.{Any}
-use Rattle.std.proofs.lemmas.Bool.{cases_lt}
 use Rattle.std.proofs.lemmas.Bool.Decides.{nat_tests}
 use Rattle.std.proofs.lemmas.List.Folds.{Any-from_list_any, list_any_at}
 use Rattle.std.proofs.lemmas.Slice.Eq.{bytes_eq-Decides}

@@ -3,7 +3,7 @@ use Rattle.std.specs.Prelude.{◌≡◌, ℕ, List, [], ◌∷◌, ◌++◌, Opt
 use Rattle.hz_line.specs.OrThat.{OrThat}
 use Rattle.hz_line.specs.Statement.{Numbered}
 use Rattle.hz_bench.specs.declared.fault.BenchFault.{BenchFault}
-use Rattle.hz_bench.specs.declared.fault.BenchFault.TheVariants.{Form, Name, KindUnknown, Twice, Pins, Undefined, TooMany, Memory}
+use Rattle.hz_bench.specs.declared.fault.BenchFault.TheVariants.{Twice, Memory}
 use Rattle.hz_bench.specs.Statement.{Statement, defined_name}
 use Rattle.hz_bench.specs.Definition.{definer}
 

@@ -8,10 +8,8 @@ use Rattle.hz_line.specs.OrThat.{OrThat}
 use Rattle.hz_pass.specs.Completed.{IsStartFault}
 use Rattle.hz_pass.specs.declared.completed_start.StartFault.{StartFault}
 use Rattle.hz_pass.specs.declared.completed_start.StartFault.TheVariants as start
-use Rattle.hz_bench.specs.declared.fault.BenchFault.{BenchFault}
 use Rattle.hz_bench.specs.declared.fault.BenchFault.TheVariants as bench
 use Rattle.hz_bench.specs.Fault as bench_fault
-use Rattle.hz_blif.specs.declared.fault.BlifFault.{BlifFault}
 use Rattle.hz_blif.specs.declared.fault.BlifFault.TheVariants as blif
 use Rattle.hz_blif.specs.Fault as blif_fault
 use Rattle.hz_refusal.specs.declared.netlist.NetlistFault.{NetlistFault}

@@ -1,8 +1,8 @@
 -- Passes that answer the least place of their kind, one after the other, answer the least fault.
-use Rattle.std.proofs.Common.{◌≡◌, ◌∙◌, ℕ, ◌+◌, ◌≤◌, List, Option, Some, None, refl, ap, sym, subst, inl, inr, arith, Bool, Result, Ok, Err}
+use Rattle.std.proofs.Common.{◌≡◌, ◌∙◌, ℕ, ◌+◌, List, Option, Some, None, refl, ap, sym, subst, inl, inr, arith, Bool, Result, Ok, Err}
 use Rattle.std.specs.Option.{option_map, option_or}
 use Rattle.std.specs.Prelude.{◌⊎◌, ◌==◌, if◌then◌else◌, IfOk, MatchResult}
-use Rattle.std.proofs.lemmas.Bool.{cases_lt, cases_eq}
+use Rattle.std.proofs.lemmas.Bool.{cases_eq}
 use Rattle.std.proofs.lemmas.Option.{same_Some, none-some}
 use Rattle.hz_lists.specs.Least.{IsLeastOf}
 use Rattle.hz_line.specs.LeastFault.{ComesFirst}
