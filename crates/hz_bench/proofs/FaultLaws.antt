@@ -1,20 +1,20 @@
 -- The first answer of the passes over a text is its least fault.
-use Rattle.std.proofs.Common.{◌≡◌, ◌∙◌, ℕ, ◌<◌, ◌≤◌, ◌++◌, Bool, true, false, not, cond, zero, suc, List, [], ◌∷◌, Option, Some, None, is_some, refl, ap, sym, subst, inl, inr, arith, lit≤, append_assoc}
+use Rattle.std.proofs.Common.{◌≡◌, ◌∙◌, ℕ, ◌<◌, ◌≤◌, ◌++◌, Bool, true, false, not, cond, zero, suc, List, [], ◌∷◌, Option, Some, None, is_some, refl, ap, sym, subst, arith, lit≤, append_assoc}
 use Rattle.std.specs.Option.{option_or}
-use Rattle.std.specs.Prelude.{◌⊎◌, nat_lt, find, Contains, option_map, MatchOption}
+use Rattle.std.specs.Prelude.{nat_lt, find, Contains, option_map, MatchOption}
 use Rattle.std.specs.List.{Any}
-use Rattle.std.proofs.lemmas.Bool.{cases_lt}
 use Rattle.std.proofs.lemmas.Bool.Decides.{nat_tests}
 use Rattle.std.proofs.lemmas.List.Folds.{Any-from_list_any, list_any_at}
 use Rattle.std.proofs.lemmas.Slice.Eq.{bytes_eq-Decides}
 use Rattle.hz_line.specs.Line.{lines_of}
 use Rattle.hz_line.specs.Statement.{Malformed, Numbered, first_malformed}
+use Rattle.hz_line.proofs.LeastLaws as least
 use Rattle.hz_line.proofs.StatementLemmas.{Ascends, numbered_from-Ascends, meaning_at-first, meaning_at-none, find-Some, find-None, stated, stating, first_passing_line-found, first_passing_line-unfound, Ascends-front, Ascends-before}
 use Rattle.hz_bench.specs.declared.fault.BenchFault.{BenchFault}
 use Rattle.hz_bench.specs.declared.fault.BenchFault.TheVariants.{Form, Name, KindUnknown, Twice, Pins, Undefined, TooMany, Memory}
 use Rattle.hz_bench.specs.Check.{uses_undefined, fault_or, too_many_fault, first_fault}
 use Rattle.hz_bench.specs.Definition.{is_that, defines, definer}
-use Rattle.hz_bench.specs.Fault.{States, HasThat, Defines, Uses, IsSecond, HasFault, fault_number, fault_line_number, ComesFirst, IsLeastFault, IsFaultless}
+use Rattle.hz_bench.specs.Fault.{States, HasThat, Defines, Uses, IsSecond, HasFault, fault_number, fault_line_number, bench_faults, IsLeastFault, IsFaultless}
 use Rattle.hz_netlist.specs.Element.{variable_total}
 use Rattle.hz_bench.specs.Netlist.{elements_of}
 use Rattle.hz_bench.specs.Statement.{Statement, statement_of, defined_name, used_names, has_long_name, has_unknown_kind, has_wrong_pins, statement_pin_count}
@@ -55,7 +55,7 @@ by_number text Memory p = p
 
 -- each fault that stands in the text has at least this number
 abbrev pub NoneBelow : List ℕ → ℕ → Type 0
-NoneBelow text number = (other : BenchFault) → HasFault text other → number ≤ fault_number other
+NoneBelow text number = least.NoneBelow (bench_faults text) number
 
 none_below-one : (text : List ℕ) → NoneBelow text 1
 none_below-one text (Form line) p = lit≤ tt
@@ -67,14 +67,13 @@ none_below-one text (Undefined line) p = lit≤ tt
 none_below-one text (TooMany variables) p = lit≤ tt
 none_below-one text Memory p = absurd p
 
+-- what stands in a text where a fault with this number stands
+at_number : (text : List ℕ) (number : ℕ) (fault : BenchFault) → HasFault text fault → fault_number fault ≡ number → ByNumber text number (fault_line_number fault)
+at_number text number fault p same = subst (λ n. ByNumber text n (fault_line_number fault)) same (by_number text fault p)
+
 none_below-next : (text : List ℕ) (number : ℕ) → NoneBelow text number → ((line : ℕ) → ByNumber text number line → ⊥) → NoneBelow text (suc number)
-none_below-next text number low none other p = by_order (cases_lt number (fault_number other))
-  where
-    by_order : (number < fault_number other) ⊎ (fault_number other ≤ number) → suc number ≤ fault_number other
-    by_order (inl more) = omega (arith, more)
-    by_order (inr less) =
-        let same : fault_number other ≡ number = omega (arith, less, low other p) in
-        absurd (none (fault_line_number other) (subst (λ n. ByNumber text n (fault_line_number other)) same (by_number text other p)))
+none_below-next text number low none =
+    least.none_below-next (bench_faults text) number low (λ other p same. none (fault_line_number other) (at_number text number other p same))
 
 none_below-end : (text : List ℕ) → NoneBelow text 9 → IsFaultless text
 none_below-end text low (Form line) p = absurd (omega (arith, low (Form line) p))
@@ -86,15 +85,14 @@ none_below-end text low (Undefined line) p = absurd (omega (arith, low (Undefine
 none_below-end text low (TooMany variables) p = absurd (omega (arith, low (TooMany variables) p))
 none_below-end text low Memory p = p
 
--- a fault is the least where none has a lesser number, and none of its number an earlier line
+-- a fault is the least if none has a lesser number, and none of its number an earlier line
 IsLeastFault-from : (text : List ℕ) (number : ℕ) (fault : BenchFault) → fault_number fault ≡ number → HasFault text fault → NoneBelow text number → ((line : ℕ) → ByNumber text number line → fault_line_number fault ≤ line) → IsLeastFault text fault
-IsLeastFault-from text number fault is stands low least = record { stands = stands; least = λ other p. by_order other p (cases_lt number (fault_number other)) }
-  where
-    by_order : (other : BenchFault) → HasFault text other → (number < fault_number other) ⊎ (fault_number other ≤ number) → ComesFirst fault other
-    by_order other p (inl more) = inl (omega (arith, is, more))
-    by_order other p (inr less) =
-        let same : fault_number other ≡ number = omega (arith, less, low other p) in
-        inr (is ∙ sym same, least (fault_line_number other) (subst (λ n. ByNumber text n (fault_line_number other)) same (by_number text other p)))
+IsLeastFault-from text number fault is stands low earliest =
+    least.least-from (bench_faults text) number fault low (record {
+      stands = stands;
+      number_is = is;
+      least = λ other p same. earliest (fault_line_number other) (at_number text number other p same);
+    })
 
 -- what an answer says of the text
 abbrev pub Outcome : List ℕ → Option BenchFault → Type 0

@@ -1,5 +1,5 @@
 -- A printed text has no fault.
-use Rattle.std.proofs.Common.{◌≡◌, ◌∙◌, ℕ, ◌+◌, ◌<◌, ◌≤◌, zero, suc, Bool, true, false, not, List, [], ◌∷◌, ◌++◌, Some, length, map, take, drop, get_or, refl, ap, sym, subst, arith, drop-cons, take-append-drop, length-take-le, drop_of_length-le}
+use Rattle.std.proofs.Common.{◌≡◌, ◌∙◌, ℕ, ◌+◌, ◌<◌, ◌≤◌, zero, suc, Bool, true, false, not, List, [], ◌∷◌, ◌++◌, Some, length, map, take, drop, get_or, refl, ap, sym, subst, arith, drop-cons, take-append-drop, length-take-le, drop_of_length-le, inl, inr}
 use Rattle.std.specs.List.{All, Contains, IsDistinct, list_any, filter_map}
 use Rattle.std.specs.Prelude.{sum_by}
 use Rattle.std.specs.Str.{bytes_eq}
@@ -318,11 +318,5 @@ printed-faultless netlist circuit whole =
 
 -- so what is answered in place of its circuit is that memory ran out
 pub memory_alone : (text : List ℕ) (fault : BenchFault) → IsFaultless text → IsNetlistRefusal text fault → fault ≡ Memory
-memory_alone text (Form line) none h = absurd (none (Form line) h.stands)
-memory_alone text (Name line) none h = absurd (none (Name line) h.stands)
-memory_alone text (KindUnknown line) none h = absurd (none (KindUnknown line) h.stands)
-memory_alone text (Twice line first) none h = absurd (none (Twice line first) h.stands)
-memory_alone text (Pins line count) none h = absurd (none (Pins line count) h.stands)
-memory_alone text (Undefined line) none h = absurd (none (Undefined line) h.stands)
-memory_alone text (TooMany variables) none h = absurd (none (TooMany variables) h.stands)
-memory_alone text Memory none h = refl
+memory_alone text fault none (inl memory) = memory
+memory_alone text fault none (inr least) = absurd (none fault least.stands)

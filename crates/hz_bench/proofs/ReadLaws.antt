@@ -5,10 +5,11 @@ use Rattle.hz_bench.specs.declared.notes.Notes.{Notes}
 use Rattle.hz_bench.specs.declared.parse.Statements.{Statements}
 use Rattle.hz_bench.specs.declared.fault.BenchFault.{BenchFault}
 use Rattle.hz_bench.specs.declared.fault.BenchFault.TheVariants.{Form, Name, KindUnknown, Twice, Pins, Undefined, TooMany, Memory}
+use Rattle.hz_line.proofs.LeastLaws.{both-first}
 use Rattle.hz_netlist.proofs.Admissible.{may_build}
 use Rattle.hz_netlist.specs.Element.{variable_total}
 use Rattle.hz_bench.specs.Netlist.{elements_of}
-use Rattle.hz_bench.specs.Fault.{Defines, HasFault, fault_number, fault_line_number, ComesFirst, IsLeastFault, IsNetlistRefusal}
+use Rattle.hz_bench.specs.Fault.{Defines, HasFault, fault_number, fault_line_number, bench_faults, IsLeastFault, IsNetlistRefusal}
 use Rattle.hz_bench.specs.Pass.{IsParsed, IsParseFault, IsAccepted}
 use Rattle.hz_bench.specs.Statement.{defined_name, statement_pin_count}
 use Rattle.hz_bench.specs.Text.{bench_meaning_at, statement_meant, bench_statements, statements_of}
@@ -21,14 +22,14 @@ use Rattle.hz_bench.proofs.KeptStatements.{buildable, fault_in-first, outputs_re
 
 -- why a text was not parsed
 pub parse-answer : (text : List ℕ) (fault : BenchFault) → IsParseFault text fault → IsNetlistRefusal text fault
-parse-answer text (Form line) h = form-least text line h
+parse-answer text (Form line) h = inr (form-least text line h)
 parse-answer text (Name line) h = absurd h
 parse-answer text (KindUnknown line) h = absurd h
 parse-answer text (Twice line first) h = absurd h
 parse-answer text (Pins line count) h = absurd h
 parse-answer text (Undefined line) h = absurd h
 parse-answer text (TooMany variables) h = absurd h
-parse-answer text Memory h = tt
+parse-answer text Memory h = inl refl
 
 -- what the check answers of the statements of a text is said of the text
 check-outcome : (text : List ℕ) (statements : Statements) (answer : Option BenchFault) → IsParsed text statements → fault_in statements ≡ answer → Outcome text answer
@@ -36,14 +37,8 @@ check-outcome text statements answer parsed e =
     subst (Outcome text) (sym (fault_in-first text statements parsed) ∙ e) (first_fault-outcome text (form-none text parsed.formed))
 
 pub check-answer : (text : List ℕ) (statements : Statements) (fault : BenchFault) → IsParsed text statements → IsFoundOrMemory (fault_in statements) fault → IsNetlistRefusal text fault
-check-answer text statements (Form line) parsed h = check-outcome text statements (Some (Form line)) parsed h
-check-answer text statements (Name line) parsed h = check-outcome text statements (Some (Name line)) parsed h
-check-answer text statements (KindUnknown line) parsed h = check-outcome text statements (Some (KindUnknown line)) parsed h
-check-answer text statements (Twice line first) parsed h = check-outcome text statements (Some (Twice line first)) parsed h
-check-answer text statements (Pins line count) parsed h = check-outcome text statements (Some (Pins line count)) parsed h
-check-answer text statements (Undefined line) parsed h = check-outcome text statements (Some (Undefined line)) parsed h
-check-answer text statements (TooMany variables) parsed h = check-outcome text statements (Some (TooMany variables)) parsed h
-check-answer text statements Memory parsed h = tt
+check-answer text statements fault parsed (inl memory) = inl memory
+check-answer text statements fault parsed (inr first) = inr (check-outcome text statements (Some fault) parsed first)
 
 pub accepted : (text : List ℕ) (statements : Statements) → IsParsed text statements → fault_in statements ≡ None → IsAccepted text statements
 accepted text statements parsed e =
@@ -88,24 +83,12 @@ fault_at-back text (Undefined line) p = refl
 fault_at-back text (TooMany variables) p = ap TooMany p.1
 fault_at-back text Memory p = absurd p
 
-both-first : (fault other : BenchFault) → ComesFirst fault other → ComesFirst other fault → (fault_number fault ≡ fault_number other) × (fault_line_number fault ≡ fault_line_number other)
-both-first fault other (inl a) (inl b) = absurd (omega (arith, a, b))
-both-first fault other (inl a) (inr b) = absurd (omega (arith, a, b.0))
-both-first fault other (inr a) (inl b) = absurd (omega (arith, a.0, b))
-both-first fault other (inr a) (inr b) = (a.0, omega (arith, a.1, b.1))
-
 -- the least fault is one
 pub least-unique : (text : List ℕ) (fault other : BenchFault) → IsLeastFault text fault → IsLeastFault text other → fault ≡ other
 least-unique text fault other a b =
-    let same = both-first fault other (a.least other b.stands) (b.least fault a.stands) in
+    let same = both-first (bench_faults text) fault other (a.least other b.stands) (b.least fault a.stands) in
     sym (fault_at-back text fault a.stands) ∙ ap (λ number. fault_at text number (fault_line_number fault)) same.0 ∙ ap (fault_at text (fault_number other)) same.1 ∙ fault_at-back text other b.stands
 
 pub answer-exact : (text : List ℕ) (fault other : BenchFault) → IsNetlistRefusal text fault → IsLeastFault text other → (fault ≡ other) ⊎ (fault ≡ Memory)
-answer-exact text (Form line) other h l = inl (least-unique text (Form line) other h l)
-answer-exact text (Name line) other h l = inl (least-unique text (Name line) other h l)
-answer-exact text (KindUnknown line) other h l = inl (least-unique text (KindUnknown line) other h l)
-answer-exact text (Twice line first) other h l = inl (least-unique text (Twice line first) other h l)
-answer-exact text (Pins line count) other h l = inl (least-unique text (Pins line count) other h l)
-answer-exact text (Undefined line) other h l = inl (least-unique text (Undefined line) other h l)
-answer-exact text (TooMany variables) other h l = inl (least-unique text (TooMany variables) other h l)
-answer-exact text Memory other h l = inr refl
+answer-exact text fault other (inl memory) least = inr memory
+answer-exact text fault other (inr h) least = inl (least-unique text fault other h least)

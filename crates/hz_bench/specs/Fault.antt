@@ -1,5 +1,7 @@
 -- Exactly when each fault stands in a text, and which of several is the answer.
-use Rattle.std.specs.Prelude.{◌≡◌, ℕ, ◌<◌, ◌≤◌, ◌⊎◌, Bool, true, List, Some, Contains}
+use Rattle.std.specs.Prelude.{◌≡◌, ℕ, ◌<◌, ◌≤◌, Bool, true, List, Some, Contains}
+use Rattle.hz_line.specs.LeastFault.{Faults, IsLeastOfAll}
+use Rattle.hz_line.specs.OrThat.{OrThat}
 use Rattle.hz_line.specs.Statement.{Malformed, Means}
 use Rattle.hz_netlist.specs.Element.{variable_total}
 use Rattle.hz_bench.specs.declared.fault.BenchFault.{BenchFault}
@@ -72,17 +74,14 @@ fault_line_number (Undefined line) = line
 fault_line_number (TooMany variables) = 0
 fault_line_number Memory = 0
 
--- a fault comes before another: it has a lesser number, or the same number and no later line
-abbrev pub ComesFirst : BenchFault → BenchFault → Type 0
-ComesFirst fault other =
-    (fault_number fault < fault_number other)
-    ⊎ ((fault_number fault ≡ fault_number other)
-    × (fault_line_number fault ≤ fault_line_number other))
+-- the faults of a text
+abbrev pub bench_faults : List ℕ → Faults BenchFault
+bench_faults text =
+    record { stands = HasFault text; number = fault_number; line = fault_line_number }
 
 -- the answer among the faults of a text: the least number and, among those, the least line
-pub record IsLeastFault (text : List ℕ) (fault : BenchFault) : Type 0 where
-  pub stands : HasFault text fault
-  pub least : (other : BenchFault) → HasFault text other → ComesFirst fault other
+abbrev pub IsLeastFault : List ℕ → BenchFault → Type 0
+IsLeastFault text fault = IsLeastOfAll (bench_faults text) fault
 
 -- no fault stands in the text
 abbrev pub IsFaultless : List ℕ → Type 0
@@ -90,11 +89,4 @@ IsFaultless text = (fault : BenchFault) → ¬ HasFault text fault
 
 -- what is answered in place of a circuit: the least fault, or that memory ran out
 abbrev pub IsNetlistRefusal : List ℕ → BenchFault → Type 0
-IsNetlistRefusal text Memory = Unit {0}
-IsNetlistRefusal text (Form line) = IsLeastFault text (Form line)
-IsNetlistRefusal text (Name line) = IsLeastFault text (Name line)
-IsNetlistRefusal text (KindUnknown line) = IsLeastFault text (KindUnknown line)
-IsNetlistRefusal text (Twice line first) = IsLeastFault text (Twice line first)
-IsNetlistRefusal text (Pins line count) = IsLeastFault text (Pins line count)
-IsNetlistRefusal text (Undefined line) = IsLeastFault text (Undefined line)
-IsNetlistRefusal text (TooMany variables) = IsLeastFault text (TooMany variables)
+IsNetlistRefusal text fault = OrThat Memory (IsLeastFault text) fault

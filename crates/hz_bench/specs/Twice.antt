@@ -1,8 +1,9 @@
 -- Names that are defined twice.
 use Rattle.std.specs.Prelude.{◌≡◌, ℕ, List, [], ◌∷◌, ◌++◌, Option, Some, None}
+use Rattle.hz_line.specs.OrThat.{OrThat}
 use Rattle.hz_line.specs.Statement.{Numbered}
 use Rattle.hz_bench.specs.declared.fault.BenchFault.{BenchFault}
-use Rattle.hz_bench.specs.declared.fault.BenchFault.TheVariants.{Form, Name, KindUnknown, Twice, Pins, Undefined, TooMany, Memory}
+use Rattle.hz_bench.specs.declared.fault.BenchFault.TheVariants.{Twice, Memory}
 use Rattle.hz_bench.specs.Statement.{Statement, defined_name}
 use Rattle.hz_bench.specs.Definition.{definer}
 
@@ -29,11 +30,4 @@ twice_fault statements = twice_after [] statements
 
 -- the fault is this one, if memory did not run out
 abbrev pub IsFoundOrMemory : Option BenchFault → BenchFault → Type 0
-IsFoundOrMemory found Memory = Unit {0}
-IsFoundOrMemory found (Form line) = found ≡ Some (Form line)
-IsFoundOrMemory found (Name line) = found ≡ Some (Name line)
-IsFoundOrMemory found (KindUnknown line) = found ≡ Some (KindUnknown line)
-IsFoundOrMemory found (Twice line first) = found ≡ Some (Twice line first)
-IsFoundOrMemory found (Pins line count) = found ≡ Some (Pins line count)
-IsFoundOrMemory found (Undefined line) = found ≡ Some (Undefined line)
-IsFoundOrMemory found (TooMany variables) = found ≡ Some (TooMany variables)
+IsFoundOrMemory found fault = OrThat Memory (λ first. found ≡ Some first) fault

@@ -10,7 +10,7 @@ use Rattle.hz_core.specs.Limits.{most_variables, most_gate_pins}
 use Rattle.hz_lists.proofs.LeastLemmas.{IsLeastOf-either, IsLeastOf-same}
 use Rattle.hz_line.specs.LeastFault.{AreFound, IsAnswer, IsLeastOfNumber}
 use Rattle.hz_line.specs.Statement.{Numbered, first_passing_line}
-use Rattle.hz_line.proofs.LeastLaws.{found-least}
+use Rattle.hz_line.proofs.LeastLaws.{found-least, both-first}
 use Rattle.hz_netlist.specs.Element.{variable_total}
 use Rattle.hz_netlist.proofs.NameTableLemmas.{min_assoc, min_none}
 use Rattle.hz_blif.specs.declared.fault.BlifFault.{BlifFault}
@@ -289,20 +289,8 @@ pub first-answer : (text : List ℕ) → IsAnswer (blif_faults text) (first_faul
 first-answer text = found-least (blif_faults text) 1 (faults_in text) (first-number text) (are-found text)
 
 -- what is answered
-pub refusal-of : (text : List ℕ) (one : BlifFault) → IsLeastFault text one → IsBlifRefusal text one
-refusal-of text (fault.Form line) p = p
-refusal-of text (fault.Name line) p = p
-refusal-of text (fault.Construct line) p = p
-refusal-of text (fault.Twice line first) p = p
-refusal-of text (fault.Cover line) p = p
-refusal-of text (fault.Pins line count) p = p
-refusal-of text (fault.Constant line) p = p
-refusal-of text (fault.Undefined line) p = p
-refusal-of text (fault.TooMany variables) p = p
-refusal-of text fault.Memory p = tt
-
-pub answer-refusal : (text : List ℕ) (one : BlifFault) → first_fault text ≡ Some one → IsBlifRefusal text one
-answer-refusal text one is = refusal-of text one (subst (IsAnswer (blif_faults text)) is (first-answer text))
+pub answer-least : (text : List ℕ) (one : BlifFault) → first_fault text ≡ Some one → IsLeastFault text one
+answer-least text one is = subst (IsAnswer (blif_faults text)) is (first-answer text)
 
 pub answer-faultless : (text : List ℕ) → first_fault text ≡ None → IsFaultless text
 answer-faultless text is = subst (IsAnswer (blif_faults text)) is (first-answer text)
@@ -379,29 +367,13 @@ fault_of-back fault.Memory = refl
 
 pub least-unique : (text : List ℕ) (one other : BlifFault) → IsLeastFault text one → IsLeastFault text other → one ≡ other
 least-unique text one other a b =
-    let same = both-first (a.least other b.stands) (b.least one a.stands) in
+    let same = both-first (blif_faults text) one other (a.least other b.stands) (b.least one a.stands) in
     let counts : fault_count one ≡ fault_count other =
     same-count text (fault_number one) (fault_line one) (fault_count one) (fault_count other) (by_number text one a.stands)
     (subst (λ line. ByNumber text (fault_number one) line (fault_count other)) (sym same.1) (at_number text other (fault_number one) b.stands (sym same.0))) in
     sym (fault_of-back one) ∙ ap (λ number. fault_of number (fault_line one) (fault_count one)) same.0 ∙ ap (λ line. fault_of (fault_number other) line (fault_count one)) same.1
     ∙ ap (fault_of (fault_number other) (fault_line other)) counts ∙ fault_of-back other
-  where
-    both-first : (fault_number one < fault_number other) ⊎ ((fault_number one ≡ fault_number other) × (fault_line one ≤ fault_line other))
-        → (fault_number other < fault_number one) ⊎ ((fault_number other ≡ fault_number one) × (fault_line other ≤ fault_line one))
-        → (fault_number one ≡ fault_number other) × (fault_line one ≡ fault_line other)
-    both-first (inl x) (inl y) = absurd (omega (arith, x, y))
-    both-first (inl x) (inr y) = absurd (omega (arith, x, y.0))
-    both-first (inr x) (inl y) = absurd (omega (arith, x.0, y))
-    both-first (inr x) (inr y) = (x.0, omega (arith, x.1, y.1))
 
 pub answer-exact : (text : List ℕ) (one other : BlifFault) → IsBlifRefusal text one → IsLeastFault text other → (one ≡ other) ⊎ (one ≡ fault.Memory)
-answer-exact text (fault.Form line) other h l = inl (least-unique text (fault.Form line) other h l)
-answer-exact text (fault.Name line) other h l = inl (least-unique text (fault.Name line) other h l)
-answer-exact text (fault.Construct line) other h l = inl (least-unique text (fault.Construct line) other h l)
-answer-exact text (fault.Twice line first) other h l = inl (least-unique text (fault.Twice line first) other h l)
-answer-exact text (fault.Cover line) other h l = inl (least-unique text (fault.Cover line) other h l)
-answer-exact text (fault.Pins line count) other h l = inl (least-unique text (fault.Pins line count) other h l)
-answer-exact text (fault.Constant line) other h l = inl (least-unique text (fault.Constant line) other h l)
-answer-exact text (fault.Undefined line) other h l = inl (least-unique text (fault.Undefined line) other h l)
-answer-exact text (fault.TooMany variables) other h l = inl (least-unique text (fault.TooMany variables) other h l)
-answer-exact text fault.Memory other h l = inr refl
+answer-exact text one other (inl memory) least = inr memory
+answer-exact text one other (inr h) least = inl (least-unique text one other h least)

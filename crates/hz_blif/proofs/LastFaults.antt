@@ -18,7 +18,7 @@ use Rattle.hz_core.specs.Limits.{most_variables}
 use Rattle.hz_line.specs.Line.{most_text_bytes}
 use Rattle.hz_blif.specs.declared.draft.Constant.{Constant}
 use Rattle.hz_blif.specs.declared.draft.Draft.{Draft}
-use Rattle.hz_blif.specs.Fault.{IsBlifRefusal, IsFaultless}
+use Rattle.hz_blif.specs.Fault.{IsLeastFault, IsFaultless}
 use Rattle.hz_blif.proofs.CheckLaws.{found-last, stop}
 use Rattle.hz_blif.proofs.Growing.{varying-room}
 use Rattle.hz_blif.proofs.TextRoom.{text-room}
@@ -30,7 +30,7 @@ use Rattle.hz_blif.specs.Draft.{IsClean, IsDraftOf, constant_by, cover_uses, fir
 use Rattle.hz_blif.specs.Gates.{cover_gates}
 use Rattle.hz_blif.specs.Line.{Line, Blank, Model, Inputs, Outputs, Names, Row, End, Construct, lines_in}
 use Rattle.hz_blif.proofs.Ascending.{lines_in-ascend}
-use Rattle.hz_blif.proofs.FoundFaults.{answer-faultless, answer-refusal, undefined-least}
+use Rattle.hz_blif.proofs.FoundFaults.{answer-faultless, answer-least, undefined-least}
 use Rattle.hz_blif.proofs.NumberSteps.{AreConstantNumbers, user-at}
 use Rattle.hz_blif.proofs.ReadLaws.{is-read}
 use Rattle.hz_blif.proofs.UseLaws.{constants-used, kept-varying, number-among, some-line, used-parts}
@@ -245,10 +245,10 @@ constant-found text draft is clean are =
     map-twice (Some cover) = refl
 
 -- the answers
-pub refuse-constant : (text : List ℕ) (draft : Draft) (line : ℕ) → IsDraftOf text draft → IsClean draft → first_used draft draft.constants.items ≡ Some line → IsBlifRefusal text (fault.Constant line)
+pub refuse-constant : (text : List ℕ) (draft : Draft) (line : ℕ) → IsDraftOf text draft → IsClean draft → first_used draft draft.constants.items ≡ Some line → IsLeastFault text (fault.Constant line)
 refuse-constant text draft line is clean at =
     let are = (is.holds.covers clean.wrong_row clean.excess).constant_numbers in
-    answer-refusal text (fault.Constant line) (found-last text draft is clean ∙ stop _ _ (fault.Constant line) (constant-found text draft is clean are ∙ ap (option_map fault.Constant) at))
+    answer-least text (fault.Constant line) (found-last text draft is clean ∙ stop _ _ (fault.Constant line) (constant-found text draft is clean are ∙ ap (option_map fault.Constant) at))
 
 no-cover : (text : List ℕ) (draft : Draft) → IsDraftOf text draft → IsClean draft → first_used draft draft.constants.items ≡ None
     → find (λ cover. is_constant cover && not (is_skipped (lines_in text) cover)) (covers_of (lines_in text)) ≡ None
@@ -271,15 +271,15 @@ last-two text draft is clean at =
     ∙ (ap (λ line. first_found (option_map fault.Undefined line ∷ too_many (variable_total (elements_of lines)) ∷ [])) (undefined-told text draft is clean none)
     ∙ ap (λ variables. first_found (option_map fault.Undefined (first_undefined draft.names) ∷ too_many variables ∷ [])) (variables-told text draft is clean none)))
 
-pub refuse-undefined : (text : List ℕ) (draft : Draft) (line : ℕ) → IsDraftOf text draft → IsClean draft → first_used draft draft.constants.items ≡ None → first_undefined draft.names ≡ Some line → IsBlifRefusal text (fault.Undefined line)
+pub refuse-undefined : (text : List ℕ) (draft : Draft) (line : ℕ) → IsDraftOf text draft → IsClean draft → first_used draft draft.constants.items ≡ None → first_undefined draft.names ≡ Some line → IsLeastFault text (fault.Undefined line)
 refuse-undefined text draft line is clean none at =
-    answer-refusal text (fault.Undefined line) (last-two text draft is clean none ∙ ap (λ found. first_found (option_map fault.Undefined found ∷ too_many (length draft.inputs.items + draft.variables) ∷ [])) at)
+    answer-least text (fault.Undefined line) (last-two text draft is clean none ∙ ap (λ found. first_found (option_map fault.Undefined found ∷ too_many (length draft.inputs.items + draft.variables) ∷ [])) at)
 
 pub refuse-many : (text : List ℕ) (draft : Draft) (variables : ℕ) → IsDraftOf text draft → IsClean draft → first_used draft draft.constants.items ≡ None → first_undefined draft.names ≡ None
-    → variables ≡ length draft.inputs.items + draft.variables → most_variables < variables → IsBlifRefusal text (fault.TooMany variables)
+    → variables ≡ length draft.inputs.items + draft.variables → most_variables < variables → IsLeastFault text (fault.TooMany variables)
 refuse-many text draft variables is clean none known total many =
     let t : nat_lt most_variables variables ≡ true = grind (arith, nat_tests, many) in
-    answer-refusal text (fault.TooMany variables) (last-two text draft is clean none
+    answer-least text (fault.TooMany variables) (last-two text draft is clean none
     ∙ (ap (λ found. first_found (option_map fault.Undefined found ∷ too_many (length draft.inputs.items + draft.variables) ∷ [])) known
     ∙ (ap (λ variables. first_found (too_many variables ∷ [])) (sym total) ∙ ap (λ many. first_found (cond many (Some (fault.TooMany variables)) None ∷ [])) t)))
 

@@ -8,6 +8,7 @@ use Rattle.hz_netlist.specs.Element.{variable_total}
 use Rattle.hz_blif.specs.declared.fault.BlifFault.{BlifFault}
 use Rattle.hz_blif.specs.declared.fault.BlifFault.TheVariants.{Form, Name, Construct, Twice, Cover, Pins, Constant, Undefined, TooMany, Memory}
 use Rattle.hz_line.specs.LeastFault.{Faults, IsLeastOfAll}
+use Rattle.hz_line.specs.OrThat.{OrThat}
 use Rattle.hz_blif.specs.Text.{joined_lines, is_some_list}
 use Rattle.hz_blif.specs.Line.{Line, Blank, Model, Inputs, Outputs, Names, Row, End, Construct as ConstructLine, names_in, lines_in, takes_rows_after, is_statement, is_construct, is_end, has_two}
 use Rattle.hz_blif.specs.Cover.{Cover as CoverOf, covers_of, definitions_of, uses_of, is_wrong_row, is_skipped, is_constant}
@@ -175,13 +176,4 @@ IsFaultless text = (fault : BlifFault) → ¬ HasFault text fault
 
 -- what is answered in place of a circuit: the least fault, or that memory ran out
 abbrev pub IsBlifRefusal : List ℕ → BlifFault → Type 0
-IsBlifRefusal text Memory = Unit {0}
-IsBlifRefusal text (Form line) = IsLeastFault text (Form line)
-IsBlifRefusal text (Name line) = IsLeastFault text (Name line)
-IsBlifRefusal text (Construct line) = IsLeastFault text (Construct line)
-IsBlifRefusal text (Twice line first) = IsLeastFault text (Twice line first)
-IsBlifRefusal text (Cover line) = IsLeastFault text (Cover line)
-IsBlifRefusal text (Pins line count) = IsLeastFault text (Pins line count)
-IsBlifRefusal text (Constant line) = IsLeastFault text (Constant line)
-IsBlifRefusal text (Undefined line) = IsLeastFault text (Undefined line)
-IsBlifRefusal text (TooMany variables) = IsLeastFault text (TooMany variables)
+IsBlifRefusal text fault = OrThat Memory (IsLeastFault text) fault

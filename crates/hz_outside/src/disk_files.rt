@@ -1,11 +1,12 @@
 //! Files of the file system: the trusted edge.
-ghost use Rattle.std.specs.Prelude.{◌≡◌, ◌<◌, ◌≤◌, ◌+◌, length, vec_len, take, drop, IfOk, IfSome, OnOk, MatchResult};
+ghost use Rattle.std.specs.Prelude.{◌≡◌, ◌<◌, ◌≤◌, ◌+◌, ◌++◌, length, vec_len, take, drop, IfOk, IfSome, OnOk, MatchResult};
 ghost use Rattle.std.specs.Io.KnownBytes.{Consumes, IsAtEnd};
 ghost use Rattle.hz_outside.specs.DiskFiles.{empty_disk, disk_after_fault};
 
 use super::counts::PlaceCounts;
 use super::fault::{LoadFault, Memory, Place};
 use super::files::Files;
+use super::receive::Receive;
 use std::alloc::Global;
 use std::fs::OpenFile;
 use std::io::Read;
@@ -94,6 +95,32 @@ impl<'r, R: rt::Files> Files for DiskFiles<'r, R> {
         }
         loaded
     }
+
+    /// Gives the receiver what each read gives, until a read gives nothing or more than `most` bytes came. Counts rise as in
+    /// [`load`](DiskFiles::load).
+    fn load_into<T: Receive>(
+        &mut self,
+        alloc: Global,
+        place: Place,
+        name: &str,
+        most: usize,
+        receiver: &mut T,
+    ) -> Result<(), LoadFault>
+        ensures fixed { T.fixed receiver.new ≡ T.fixed receiver.old }
+        ensures short { OnOk result
+            (length (T.received receiver.new) ≤ length (T.received receiver.old) + most) }
+        ensures counts { MatchResult result (λ _. self.new ≡ self.old)
+            (λ fault. self.new ≡ disk_after_fault self.old place fault) }
+    {
+        let loaded = match fs::open(self.rt, name) {
+            Ok(mut file) => pass_on_by_parts(alloc, &mut file, most, receiver),
+            Err(_) => Err(LoadFault::Failed),
+        };
+        if let Err(fault) = &loaded {
+            self.count(place, *fault);
+        }
+        loaded
+    }
 }
 
 // How many bytes a file says that it has. A pipe says 0, and a file may be changed while it is read.
@@ -134,6 +161,63 @@ fn read_up_to<R: Read>(
         filled += count;
     }
     Err(LoadFault::TooLong)
+}
+
+/// Gives a receiver what each read gives, until a read gives nothing or more than `most` bytes came. One buffer is used again for each part.
+fn pass_on_by_parts<R: Read, T: Receive>(
+    alloc: Global,
+    reader: &mut R,
+    most: usize,
+    receiver: &mut T,
+) -> Result<(), LoadFault>
+    ensures fixed { T.fixed receiver.new ≡ T.fixed receiver.old }
+    ensures short { OnOk result
+        (length (T.received receiver.new) ≤ length (T.received receiver.old) + most) }
+    ensures whole { OnOk result
+        (IfSome (R.remaining reader.old)
+        (λ left. T.received receiver.new ≡ T.received receiver.old ++ left)) }
+    ensures over { result ≡ Err LoadFault.TooLong →
+        IfSome (R.remaining reader.old) (λ left. most < length left) }
+{
+    let Ok(mut buffer) = vec![in alloc; 0; READ_SIZE] else {
+        return Err(LoadFault::Memory);
+    };
+    pass_on(reader, buffer.as_mut_slice(), most, receiver)
+}
+
+// The same, by a buffer for one part.
+fn pass_on<R: Read, T: Receive>(
+    reader: &mut R,
+    buffer: &mut [u8],
+    most: usize,
+    receiver: &mut T,
+) -> Result<(), LoadFault>
+    requires { 0 < length buffer.old }
+    ensures fixed { T.fixed receiver.new ≡ T.fixed receiver.old }
+    ensures short { OnOk result
+        (length (T.received receiver.new) ≤ length (T.received receiver.old) + most) }
+    ensures whole { OnOk result
+        (IfSome (R.remaining reader.old)
+        (λ left. T.received receiver.new ≡ T.received receiver.old ++ left)) }
+    ensures over { result ≡ Err LoadFault.TooLong →
+        IfSome (R.remaining reader.old) (λ left. most < length left) }
+{
+    let mut left = most;
+    loop {
+        let Ok(len) = read_at(reader, buffer, 0) else {
+            return Err(LoadFault::Failed);
+        };
+        if len == 0 {
+            return Ok(());
+        }
+        if len > left {
+            return Err(LoadFault::TooLong);
+        }
+        let Ok(()) = receiver.receive(&buffer[..len]) else {
+            return Err(LoadFault::Memory);
+        };
+        left -= len;
+    }
 }
 
 // Makes room behind the first so many bytes, which stay, if there is none.

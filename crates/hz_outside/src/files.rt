@@ -1,9 +1,10 @@
 //! Where files come from.
-ghost use Rattle.std.specs.Prelude.{◌≡◌, ℕ, ◌<◌, ◌≤◌, ◌↔◌, List, length, vec_len, Option, IfOk, IfSome};
+ghost use Rattle.std.specs.Prelude.{◌≡◌, ℕ, ◌+◌, ◌<◌, ◌≤◌, ◌↔◌, List, ◌++◌, length, vec_len, Option, IfOk, IfSome, OnOk};
 ghost use Rattle.hz_outside.specs.Counts.{Rose};
 ghost use Rattle.hz_outside.specs.Places.{other_place};
 
 use super::fault::{LoadFault, Place};
+use super::receive::Receive;
 use std::alloc::Global;
 
 /// A store of files by name, from which whole files are loaded.
@@ -53,4 +54,46 @@ pub trait Files {
         ensures other_granted { (other_name : List ℕ) (other_most : ℕ) →
             granted self.new (other_place place) other_name other_most
             ↔ granted self.old (other_place place) other_name other_most };
+
+    /// Gives the bytes of the file, of which there may be at most `most`, to a receiver, part by part. So a large file is read
+    /// without being held. For the rest it is a load as [`load`](Files::load) is. After a refusal the receiver may have
+    /// received some parts.
+    fn load_into<T: Receive>(
+        &mut self,
+        alloc: Global,
+        place: Place,
+        name: &str,
+        most: usize,
+        receiver: &mut T,
+    ) -> Result<(), LoadFault>
+        requires { granted self.old place name.now most }
+        ensures fixed { T.fixed receiver.new ≡ T.fixed receiver.old }
+        ensures short { OnOk result
+            (length (T.received receiver.new) ≤ length (T.received receiver.old) + most) }
+        ensures bytes { OnOk result
+            (IfSome (held self.old)
+            (λ bytes_of. T.received receiver.new ≡ T.received receiver.old ++ bytes_of name.now)) }
+        ensures failed { result ≡ Err LoadFault.Failed →
+            Rose (faults self.old place) (faults self.new place) }
+        ensures too_long { result ≡ Err LoadFault.TooLong →
+            Rose (longs self.old place) (longs self.new place) }
+        ensures over { result ≡ Err LoadFault.TooLong →
+            IfSome (held self.old) (λ bytes_of. most < length (bytes_of name.now)) }
+        ensures same_files { held self.new ≡ held self.old }
+        ensures faults_never_fall { faults self.old place ≤ faults self.new place }
+        ensures longs_never_fall { longs self.old place ≤ longs self.new place }
+        ensures other_faults { faults self.new (other_place place)
+            ≡ faults self.old (other_place place) }
+        ensures other_longs { longs self.new (other_place place)
+            ≡ longs self.old (other_place place) }
+        ensures other_granted { (other_name : List ℕ) (other_most : ℕ) →
+            granted self.new (other_place place) other_name other_most
+            ↔ granted self.old (other_place place) other_name other_most }
+    {
+        let file = self.load(alloc, place, name, most)?;
+        match receiver.receive(file.as_slice()) {
+            Ok(()) => Ok(()),
+            Err(_) => Err(LoadFault::Memory),
+        }
+    }
 }

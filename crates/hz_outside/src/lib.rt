@@ -3,7 +3,8 @@
 //! | Module | What lives in it |
 //! |---|---|
 //! | `fault` | the faults of a load and of a put, the two places, out of memory |
-//! | `files` | the trait [`Files`]: a load gives the whole bytes of a file |
+//! | `files` | the trait [`Files`]: a load gives the whole bytes of a file, at once or part by part |
+//! | `receive` | the trait [`Receive`]: what takes the bytes of a file part by part |
 //! | `sink` | the trait [`Sink`]: a put takes a piece, a flush writes what waits |
 //! | `gathered` | a buffer of 64 KiB in front of any sink |
 //! | `counts` | counts of faults, one for each place |
@@ -22,6 +23,7 @@ mod mem_files;
 mod mem_sink;
 mod plain_files;
 mod plain_sink;
+mod receive;
 mod shelf;
 mod sink;
 mod std_sink;
@@ -34,5 +36,6 @@ pub use mem_files::MemFiles;
 pub use mem_sink::MemSink;
 pub use plain_files::PlainFiles;
 pub use plain_sink::PlainSink;
+pub use receive::Receive;
 pub use sink::Sink;
 pub use std_sink::StdSink;

@@ -4,13 +4,12 @@ use Rattle.hz_outside.specs.declared.fault.Place.{Place}
 use Rattle.hz_outside.specs.declared.fault.LoadFault.{LoadFault}
 use Rattle.hz_outside.specs.declared.fault.LoadFault.TheVariants as load
 use Rattle.hz_core.specs.Netlist.{Netlist}
+use Rattle.hz_line.specs.OrThat.{OrThat}
 use Rattle.hz_pass.specs.Completed.{IsStartFault}
 use Rattle.hz_pass.specs.declared.completed_start.StartFault.{StartFault}
 use Rattle.hz_pass.specs.declared.completed_start.StartFault.TheVariants as start
-use Rattle.hz_bench.specs.declared.fault.BenchFault.{BenchFault}
 use Rattle.hz_bench.specs.declared.fault.BenchFault.TheVariants as bench
 use Rattle.hz_bench.specs.Fault as bench_fault
-use Rattle.hz_blif.specs.declared.fault.BlifFault.{BlifFault}
 use Rattle.hz_blif.specs.declared.fault.BlifFault.TheVariants as blif
 use Rattle.hz_blif.specs.Fault as blif_fault
 use Rattle.hz_refusal.specs.declared.netlist.NetlistFault.{NetlistFault}
@@ -41,36 +40,17 @@ start-refused netlist listed (start.Open gate) least own text says = (says.0, in
 start-refused netlist listed (start.Unstable gate) least own text says = (says.0, inr (gate, least, says.1))
 start-refused netlist listed start.Memory least own text says = absurd says
 
--- a refusal of a netlist other than out of memory is the least fault of its text
-bench-refused : (text : List ℕ) (fault : BenchFault) → bench_fault.IsNetlistRefusal text fault → fault ≢ bench.Memory → bench_fault.IsLeastFault text fault
-bench-refused text (bench.Form line) least other = least
-bench-refused text (bench.Name line) least other = least
-bench-refused text (bench.KindUnknown line) least other = least
-bench-refused text (bench.Twice line first) least other = least
-bench-refused text (bench.Pins line count) least other = least
-bench-refused text (bench.Undefined line) least other = least
-bench-refused text (bench.TooMany variables) least other = least
-bench-refused text bench.Memory least other = absurd (other refl)
-
-blif-refused : (text : List ℕ) (fault : BlifFault) → blif_fault.IsBlifRefusal text fault → fault ≢ blif.Memory → blif_fault.IsLeastFault text fault
-blif-refused text (blif.Form line) least other = least
-blif-refused text (blif.Name line) least other = least
-blif-refused text (blif.Construct line) least other = least
-blif-refused text (blif.Twice line first) least other = least
-blif-refused text (blif.Cover line) least other = least
-blif-refused text (blif.Pins line count) least other = least
-blif-refused text (blif.Constant line) least other = least
-blif-refused text (blif.Undefined line) least other = least
-blif-refused text (blif.TooMany variables) least other = least
-blif-refused text blif.Memory least other = absurd (other refl)
+-- a refusal other than out of memory is what else it tells
+refused : {F : Type 0} (memory : F) (told : F → Type 0) (fault : F) → OrThat memory told fault → fault ≢ memory → told fault
+refused memory told fault (inl is) other = absurd (other is)
+refused memory told fault (inr says) other = says
 
 -- a line that is written of a fault of a netlist refuses its text
 pub netlist-refused : (name text : List ℕ) (fault : NetlistFault) → IsNetlistRefusal name text fault → (own : Status) (written : List ℕ) → NetlistPrints fault own written
     → NetlistRefused name text (netlist_fault_line fault) × Prints status.Netlist (netlist_fault_line fault) own written
-netlist-refused name text (Bench fault) least own written says = ((Bench fault, (least.0, bench-refused text fault least.1 says.0), refl), says.1)
-netlist-refused name text (Blif fault) least own written says = ((Blif fault, (least.0, blif-refused text fault least.1 says.0), refl), says.1)
+netlist-refused name text (Bench fault) least own written says = ((Bench fault, (least.0, refused bench.Memory (bench_fault.IsLeastFault text) fault least.1 says.0), refl), says.1)
+netlist-refused name text (Blif fault) least own written says = ((Blif fault, (least.0, refused blif.Memory (blif_fault.IsLeastFault text) fault least.1 says.0), refl), says.1)
 
 -- a refusal of a text other than out of memory is the least of the faults that hold
 pub text-refused : (holds : TextFault → Type 0) (fault : TextFault) → IsLeastFaultOrMemory holds fault → fault ≢ reading.Memory → IsLeastFaultOf holds fault
-text-refused holds fault (inl memory) other = absurd (other memory)
-text-refused holds fault (inr least) other = least
+text-refused holds fault refusal other = refused reading.Memory (IsLeastFaultOf holds) fault refusal other

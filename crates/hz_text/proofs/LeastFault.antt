@@ -1,23 +1,25 @@
 -- Passes that answer the least place of their kind, one after the other, answer the least fault.
-use Rattle.std.proofs.Common.{◌≡◌, ◌∙◌, ℕ, ◌+◌, ◌≤◌, List, Option, Some, None, refl, ap, sym, subst, inl, inr, arith, Bool, Result, Ok, Err}
+use Rattle.std.proofs.Common.{◌≡◌, ◌∙◌, ℕ, ◌+◌, List, Option, Some, None, refl, ap, sym, subst, inl, inr, arith, Bool, Result, Ok, Err}
 use Rattle.std.specs.Option.{option_map, option_or}
 use Rattle.std.specs.Prelude.{◌⊎◌, ◌==◌, if◌then◌else◌, IfOk, MatchResult}
-use Rattle.std.proofs.lemmas.Bool.{cases_lt, cases_eq}
+use Rattle.std.proofs.lemmas.Bool.{cases_eq}
 use Rattle.std.proofs.lemmas.Option.{same_Some, none-some}
 use Rattle.hz_lists.specs.Least.{IsLeastOf}
+use Rattle.hz_line.specs.LeastFault.{ComesFirst}
 use Rattle.hz_line.specs.Reading.{AreStatementsOf}
 use Rattle.hz_line.specs.Token.{TokenOf}
 use Rattle.hz_line.specs.Statement.{Numbered, PassesOn, first_passing_line}
+use Rattle.hz_line.proofs.LeastLaws as least
 use Rattle.hz_line.proofs.StatementLemmas.{Ascends, first_passing_line-Some, first_passing_line-None}
 use Rattle.hz_text.specs.declared.fault.TextFault.{TextFault}
 use Rattle.hz_text.specs.declared.fault.TextFault.TheVariants.{Form, Unknown, Twice, Missing, Bit, Order, TooMany, Memory, Mismatch}
 use Rattle.hz_text.specs.declared.fault.Mismatch.{Mismatch as Wrong}
-use Rattle.hz_text.specs.Fault.{fault_number, place_of, ComesFirst, IsLeastFaultOf, IsLeastFaultOrMemory}
+use Rattle.hz_text.specs.Fault.{fault_number, place_of, faults_that, IsLeastFaultOf, IsLeastFaultOrMemory}
 use Rattle.hz_text.specs.Rules.{Rules, mismatch_at, first_fault_in, first_fault_of, IsFaultOrMemory, IsChecked}
 
 -- no fault with a number below this one stands
 abbrev pub NoneBelow : (TextFault → Type 0) → ℕ → Type 0
-NoneBelow stands number = (fault : TextFault) → stands fault → number ≤ fault_number fault
+NoneBelow stands number = least.NoneBelow (faults_that stands) number
 
 -- what an answer says: no fault stands, or this one is the least
 abbrev pub Outcome : (TextFault → Type 0) → Option TextFault → Type 0
@@ -56,12 +58,6 @@ fault_of-back (TooMany line) = refl
 fault_of-back Memory = refl
 fault_of-back (Mismatch line told real) = refl
 
-pub both-first : (fault other : TextFault) → ComesFirst fault other → ComesFirst other fault → (fault_number fault ≡ fault_number other) × (place_of fault ≡ place_of other)
-both-first fault other (inl a) (inl b) = absurd (omega (arith, a, b))
-both-first fault other (inl a) (inr b) = absurd (omega (arith, a, b.0))
-both-first fault other (inr a) (inl b) = absurd (omega (arith, a.0, b))
-both-first fault other (inr a) (inr b) = (a.0, omega (arith, a.1, b.1))
-
 -- a fault by its number
 same_fault : (fault : TextFault) (number : ℕ) → fault_number fault ≡ number → fault ≡ fault_of number (place_of fault) (told_of fault) (real_of fault)
 same_fault fault number e = sym (fault_of-back fault) ∙ ap (λ n. fault_of n (place_of fault) (told_of fault) (real_of fault)) e
@@ -77,28 +73,19 @@ pub outcome-step :
     NoneBelow stands number → IsLeastOf (λ place. stands (kind place)) answer →
     (answer ≡ None → NoneBelow stands (number + 1) → Outcome stands rest) → Outcome stands (option_or (option_map kind answer) rest)
 outcome-step stands kind number None rest is below none next =
-    next refl (λ fault s. elim (cases_eq (fault_number fault) number) [
-      | inl same ↦ absurd (none (place_of fault) (subst stands (same_fault fault number same ∙ sym (is (place_of fault) (told_of fault) (real_of fault)).2) s))
-      | inr other ↦ above fault (below fault s) other
-    ])
+    next refl (λ fault s. omega (arith, least.none_below-next (faults_that stands) number below (λ fault s same. none (place_of fault) (of_kind fault same s)) fault s))
   where
-    above : (fault : TextFault) → number ≤ fault_number fault → (fault_number fault ≡ number → ⊥) → number + 1 ≤ fault_number fault
-    above fault low other = elim (cases_lt number (fault_number fault)) [
-      | inl l ↦ omega (arith, l)
-      | inr l ↦ absurd (other (omega (arith, l, low)))
-    ]
-outcome-step stands kind number (Some place) rest is below least next =
-    record {
-      stands = least.here;
-      first = λ other s. elim (cases_lt number (fault_number other)) [
-        | inl l ↦ inl (omega (arith, l, (is place 0 0).0))
-        | inr l ↦ (
-            let same : fault_number other ≡ number = omega (arith, l, below other s) in
-            let at = least.least (place_of other) (subst stands (same_fault other number same ∙ sym (is (place_of other) (told_of other) (real_of other)).2) s) in
-            inr (((is place 0 0).0 ∙ sym same), omega (arith, at, (is place 0 0).1))
-            )
-      ];
-    }
+    of_kind : (fault : TextFault) → fault_number fault ≡ number → stands fault → stands (kind (place_of fault))
+    of_kind fault same s = subst stands (same_fault fault number same ∙ sym (is (place_of fault) (told_of fault) (real_of fault)).2) s
+outcome-step stands kind number (Some place) rest is below found next =
+    least.least-from (faults_that stands) number (kind place) below (record {
+      stands = found.here;
+      number_is = (is place 0 0).0;
+      least = λ fault s same. omega (arith, found.least (place_of fault) (of_kind fault same s), (is place 0 0).1);
+    })
+  where
+    of_kind : (fault : TextFault) → fault_number fault ≡ number → stands fault → stands (kind (place_of fault))
+    of_kind fault same s = subst stands (same_fault fault number same ∙ sym (is (place_of fault) (told_of fault) (real_of fault)).2) s
 
 pub any_number : (stands : TextFault → Type 0) → NoneBelow stands 1
 any_number stands (Form line) s = omega arith
@@ -138,12 +125,12 @@ outcome-mismatch stands None one never below none = only
     only (Bit line) s = absurd (omega (arith, below (Bit line) s))
     only (Order line) s = absurd (omega (arith, below (Order line) s))
     only (TooMany line) s = absurd (omega (arith, below (TooMany line) s))
-outcome-mismatch stands (Some wrong) one never below here = record { stands = here; first = first }
+outcome-mismatch stands (Some wrong) one never below here = record { stands = here; least = first }
   where
-    first : (other : TextFault) → stands other → ComesFirst (mismatch_at wrong) other
+    first : (other : TextFault) → stands other → ComesFirst (faults_that stands) (mismatch_at wrong) other
     first Memory s = absurd (never s)
     first (Mismatch line told real) s =
-        let P : TextFault → Type 0 = ComesFirst (mismatch_at wrong) in
+        let P : TextFault → Type 0 = ComesFirst (faults_that stands) (mismatch_at wrong) in
         subst P (one wrong.line wrong.told wrong.real line told real here s) (inr (refl, omega arith))
     first (Form line) s = absurd (omega (arith, below (Form line) s))
     first (Unknown line) s = absurd (omega (arith, below (Unknown line) s))
@@ -182,7 +169,7 @@ no_counts (Mismatch line told real) n = absurd (n refl)
 -- the least fault is one
 pub least-unique : (stands : TextFault → Type 0) (fault other : TextFault) → OneMismatch stands → IsLeastFaultOf stands fault → IsLeastFaultOf stands other → fault ≡ other
 least-unique stands fault other one a b =
-    let same = both-first fault other (a.first other b.stands) (b.first fault a.stands) in
+    let same = least.both-first (faults_that stands) fault other (a.least other b.stands) (b.least fault a.stands) in
     elim (cases_eq (fault_number fault) 9) [
       | inl nine ↦ (
           let left = is_mismatch fault nine in

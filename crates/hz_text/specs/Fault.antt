@@ -1,5 +1,6 @@
 -- Which of the faults that stand in a text is told.
-use Rattle.std.specs.Prelude.{◌≡◌, ℕ, ◌<◌, ◌≤◌, ◌⊎◌}
+use Rattle.std.specs.Prelude.{ℕ}
+use Rattle.hz_line.specs.LeastFault.{Faults, IsLeastOfAll}
 use Rattle.hz_line.specs.OrThat.{OrThat}
 use Rattle.hz_text.specs.declared.fault.TextFault.{TextFault}
 use Rattle.hz_text.specs.declared.fault.TextFault.TheVariants.{Form, Unknown, Twice, Missing, Bit, Order, TooMany, Memory, Mismatch}
@@ -28,16 +29,13 @@ place_of (TooMany line) = line
 place_of Memory = 0
 place_of (Mismatch line told real) = line
 
--- the fault has a lesser number than the other, or the same number and no later line or node
-abbrev pub ComesFirst : TextFault → TextFault → Type 0
-ComesFirst fault other =
-    (fault_number fault < fault_number other)
-    ⊎ ((fault_number fault ≡ fault_number other) × (place_of fault ≤ place_of other))
+-- the faults of a text, of which those stand that hold
+abbrev pub faults_that : (TextFault → Type 0) → Faults TextFault
+faults_that holds = record { stands = holds; number = fault_number; line = place_of }
 
--- of the faults that hold, this one comes before each other
-pub record IsLeastFaultOf (holds : TextFault → Type 0) (fault : TextFault) : Type 0 where
-  pub stands : holds fault
-  pub first : (other : TextFault) → holds other → ComesFirst fault other
+-- of the faults that hold, this one is the least: of the least number, and of the least line or node among those
+abbrev pub IsLeastFaultOf : (TextFault → Type 0) → TextFault → Type 0
+IsLeastFaultOf holds fault = IsLeastOfAll (faults_that holds) fault
 
 -- of the faults that hold, this one is the least; memory may always run out
 abbrev pub IsLeastFaultOrMemory : (TextFault → Type 0) → TextFault → Type 0

@@ -1,4 +1,4 @@
-use Rattle.std.proofs.Common.{◌≡◌, ◌∙◌, ◌+◌, ap, arith, length, sym}
+use Rattle.std.proofs.Common.{◌≡◌, ◌∙◌, ◌+◌, ap, arith, inr, length, sym}
 use Rattle.hz_blif.proofs.LastFaults.{accept, count-small, refuse-constant, refuse-many, refuse-undefined}
 use Rattle.hz_blif.proofs.reading.check_names.Goals as goal
 
@@ -9,10 +9,10 @@ pub first_used_constant-requires-clause-pins : goal.first_used_constant-requires
 first_used_constant-requires-clause-pins c = (c.requires.draft.is.holds.covers c.requires.clean.wrong_row c.requires.clean.excess).pin_numbers
 
 pub returns-in-Ok-Some : goal.returns-in-Ok-Some
-returns-in-Ok-Some c = λ text is. refuse-constant text c.args.draft.now c.in-Ok-Some.line is c.requires.clean (sym c.in-Ok-Some.ensures ∙ c.in-Ok-Some.field-0-is)
+returns-in-Ok-Some c = λ text is. inr (refuse-constant text c.args.draft.now c.in-Ok-Some.line is c.requires.clean (sym c.in-Ok-Some.ensures ∙ c.in-Ok-Some.field-0-is))
 
 pub returns-in-Some : goal.returns-in-Some
-returns-in-Some c = λ text is. refuse-undefined text c.args.draft.now c.in-Some.line is c.requires.clean (sym c.in-Ok-None.ensures ∙ c.in-Ok-None.field-0-is) (sym c.first_undefined.ensures ∙ c.in-Some.is)
+returns-in-Some c = λ text is. inr (refuse-undefined text c.args.draft.now c.in-Some.line is c.requires.clean (sym c.in-Ok-None.ensures ∙ c.in-Ok-None.field-0-is) (sym c.first_undefined.ensures ∙ c.in-Some.is))
 
 pub overflow_add-variables : goal.overflow_add-variables
 overflow_add-variables c =
@@ -27,8 +27,8 @@ overflow_cast-result c =
 pub returns-then-variables : goal.returns-then-variables
 returns-then-variables c = λ text is.
     (let long : c.len.result ≡ length c.args.draft.now.inputs.items = omega (arith, c.len.ensures, c.args.draft.now.inputs.ok.0) in
-    refuse-many text c.args.draft.now (c.len.result + c.args.draft.now.variables) is c.requires.clean (sym c.in-Ok-None.ensures ∙ c.in-Ok-None.field-0-is) (sym c.first_undefined.ensures ∙ c.in_default.is)
-    (ap (λ n. n + c.args.draft.now.variables) long) (omega (arith, c.if-variables.true)))
+    inr (refuse-many text c.args.draft.now (c.len.result + c.args.draft.now.variables) is c.requires.clean (sym c.in-Ok-None.ensures ∙ c.in-Ok-None.field-0-is) (sym c.first_undefined.ensures ∙ c.in_default.is)
+    (ap (λ n. n + c.args.draft.now.variables) long) (omega (arith, c.if-variables.true))))
 
 pub returns : goal.returns
 returns c = λ text is.

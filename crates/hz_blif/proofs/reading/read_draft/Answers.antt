@@ -42,11 +42,11 @@ close_cover-requires c = reading-short c.args.text.now c.loop-rest.draft c.loop-
 pub returns-then-joined : goal.returns-then-joined
 returns-then-joined c =
     let was = subst (λ (rest : Option (Bor (List ℕ))). IsReading c.args.text.now c.loop-rest.draft c.loop-rest.course c.loop-rest.number rest) c.in-Some.is c.loop-rest.invariant in
-    reading-fault c.args.text.now c.loop-rest.draft c.loop-rest.course c.loop-rest.number c.in-Some.left c.read_line.new.tokens.items c.in-Ok.joined (line_by c.line_of-line.result) false was c.in-Ok.ensures.joined
-    (c.line_of-line.ensures ∙ ap (λ tokens. line_of (bytes_of tokens)) c.as_slice.ensures.value) (inl c.if-joined.true)
+    inr (reading-fault c.args.text.now c.loop-rest.draft c.loop-rest.course c.loop-rest.number c.in-Some.left c.read_line.new.tokens.items c.in-Ok.joined (line_by c.line_of-line.result) false was c.in-Ok.ensures.joined
+    (c.line_of-line.ensures ∙ ap (λ tokens. line_of (bytes_of tokens)) c.as_slice.ensures.value) (inl c.if-joined.true))
 
 pub returns-then-refuses : goal.returns-then-refuses
 returns-then-refuses c =
     let was = subst (λ (rest : Option (Bor (List ℕ))). IsReading c.args.text.now c.loop-rest.draft c.loop-rest.course c.loop-rest.number rest) c.in-Some.is c.loop-rest.invariant in
-    reading-fault c.args.text.now c.loop-rest.draft c.loop-rest.course c.loop-rest.number c.in-Some.left c.read_line.new.tokens.items c.in-Ok.joined (line_by c.line_of-line.result) c.refuses.result was c.in-Ok.ensures.joined
-    (c.line_of-line.ensures ∙ ap (λ tokens. line_of (bytes_of tokens)) c.as_slice.ensures.value) (inr (c.if-refuses.true, c.refuses.ensures.refuses))
+    inr (reading-fault c.args.text.now c.loop-rest.draft c.loop-rest.course c.loop-rest.number c.in-Some.left c.read_line.new.tokens.items c.in-Ok.joined (line_by c.line_of-line.result) c.refuses.result was c.in-Ok.ensures.joined
+    (c.line_of-line.ensures ∙ ap (λ tokens. line_of (bytes_of tokens)) c.as_slice.ensures.value) (inr (c.if-refuses.true, c.refuses.ensures.refuses)))

@@ -19,3 +19,21 @@ load-tells g c =
       other_longs = counts.other_longs;
       other_granted = search rules;
     }
+
+pub load_into-tells : goal.load_into-tells
+load_into-tells g c =
+    let counts = kept _ _ c.args.place c.result c.ensures.counts in
+    record {
+      fixed = c.ensures.fixed;
+      short = c.ensures.short;
+      bytes = search rules;
+      failed = λ e. let h = rw e at c.ensures.counts in rw h (failed-rose c.args.self.now c.args.place);
+      too_long = λ e. let h = rw e at c.ensures.counts in rw h (long-rose c.args.self.now c.args.place);
+      over = λ _. tt;
+      same_files = refl;
+      faults_never_fall = counts.faults;
+      longs_never_fall = counts.longs;
+      other_faults = counts.other_faults;
+      other_longs = counts.other_longs;
+      other_granted = search rules;
+    }
