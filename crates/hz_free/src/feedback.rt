@@ -1,13 +1,13 @@
 //! The feedback cycles. Each variable that is not feedback-free chooses one of the variables that it reads; the way back from
 //! choice to choice comes around in a cycle, which is the core of the variable.
-ghost use Rattle.std.specs.Prelude.{◌≡◌, ◌↔◌, ℕ, ◌+◌, ◌^◌, ◌<◌, ◌≤◌, true, List, [], None, length, map, IfOk, OnOk, MatchOption, IsTrue, All, nat_eq, position};
+ghost use Rattle.std.specs.Prelude.{◌≡◌, ◌↔◌, ℕ, ◌+◌, ◌^◌, ◌<◌, ◌≤◌, true, List, [], None, length, IfOk, OnOk, MatchOption, IsTrue, All, nat_eq, position};
 ghost use Rattle.hz_net.specs.Network.{Driver, network_of, bit_at, IsVariable};
 ghost use Rattle.hz_net.specs.Reads.{IsWired};
 ghost use Rattle.hz_lists.specs.Listed.{is_listed};
 ghost use Rattle.hz_free.specs.Chains.{IsFeedbackFree};
 ghost use Rattle.hz_free.specs.Feedback.{IsChoice};
 ghost use Rattle.hz_free.specs.FreePart.{AreMarks, AreFeedback};
-ghost use Rattle.hz_free.specs.Paths.{IsLink, AreLinks, IsPathToMark, AreChoices, AreRooted, AreChoosers, AreNumbered, HasRoot, HaveValue, HaveChoosers, IsFeeding, HasNoLinks, IsInside, AddsCycle, core_by};
+ghost use Rattle.hz_free.specs.Paths.{IsLink, AreLinks, IsPathToMark, AreChoices, AreRooted, AreChoosers, AreNumbered, HasRoot, HaveValue, HaveChoosers, IsFeeding, HasNoLinks, IsInside, AddsCycle, HaveNumbers, core_by};
 
 use crate::cycles::Cycles;
 use hz_core::Memory;
@@ -35,13 +35,17 @@ pub(crate) fn find_feedback(alloc: Global, net: &Net, free: &[bool]) -> Result<F
     let mut choosers = no_links(alloc, choices.len())?;
     let mut roots = no_links(alloc, choices.len())?;
     let mut numbers = no_links(alloc, choices.len())?;
-    find_cycles(
+    let cycles = find_cycles(
         alloc,
         choices.as_slice(),
         choosers.as_mut_slice(),
         roots.as_mut_slice(),
         numbers.as_mut_slice(),
-    )
+    )?;
+    Ok(Feedback {
+        cycles,
+        cores: roots,
+    })
 }
 
 // Whether each variable is feedback-free.
@@ -63,27 +67,29 @@ fn no_feedback(alloc: Global) -> Feedback
 }
 
 // The cycles of given choices, with room for what is found of each variable: which variable of its cycle chose it, in which
-// variable of a cycle the way back from it ends, and the number of its cycle.
+// variable of a cycle the way back from it ends, and the number of its cycle. In the end each variable has the number of its core in
+// place of its root.
 fn find_cycles(
     alloc: Global,
     choices: &[Option<u32>],
     choosers: &mut [Option<u32>],
     roots: &mut [Option<u32>],
     numbers: &mut [Option<u32>],
-) -> Result<Feedback, Memory>
+) -> Result<Cycles, Memory>
     requires room { length choices.now < 2 ^ 32 }
     requires links { AreLinks choices.now }
     requires choosers { HasNoLinks (length choices.now) choosers.old }
     requires roots { HasNoLinks (length choices.now) roots.old }
     requires numbers { HasNoLinks (length choices.now) numbers.old }
     ensures { IfOk result
-        (λ feedback. (net : List Driver) → IsWired net → AreChoices net choices.now →
-        AreFeedback net feedback.cycles feedback.cores.items) }
+        (λ cycles. (net : List Driver) → IsWired net → AreChoices net choices.now →
+        AreFeedback net cycles roots.new) }
 {
-    find_roots(alloc, choices, choosers, roots)?;
-    let cycles = list_cycles(alloc, choosers, numbers)?;
-    let cores = list_cores(alloc, roots, numbers)?;
-    Ok(Feedback { cycles, cores })
+    let mut path = Vec::new(alloc);
+    find_roots(choices, choosers, roots, &mut path)?;
+    let cycles = list_cycles(alloc, choosers, numbers, &mut path)?;
+    write_cores(roots, numbers);
+    Ok(cycles)
 }
 
 // What each variable chooses that is not feedback-free.
@@ -144,49 +150,40 @@ fn no_links(alloc: Global, variables: usize) -> Result<Vec<Option<u32>>, Memory>
     Ok(links)
 }
 
-// The way from a variable from link to link, and the variable in which it ends.
-#[derive(Debug, Drop)]
-struct Path {
-    variables: Vec<u32>,
-    end: u32,
-}
-
-// Goes from a variable from link to link, until a variable that has a mark, and marks those on the way.
+// Goes from a variable from link to link, until a variable that has a mark, and marks those on the way. They become the path. Returns
+// the variable in which it ends.
 fn follow(
-    alloc: Global,
     links: &[Option<u32>],
     start: u32,
     mark: u32,
     marks: &mut [Option<u32>],
-) -> Result<Path, Memory>
+    path: &mut Vec<u32>,
+) -> Result<u32, Memory>
     requires links { AreLinks links.now }
     requires start { IsLink links.now start }
     requires long { length marks.old ≡ length links.now }
     ensures { IfOk result
-        (λ path. IsPathToMark links.now start mark path.variables.items path.end marks.old
-        marks.new) }
+        (λ end. IsPathToMark links.now start mark path.new.items end marks.old marks.new) }
 {
-    let mut variables = Vec::new(alloc);
+    path.clear();
     let mut var = start;
     while marks[var as usize].is_none() {
-        let Ok(()) = variables.push(var) else {
+        let Ok(()) = path.push(var) else {
             return Err(Memory);
         };
         marks[var as usize] = Some(mark);
         var = links[var as usize].unwrap();
     }
-    Ok(Path {
-        variables,
-        end: var,
-    })
+    Ok(var)
 }
 
-// For each variable that has a choice its root, and for each variable of a cycle which one of the cycle chose it.
+// For each variable that has a choice its root, and for each variable of a cycle which one of the cycle chose it. Any path that is given
+// lends its room.
 fn find_roots(
-    alloc: Global,
     choices: &[Option<u32>],
     choosers: &mut [Option<u32>],
     roots: &mut [Option<u32>],
+    path: &mut Vec<u32>,
 ) -> Result<(), Memory>
     requires room { length choices.now < 2 ^ 32 }
     requires links { AreLinks choices.now }
@@ -195,7 +192,7 @@ fn find_roots(
 {
     for var in 0..choices.len() {
         if choices[var].is_some() {
-            match find_root(alloc, choices, var as u32, choosers, roots) {
+            match find_root(choices, var as u32, choosers, roots, path) {
                 Ok(()) => {}
                 Err(fault) => return Err(fault),
             }
@@ -206,26 +203,20 @@ fn find_roots(
 
 // The root of a variable and of those on the way back from it.
 fn find_root(
-    alloc: Global,
     choices: &[Option<u32>],
     start: u32,
     choosers: &mut [Option<u32>],
     roots: &mut [Option<u32>],
+    path: &mut Vec<u32>,
 ) -> Result<(), Memory>
     requires links { AreLinks choices.now }
     requires start { IsLink choices.now start }
     requires rooted { AreRooted choices.now choosers.old roots.old start }
     ensures { OnOk result (AreRooted choices.now choosers.new roots.new (start + 1)) }
 {
-    let path = follow(alloc, choices, start, start, roots)?;
-    let root = root_of(
-        choices,
-        path.variables.as_slice(),
-        path.end,
-        choosers,
-        roots,
-    );
-    set_roots(path.variables.as_slice(), root, roots);
+    let end = follow(choices, start, start, roots, path)?;
+    let root = root_of(choices, path.as_slice(), end, choosers, roots);
+    set_roots(path.as_slice(), root, roots);
     Ok(())
 }
 
@@ -282,11 +273,12 @@ fn set_roots(path: &[u32], root: Option<u32>, roots: &mut [Option<u32>])
     }
 }
 
-// The cycles in the order of their least variables, each from its least variable on.
+// The cycles in the order of their least variables, each from its least variable on. Any path that is given lends its room.
 fn list_cycles(
     alloc: Global,
     choosers: &[Option<u32>],
     numbers: &mut [Option<u32>],
+    path: &mut Vec<u32>,
 ) -> Result<Cycles, Memory>
     requires room { length choosers.now < 2 ^ 32 }
     requires links { AreLinks choosers.now }
@@ -298,7 +290,7 @@ fn list_cycles(
     let mut cycles = Cycles::new(alloc);
     for var in 0..choosers.len() {
         if choosers[var].is_some() && numbers[var].is_none() {
-            match list_cycle(alloc, choosers, var as u32, numbers, &mut cycles) {
+            match list_cycle(choosers, var as u32, numbers, path, &mut cycles) {
                 Ok(()) => {}
                 Err(fault) => return Err(fault),
             }
@@ -309,10 +301,10 @@ fn list_cycles(
 
 // The cycle of a variable, from that variable on.
 fn list_cycle(
-    alloc: Global,
     choosers: &[Option<u32>],
     first: u32,
     numbers: &mut [Option<u32>],
+    path: &mut Vec<u32>,
     cycles: &mut Cycles,
 ) -> Result<(), Memory>
     requires links { AreLinks choosers.now }
@@ -322,28 +314,18 @@ fn list_cycle(
     ensures { OnOk result
         (AddsCycle choosers.now first numbers.old cycles.old numbers.new cycles.new) }
 {
-    let path = follow(alloc, choosers, first, cycles.len() as u32, numbers)?;
-    cycles.push(path.variables.as_slice())
+    follow(choosers, first, cycles.len() as u32, numbers, path)?;
+    cycles.push(path.as_slice())
 }
 
-// The number of each variable's core: that of its root.
-fn list_cores(
-    alloc: Global,
-    roots: &[Option<u32>],
-    numbers: &[Option<u32>],
-) -> Result<Vec<Option<u32>>, Memory>
-    requires { All (IsInside (length numbers.now)) roots.now }
-    ensures { IfOk result (λ cores. map (core_by numbers.now) roots.now ≡ cores.items) }
+// Writes the number of each variable's core, that of its root, in place of the root.
+fn write_cores(roots: &mut [Option<u32>], numbers: &[Option<u32>])
+    requires { All (IsInside (length numbers.now)) roots.old }
+    ensures { HaveNumbers numbers.now roots.old roots.new (length roots.old) }
 {
-    let Ok(mut cores) = Vec::with_capacity(alloc, roots.len()) else {
-        return Err(Memory);
-    };
-    for root in roots {
-        let Ok(()) = cores.push(core_at(*root, numbers)) else {
-            return Err(Memory);
-        };
+    for var in 0..roots.len() {
+        roots[var] = core_at(roots[var], numbers);
     }
-    Ok(cores)
 }
 
 // The number at a root.
