@@ -3,7 +3,6 @@ ghost use Rattle.std.specs.Prelude.{◌≡◌, ◌≢◌, ℕ, ◌<◌, ◌≤�
 ghost use Rattle.hz_core.specs.declared.tri.Tri.TheVariants.{Unknown};
 ghost use Rattle.hz_core.specs.Netlist.{IsCircuit, IsGateNumber, primary_inputs};
 ghost use Rattle.hz_net.specs.Network.{network_of, value_at, bit_at, excitation, IsState};
-ghost use Rattle.hz_net.specs.Variables.{expansion_of};
 ghost use Rattle.hz_net.specs.Starts.{ListsInputs, IsAcceptedStart};
 ghost use Rattle.hz_pass.specs.Completed.{IsStartFault, bit_or_zero, IsLeastUnknown, IsLeastUnstableIn};
 
@@ -45,7 +44,8 @@ pub fn complete(alloc: Global, net: &Net, listed: &[Option<bool>]) -> Result<Vec
     if let Some(node) = least_open(net, values.as_slice()) {
         return Err(StartFault::Open { gate: node });
     }
-    let Ok(state) = state_of(alloc, net, values.as_slice()) else {
+    // Each wire has its source's value.
+    let Ok(state) = bits_of(alloc, values.as_slice()) else {
         return Err(StartFault::Memory);
     };
     if let Some(gate) = least_unstable(net, state.as_slice()) {
@@ -69,19 +69,6 @@ fn least_open(net: &Net, values: &[Tri]) -> Option<u32>
         }
     }
     None
-}
-
-// The state in which each node has its value and each wire its source's.
-fn state_of(alloc: Global, net: &Net, values: &[Tri]) -> Result<Vec<bool>, Memory>
-    requires circuit { IsCircuit net.now }
-    requires values { IsState net.now values.now }
-    ensures { IfOk result (λ state. state.items
-        ≡ expansion_of net.now (map bit_or_zero (take (length net.now.names) values.now))) }
-{
-    let nodes = bits_of(alloc, &values[..net.circuit().nodes() as usize])?;
-    let mut state = vec![in alloc; false; net.len() as usize]?;
-    net.expand(nodes.as_slice(), state.as_mut_slice());
-    Ok(state)
 }
 
 // The bits of known values.
