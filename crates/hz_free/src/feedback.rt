@@ -10,6 +10,7 @@ ghost use Rattle.hz_free.specs.FreePart.{AreMarks, AreFeedback};
 ghost use Rattle.hz_free.specs.Paths.{IsLink, AreLinks, IsPathToMark, AreChoices, AreRooted, AreChoosers, AreNumbered, HasRoot, HaveValue, HaveChoosers, IsFeeding, HasNoLinks, IsInside, AddsCycle, HaveNumbers, core_by};
 
 use crate::cycles::Cycles;
+use crate::link::Link;
 use hz_core::Memory;
 use hz_net::{Net, VarKind};
 use std::alloc::Global;
@@ -18,7 +19,7 @@ use std::alloc::Global;
 #[derive(Debug, Drop)]
 pub(crate) struct Feedback {
     pub(crate) cycles: Cycles,
-    pub(crate) cores: Vec<Option<u32>>,
+    pub(crate) cores: Vec<Link>,
 }
 
 // The feedback cycles of a network, given which of its variables are feedback-free. Without feedback nothing is searched.
@@ -71,10 +72,10 @@ fn no_feedback(alloc: Global) -> Feedback
 // place of its root.
 fn find_cycles(
     alloc: Global,
-    choices: &[Option<u32>],
-    choosers: &mut [Option<u32>],
-    roots: &mut [Option<u32>],
-    numbers: &mut [Option<u32>],
+    choices: &[Link],
+    choosers: &mut [Link],
+    roots: &mut [Link],
+    numbers: &mut [Link],
 ) -> Result<Cycles, Memory>
     requires room { length choices.now < 2 ^ 32 }
     requires links { AreLinks choices.now }
@@ -93,7 +94,7 @@ fn find_cycles(
 }
 
 // What each variable chooses that is not feedback-free.
-fn choose_all(alloc: Global, net: &Net, free: &[bool]) -> Result<Vec<Option<u32>>, Memory>
+fn choose_all(alloc: Global, net: &Net, free: &[bool]) -> Result<Vec<Link>, Memory>
     requires { AreMarks (network_of net.now) free.now }
     ensures { IfOk result (λ choices. AreChoices (network_of net.now) choices.items) }
 {
@@ -109,15 +110,18 @@ fn choose_all(alloc: Global, net: &Net, free: &[bool]) -> Result<Vec<Option<u32>
 }
 
 // What a variable chooses: the first variable that it reads and that is not feedback-free.
-fn choose(net: &Net, free: &[bool], var: u32) -> Option<u32>
+fn choose(net: &Net, free: &[bool], var: u32) -> Link
     requires var { IsVariable net.now var }
     requires marks { AreMarks (network_of net.now) free.now }
     ensures { MatchOption result (IsFeedbackFree (network_of net.now) var)
         (IsChoice (network_of net.now) var) }
 {
     let _variables = net.len();
+    if free[var as usize] {
+        return Link::none();
+    }
     match net.kind_of(var) {
-        VarKind::Input { .. } => None,
+        VarKind::Input { .. } => Link::none(),
         VarKind::Gate { .. } => {
             let (first, count) = net.wires_in(var);
             first_feeding(free, first, first + count)
@@ -127,24 +131,24 @@ fn choose(net: &Net, free: &[bool], var: u32) -> Option<u32>
 }
 
 // The first variable of a range that is not feedback-free.
-fn first_feeding(free: &[bool], first: u32, end: u32) -> Option<u32>
+fn first_feeding(free: &[bool], first: u32, end: u32) -> Link
     requires { end ≤ length free.now }
     ensures { MatchOption result ((i : ℕ) → first ≤ i → i < end → bit_at free.now i ≡ true)
         (IsFeeding free.now first end) }
 {
     for var in first..end {
         if !free[var as usize] {
-            return Some(var);
+            return Link::to(var);
         }
     }
-    None
+    Link::none()
 }
 
 // No variable leads to another one.
-fn no_links(alloc: Global, variables: usize) -> Result<Vec<Option<u32>>, Memory>
+fn no_links(alloc: Global, variables: usize) -> Result<Vec<Link>, Memory>
     ensures { IfOk result (λ links. HasNoLinks variables links.items) }
 {
-    let Ok(links) = vec![in alloc; None; variables] else {
+    let Ok(links) = vec![in alloc; Link::none(); variables] else {
         return Err(Memory);
     };
     Ok(links)
@@ -153,26 +157,27 @@ fn no_links(alloc: Global, variables: usize) -> Result<Vec<Option<u32>>, Memory>
 // Goes from a variable from link to link, until a variable that has a mark, and marks those on the way. They become the path. Returns
 // the variable in which it ends.
 fn follow(
-    links: &[Option<u32>],
+    links: &[Link],
     start: u32,
     mark: u32,
-    marks: &mut [Option<u32>],
+    marks: &mut [Link],
     path: &mut Vec<u32>,
 ) -> Result<u32, Memory>
     requires links { AreLinks links.now }
     requires start { IsLink links.now start }
+    requires mark { mark < 4294967295 }
     requires long { length marks.old ≡ length links.now }
     ensures { IfOk result
         (λ end. IsPathToMark links.now start mark path.new.items end marks.old marks.new) }
 {
     path.clear();
     let mut var = start;
-    while marks[var as usize].is_none() {
+    while marks[var as usize].get().is_none() {
         let Ok(()) = path.push(var) else {
             return Err(Memory);
         };
-        marks[var as usize] = Some(mark);
-        var = links[var as usize].unwrap();
+        marks[var as usize] = Link::to(mark);
+        var = links[var as usize].get().unwrap();
     }
     Ok(var)
 }
@@ -180,9 +185,9 @@ fn follow(
 // For each variable that has a choice its root, and for each variable of a cycle which one of the cycle chose it. Any path that is given
 // lends its room.
 fn find_roots(
-    choices: &[Option<u32>],
-    choosers: &mut [Option<u32>],
-    roots: &mut [Option<u32>],
+    choices: &[Link],
+    choosers: &mut [Link],
+    roots: &mut [Link],
     path: &mut Vec<u32>,
 ) -> Result<(), Memory>
     requires room { length choices.now < 2 ^ 32 }
@@ -191,7 +196,7 @@ fn find_roots(
     ensures { OnOk result (AreRooted choices.now choosers.new roots.new (length choices.now)) }
 {
     for var in 0..choices.len() {
-        if choices[var].is_some() {
+        if choices[var].get().is_some() {
             match find_root(choices, var as u32, choosers, roots, path) {
                 Ok(()) => {}
                 Err(fault) => return Err(fault),
@@ -203,12 +208,13 @@ fn find_roots(
 
 // The root of a variable and of those on the way back from it.
 fn find_root(
-    choices: &[Option<u32>],
+    choices: &[Link],
     start: u32,
-    choosers: &mut [Option<u32>],
-    roots: &mut [Option<u32>],
+    choosers: &mut [Link],
+    roots: &mut [Link],
     path: &mut Vec<u32>,
 ) -> Result<(), Memory>
+    requires room { length choices.now < 2 ^ 32 }
     requires links { AreLinks choices.now }
     requires start { IsLink choices.now start }
     requires rooted { AreRooted choices.now choosers.old roots.old start }
@@ -221,23 +227,19 @@ fn find_root(
 }
 
 // The root of the variables of a path. If the path ends in one of its own variables, it came around in a new cycle.
-fn root_of(
-    choices: &[Option<u32>],
-    path: &[u32],
-    end: u32,
-    choosers: &mut [Option<u32>],
-    roots: &[Option<u32>],
-) -> Option<u32>
+fn root_of(choices: &[Link], path: &[u32], end: u32, choosers: &mut [Link], roots: &[Link]) -> Link
+    requires room { length choices.now < 2 ^ 32 }
     requires links { AreLinks choices.now }
     requires choosers { length choosers.old ≡ length choices.now }
     requires path { (i : ℕ) → IsTrue (is_listed path.now i) → IsLink choices.now i }
     requires end { end < length roots.now }
+    requires roots { length roots.now ≡ length choices.now }
     ensures { HasRoot choices.now path.now end choosers.old choosers.new roots.now result }
 {
     match place_of(path, end) {
         Some(place) => {
             note_choosers(choices, &path[place..], choosers);
-            Some(end)
+            Link::to(end)
         }
         None => roots[end as usize],
     }
@@ -251,20 +253,21 @@ fn place_of(path: &[u32], end: u32) -> Option<usize>
 }
 
 // Each variable of a cycle is the one that chose its choice.
-fn note_choosers(choices: &[Option<u32>], cycle: &[u32], choosers: &mut [Option<u32>])
+fn note_choosers(choices: &[Link], cycle: &[u32], choosers: &mut [Link])
+    requires room { length choices.now < 2 ^ 32 }
     requires links { AreLinks choices.now }
     requires choosers { length choosers.old ≡ length choices.now }
     requires cycle { (i : ℕ) → IsTrue (is_listed cycle.now i) → IsLink choices.now i }
     ensures { HaveChoosers choices.now cycle.now choosers.old choosers.new }
 {
     for var in cycle {
-        let choice = choices[*var as usize].unwrap();
-        choosers[choice as usize] = Some(*var);
+        let choice = choices[*var as usize].get().unwrap();
+        choosers[choice as usize] = Link::to(*var);
     }
 }
 
 // The variables of a path have a root.
-fn set_roots(path: &[u32], root: Option<u32>, roots: &mut [Option<u32>])
+fn set_roots(path: &[u32], root: Link, roots: &mut [Link])
     requires { (i : ℕ) → IsTrue (is_listed path.now i) → i < length roots.old }
     ensures { HaveValue path.now root roots.old roots.new }
 {
@@ -276,8 +279,8 @@ fn set_roots(path: &[u32], root: Option<u32>, roots: &mut [Option<u32>])
 // The cycles in the order of their least variables, each from its least variable on. Any path that is given lends its room.
 fn list_cycles(
     alloc: Global,
-    choosers: &[Option<u32>],
-    numbers: &mut [Option<u32>],
+    choosers: &[Link],
+    numbers: &mut [Link],
     path: &mut Vec<u32>,
 ) -> Result<Cycles, Memory>
     requires room { length choosers.now < 2 ^ 32 }
@@ -289,7 +292,7 @@ fn list_cycles(
 {
     let mut cycles = Cycles::new(alloc);
     for var in 0..choosers.len() {
-        if choosers[var].is_some() && numbers[var].is_none() {
+        if choosers[var].get().is_some() && numbers[var].get().is_none() {
             match list_cycle(choosers, var as u32, numbers, path, &mut cycles) {
                 Ok(()) => {}
                 Err(fault) => return Err(fault),
@@ -301,16 +304,16 @@ fn list_cycles(
 
 // The cycle of a variable, from that variable on.
 fn list_cycle(
-    choosers: &[Option<u32>],
+    choosers: &[Link],
     first: u32,
-    numbers: &mut [Option<u32>],
+    numbers: &mut [Link],
     path: &mut Vec<u32>,
     cycles: &mut Cycles,
 ) -> Result<(), Memory>
     requires links { AreLinks choosers.now }
     requires first { IsLink choosers.now first }
     requires long { length numbers.old ≡ length choosers.now }
-    requires room { length cycles.old < 2 ^ 32 }
+    requires room { length cycles.old < 4294967295 }
     ensures { OnOk result
         (AddsCycle choosers.now first numbers.old cycles.old numbers.new cycles.new) }
 {
@@ -319,7 +322,7 @@ fn list_cycle(
 }
 
 // Writes the number of each variable's core, that of its root, in place of the root.
-fn write_cores(roots: &mut [Option<u32>], numbers: &[Option<u32>])
+fn write_cores(roots: &mut [Link], numbers: &[Link])
     requires { All (IsInside (length numbers.now)) roots.old }
     ensures { HaveNumbers numbers.now roots.old roots.new (length roots.old) }
 {
@@ -329,12 +332,12 @@ fn write_cores(roots: &mut [Option<u32>], numbers: &[Option<u32>])
 }
 
 // The number at a root.
-fn core_at(root: Option<u32>, numbers: &[Option<u32>]) -> Option<u32>
+fn core_at(root: Link, numbers: &[Link]) -> Link
     requires { IsInside (length numbers.now) root }
     ensures { result ≡ core_by numbers.now root }
 {
-    match root {
+    match root.get() {
         Some(root) => numbers[root as usize],
-        None => None,
+        None => Link::none(),
     }
 }
