@@ -1,8 +1,8 @@
 -- What was found is all: every feedback cycle is listed, and each variable that is not feedback-free has its core.
-use Rattle.std.proofs.Common.{◌≡◌, ℕ, suc, ◌<◌, true, Option, Some, None, List, [], ◌∷◌, length, map, get_or, All, sym, ap, ◌∙◌, subst, arith, inl, inr}
+use Rattle.std.proofs.Common.{◌≡◌, ℕ, suc, ◌<◌, true, Option, Some, None, List, [], ◌∷◌, length, get_or, All, sym, ap, ◌∙◌, subst, arith, inl, inr}
 use Rattle.std.specs.Prelude.{Contains}
 use Rattle.std.proofs.lemmas.Bool.{cases_lt}
-use Rattle.std.proofs.lemmas.List.{get_or-map, get_or_past}
+use Rattle.std.proofs.lemmas.List.{get_or_past}
 use Rattle.std.proofs.lemmas.List.Elements.{All-cons, All-nil}
 use Rattle.hz_net.specs.Network.{Driver, External, driver_at}
 use Rattle.hz_net.specs.Reads.{Reads, IsWired}
@@ -11,7 +11,7 @@ use Rattle.hz_core.proofs.ListLemmas.{get_or-default}
 use Rattle.hz_free.specs.Chains.{IsFeedbackFree}
 use Rattle.hz_free.specs.Feedback.{IsChoice, ComesAround, IsFeedbackCycle}
 use Rattle.hz_free.specs.FreePart.{AreFeedback, IsCoreNumber}
-use Rattle.hz_free.specs.Paths.{LeadsTo, IsLink, IsPath, AreChoices, AreRooted, AreChoosers, AreNumbered, core_by}
+use Rattle.hz_free.specs.Paths.{LeadsTo, IsLink, IsPath, AreChoices, AreRooted, AreChoosers, AreNumbered, HaveNumbers, core_by}
 use Rattle.hz_lists.proofs.ListedLemmas.{listed-head}
 use Rattle.hz_free.proofs.Chains.{reads-free}
 use Rattle.hz_free.proofs.FeedbackCycles.{cycle-closed, same-cycle}
@@ -78,14 +78,14 @@ module _ (net : List Driver) (wired : IsWired net) (choices choosers roots numbe
   all-cycles [] each = All-nil (IsFeedbackCycle net)
   all-cycles (cycle ∷ list) each = All-cons (IsFeedbackCycle net) cycle list (each 0 (omega arith)) (all-cycles list (λ k few. each (suc k) (omega arith)))
 
-  core-at : (cores : List (Option ℕ)) → map (core_by numbers) roots ≡ cores → (i : ℕ) → i < length net → (IsFeedbackFree net i → ⊥) → IsCoreNumber net cycles i (get_or cores i None)
-  core-at cores same i few not_free =
+  core-at : (cores : List (Option ℕ)) → HaveNumbers numbers roots cores (length roots) → (i : ℕ) → i < length net → (IsFeedbackFree net i → ⊥) → IsCoreNumber net cycles i (get_or cores i None)
+  core-at cores have i few not_free =
       let of = rooted i few not_free in
       let inside = link-inside roots i of.root of.is_root in
       let listed = are_numbered.numbered of.root of.number of.is_number in
       let way = path-way net choices (λ i j leads. are_choices.some i j leads) i of.path of.root of.leads in
       let core : get_or cores i None ≡ Some of.number =
-      ap (λ (list : List (Option ℕ)). get_or list i None) (sym same) ∙ (get_or-map (core_by numbers) roots i None None inside ∙ (ap (core_by numbers) of.is_root ∙ of.is_number)) in
+      have.below_have i inside ∙ (ap (core_by numbers) of.is_root ∙ of.is_number) in
       subst (IsCoreNumber net cycles i) (sym core) (
         listed.0,
         record {
@@ -97,11 +97,11 @@ module _ (net : List Driver) (wired : IsWired net) (choices choosers roots numbe
         },
       )
 
-  pub found-AreFeedback : (cores : List (Option ℕ)) → map (core_by numbers) roots ≡ cores → AreFeedback net cycles cores
-  found-AreFeedback cores same =
+  pub found-AreFeedback : (cores : List (Option ℕ)) → HaveNumbers numbers roots cores (length roots) → AreFeedback net cycles cores
+  found-AreFeedback cores have =
       record {
         are_cycles = record { each = all-cycles cycles are_numbered.each; every = every-cycle; ordered = are_numbered.ordered };
-        are_cores = core-at cores same;
+        are_cores = core-at cores have;
       }
 
 -- those that chose, as choices of the network

@@ -1,14 +1,15 @@
--- Notes on variables, one after the other: a value that they have, and which variable chose another one.
-use Rattle.std.proofs.Common.{◌≡◌, ℕ, suc, ◌+◌, ◌-◌, ◌<◌, ◌⊎◌, true, false, Option, Some, None, List, [], ◌∷◌, ◌++◌, length, take, drop, get_or, set, IsTrue, refl, sym, ap, ◌∙◌, subst, arith, inl, inr, eqb, add-one, get_or-set_same, get_or-set_other}
+-- Notes on variables, one after the other: a value that they have, which variable chose another one, and numbers of roots.
+use Rattle.std.proofs.Common.{◌≡◌, ℕ, suc, ◌+◌, ◌-◌, ◌<◌, ◌⊎◌, All, true, false, Option, Some, None, List, [], ◌∷◌, ◌++◌, length, take, drop, get_or, set, IsTrue, refl, sym, ap, ◌∙◌, subst, arith, inl, inr, eqb, add-one, get_or-set_same, get_or-set_other}
 use Rattle.std.proofs.lemmas.Bool.{cases_eq, or_right, both_ways, eqb-true}
 use Rattle.std.proofs.Math.Seq.{take-suc, drop-cons}
 use Rattle.std.proofs.lemmas.List.{take-append-drop, take_all, length-drop}
 use Rattle.std.proofs.lemmas.List.Quantifiers.{position-Some}
+use Rattle.std.proofs.lemmas.List.Elements.{All-get_or}
 use Rattle.std.specs.Prelude.{position}
 use Rattle.hz_core.proofs.ListLemmas.{list_any-from_position_none}
 use Rattle.std.specs.Option.{IsSome, is_some}
 use Rattle.hz_lists.specs.Listed.{is_listed}
-use Rattle.hz_free.specs.Paths.{LeadsTo, IsLink, HaveValue, HaveChoosers, HasRoot}
+use Rattle.hz_free.specs.Paths.{LeadsTo, IsLink, HaveValue, HaveChoosers, HasRoot, IsInside, HaveNumbers, core_by}
 use Rattle.hz_lists.proofs.ListedLemmas.{listed-cases, listed-left, listed-one, listed-append, pushed-last}
 use Rattle.hz_free.proofs.Kahn.{listed-push-other}
 use Rattle.hz_free.proofs.PathLemmas.{link-one}
@@ -40,6 +41,30 @@ pub value-more : (path : List ℕ) (k : ℕ) (value : Option ℕ) (list list' : 
 value-more path k value list list' inside few have =
     subst (λ (done : List ℕ). HaveValue done value list (set list' (get_or path k 0) value)) (sym (take-more path k inside))
     (value-push (take k path) (get_or path k 0) value list list' few have)
+
+-- no variable has the number of its root yet
+pub numbers-begin : (numbers roots : List (Option ℕ)) → HaveNumbers numbers roots roots 0
+numbers-begin numbers roots = record { below_have = λ i few. absurd (omega arith); others = λ i beyond. refl }
+
+-- the next one has it
+pub numbers-more : (numbers roots list : List (Option ℕ)) (var : ℕ) (number : Option ℕ) → var < length list → number ≡ core_by numbers (get_or list var None) → HaveNumbers numbers roots list var → HaveNumbers numbers roots (set list var number) (var + 1)
+numbers-more numbers roots list var number few is have =
+    record {
+      below_have =
+          λ i before.
+          elim (cases_eq i var) [
+            | inl here ↦
+                subst (λ (m : ℕ). get_or (set list var number) m None ≡ core_by numbers (get_or roots m None)) (sym here)
+                (get_or-set_same list var number None few ∙ (is ∙ ap (core_by numbers) (have.others var (omega arith))))
+            | inr ne ↦ get_or-set_other list var i number None ne ∙ have.below_have i (omega arith)
+          ];
+      others = λ i beyond. get_or-set_other list var i number None (λ same. absurd (omega arith)) ∙ have.others i (omega arith);
+    }
+
+-- a root that was not replaced is a variable
+pub root-inside : (variables : ℕ) (numbers roots list : List (Option ℕ)) (var : ℕ) → All (IsInside variables) roots → HaveNumbers numbers roots list var → var < length roots → IsInside variables (get_or list var None)
+root-inside variables numbers roots list var all have few =
+    subst (IsInside variables) (sym (have.others var (omega arith))) (All-get_or (IsInside variables) roots var None few all)
 
 pub choosers-begin : (choices choosers : List (Option ℕ)) → HaveChoosers choices [] choosers choosers
 choosers-begin choices choosers =

@@ -2,6 +2,7 @@
 use Rattle.std.proofs.Common.{◌≡◌, ℕ, ◌<◌, ◌⊎◌, true, false, Option, Some, None, List, [], ◌∷◌, ◌++◌, length, get_or, refl, sym, ◌∙◌, subst, inl, inr, eqb}
 use Rattle.std.proofs.lemmas.Bool.{or_cases, or_right, both_ways, eqb-true, cases_lt}
 use Rattle.std.proofs.lemmas.List.{get_or_past}
+use Rattle.hz_core.proofs.ListLemmas.{get_or-default}
 use Rattle.hz_net.specs.Network.{Driver}
 use Rattle.hz_lists.specs.Listed.{is_listed, IsRepeatFree}
 use Rattle.hz_free.specs.Feedback.{IsChoice, ComesAround, IsWayBack}
@@ -29,6 +30,10 @@ link-inside links i j leads =
       | inl few ↦ few
       | inr beyond ↦ absurd (not-linked links i j (get_or_past links i None beyond) leads)
     ]
+
+-- a link that is read
+pub read-link : (links : List (Option ℕ)) (i : ℕ) (link : Option ℕ) → i < length links → link ≡ get_or links i link → link ≡ get_or links i None
+read-link links i link few is = is ∙ get_or-default links i link None few
 
 -- one variable more at the end
 pub path-push : (links : List (Option ℕ)) (start : ℕ) (path : List ℕ) (var next : ℕ) → IsPath links start path var → LeadsTo links var next → IsPath links start (path ++ var ∷ []) next

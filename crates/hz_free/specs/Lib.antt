@@ -11,6 +11,7 @@
 -- IsWayBack net i way end: from choice to choice
 -- IsCore net i cycle: the feedback cycle in which the way back ends
 -- code_of word, word_of_code code: a word or none as one number, and back
+-- link_of_code code: the number that a code says, or none
 -- FreePart: what the code's Free keeps
 -- IsFreePart netlist part: it is that of the network
 -- MarksExist, WordsExist: there always are such marks and words
@@ -28,5 +29,6 @@ pub mod Order
 pub mod FreePart
 pub mod CappedWords
 pub mod PackedWords
+pub mod Links
 pub mod Feedback
 pub mod Paths

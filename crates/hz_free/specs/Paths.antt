@@ -140,3 +140,9 @@ IsInside variables (Some root) = root < variables
 abbrev pub core_by : List (Option ℕ) → Option ℕ → Option ℕ
 core_by numbers None = None
 core_by numbers (Some root) = slice_index_or numbers root None
+
+-- The variables below a number have the number of their root in its place, and the others have their root.
+pub record HaveNumbers (numbers roots list : List (Option ℕ)) (below : ℕ) : Type 0 where
+  pub below_have : (i : ℕ) → i < below →
+      slice_index_or list i None ≡ core_by numbers (slice_index_or roots i None)
+  pub others : (i : ℕ) → below ≤ i → slice_index_or list i None ≡ slice_index_or roots i None

@@ -115,7 +115,7 @@ impl Free {
         ensures core { (netlist : Netlist) → IsFreePart netlist self.now →
             IsCore (network_of netlist) var result.now }
     {
-        let number = self.feedback.cores[var as usize].unwrap();
+        let number = self.feedback.cores[var as usize].get().unwrap();
         self.feedback.cycles.cycle(number as usize)
     }
 

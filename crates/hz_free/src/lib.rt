@@ -8,6 +8,7 @@
 //! | `words` | the words of an input and of a gate |
 //! | `feedback` | the feedback cycles, and the core of each variable that is not feedback-free |
 //! | `cycles` | a list of cycles |
+//! | `link` | `Link`, a number or none in four bytes |
 #![tactic(auto)]
 
 ghost use Rattle.std.specs.Prelude.{◌≡◌, ◌↔◌, ℕ, ◌≤◌, Bool, List, [], slice_index_or};
@@ -30,6 +31,7 @@ ghost use Rattle.hz_free.specs.VariableWords.{AreVariableWords, WordsExist, vari
 mod cycles;
 mod feedback;
 mod free;
+mod link;
 mod order;
 mod packed;
 mod words;

@@ -8,7 +8,7 @@ ghost use Rattle.hz_gen.specs.BuiltDemo.{inputs_netlist, ring_netlist, chain_net
 
 use crate::gate::{add_connected, add_numbered};
 use crate::node::{GO, INVERTER, PULSE, X, ring_gate};
-use hz_core::{Circuit, Kind, Memory};
+use hz_core::{Circuit, Kind, Memory, NameHashing};
 use std::alloc::Global;
 
 // Makes the circuit of a number.
@@ -16,11 +16,18 @@ pub(crate) fn make_circuit(alloc: Global, n: u32) -> Result<Circuit, Memory>
     requires { IsDemoNumber n }
     ensures { IfOk result (λ circuit. circuit ≡ demo_netlist n) }
 {
-    let mut circuit = Circuit::new(alloc);
+    let mut circuit = Circuit::with_names(alloc, NameHashing::plain(), nodes_of(n))?;
     add_inputs(&mut circuit)?;
     add_ring(&mut circuit, n)?;
     add_chain(&mut circuit, n)?;
     Ok(circuit)
+}
+
+// How many nodes the circuit of a number has.
+fn nodes_of(n: u32) -> usize
+    requires { IsDemoNumber n }
+{
+    4 * n as usize + 4
 }
 
 // Adds the inputs.

@@ -1,18 +1,18 @@
 -- What forced values make of a start: the least open gate, the completed state, the least unstable gate.
 use Rattle.std.proofs.Common.{◌≡◌, ◌≢◌, ℕ, ◌-◌, ◌<◌, ◌≤◌, Bool, true, false, Option, List, ◌++◌, length, map, take, drop, get_or, refl, sym, ap, ◌∙◌, subst, arith, inl, inr}
 use Rattle.std.proofs.lemmas.Bool.{cases_lt}
-use Rattle.std.proofs.lemmas.List.{length-map, get_or-map, get_or-take, length-take, take_at, take_all, drop_all, append-nil}
+use Rattle.std.proofs.lemmas.List.{length-map, get_or-map, get_or-take, get_or_append_left, get_or-append_right, same_lists, length-take, take_at, take_all, drop_all, append-nil}
 use Rattle.hz_core.specs.declared.tri.Tri.{Tri}
 use Rattle.hz_core.specs.declared.tri.Tri.TheVariants.{Zero, One, Unknown}
 use Rattle.hz_core.specs.Ternary.{tri_of}
 use Rattle.hz_core.specs.Netlist.{Netlist, IsCircuit, IsGateNumber, primary_inputs, variable_count}
-use Rattle.hz_net.specs.Network.{network_of, wires_of, value_at, bit_at, excitation, driver_value}
+use Rattle.hz_net.specs.Network.{network_of, wires_of, value_at, bit_at, excitation, driver_value, IsState}
 use Rattle.hz_net.specs.Variables.{expansion_of}
 use Rattle.hz_net.specs.Starts.{IsForced, ListsInputs, IsCompletedStart, IsAcceptedStart, IsLeastOpen, IsLeastUnstable}
-use Rattle.hz_net.proofs.Places.{no_wire, length-network_of, length-expansion_of, bit_at-expansion_of-node, bit_at-expansion_of-wire, driver_at-input, driver_at-wire}
+use Rattle.hz_net.proofs.Places.{no_wire, length-network_of, length-wires_of, length-expansion_of, bit_at-expansion_of-node, bit_at-expansion_of-wire, driver_at-input, driver_at-wire}
 use Rattle.hz_net.proofs.Derivations.{forced-listed}
 use Rattle.hz_net.proofs.Wires.{IsWireFrom-node}
-use Rattle.hz_pass.specs.Forcing.{AreForcedValues}
+use Rattle.hz_pass.specs.Forcing.{AreForcedValues, AreDelivered}
 use Rattle.hz_pass.specs.Completed.{bit_or_zero, IsLeastUnknown, IsLeastUnstableIn}
 
 -- a slice of a whole vector, written back
@@ -25,6 +25,42 @@ known-value : (value : Tri) → value ≢ Unknown → (bit : Bool) × (value ≡
 known-value Zero known = (false, refl, refl)
 known-value One known = (true, refl, refl)
 known-value Unknown known = absurd (known refl)
+
+-- the bits of all values are those of the nodes, and for each wire its source's
+pub bits-expanded : (netlist : Netlist) (values : List Tri) → IsCircuit netlist → IsState netlist values → AreDelivered netlist values → map bit_or_zero values ≡ expansion_of netlist (map bit_or_zero (take (length netlist.names) values))
+bits-expanded netlist values circuit long delivered =
+    same_lists (map bit_or_zero values) (expansion_of netlist nodes) (length-map values bit_or_zero ∙ (long ∙ sym (length-expansion_of netlist nodes circuit nodes_long))) each
+  where
+    names : ℕ
+    names = length netlist.names
+
+    nodes : List Bool
+    nodes = map bit_or_zero (take names values)
+
+    nodes_long : length nodes ≡ names
+    nodes_long = length-map (take names values) bit_or_zero ∙ (length-take names values ∙ omega (arith, long, length-network_of netlist circuit))
+
+    node-bit : (node : ℕ) (d : Bool) → node < names → get_or nodes node d ≡ bit_or_zero (value_at values node)
+    node-bit node d few =
+        get_or-map bit_or_zero (take names values) node Zero d (omega (arith, few, nodes_long, length-map (take names values) bit_or_zero)) ∙
+        ap bit_or_zero (get_or-take names values node Zero few)
+
+    wire-bit : (wire : ℕ) (d : Bool) → names ≤ wire → wire < variable_count netlist → get_or (expansion_of netlist nodes) wire d ≡ bit_or_zero (value_at values wire)
+    wire-bit wire d above below =
+        let source = (get_or (wires_of netlist) (wire - names) no_wire).source in
+        let is_node : source < names = IsWireFrom-node netlist wire source circuit (record { above = above; below = below; source = refl }) in
+        get_or-append_right nodes (map (λ wire. bit_at nodes wire.source) (wires_of netlist)) names wire d nodes_long above
+        ∙ (get_or-map (λ wire. bit_at nodes wire.source) (wires_of netlist) (wire - names) no_wire d (omega (arith, below, length-wires_of netlist))
+        ∙ (node-bit source false is_node ∙ ap bit_or_zero (sym (delivered wire source (driver_at-wire netlist wire circuit above below)))))
+
+    each : (k : ℕ) (d : Bool) → k < length (map bit_or_zero values) → get_or (map bit_or_zero values) k d ≡ get_or (expansion_of netlist nodes) k d
+    each k d few =
+        let inside : k < length values = omega (arith, few, length-map values bit_or_zero) in
+        get_or-map bit_or_zero values k Zero d inside
+        ∙ sym (elim (cases_lt k names) [
+          | inl node ↦ get_or_append_left nodes (map (λ wire. bit_at nodes wire.source) (wires_of netlist)) d k (omega (arith, node, nodes_long)) ∙ node-bit k d node
+          | inr wire ↦ wire-bit k d wire (omega (arith, inside, long, length-network_of netlist circuit))
+        ])
 
 module _ (netlist : Netlist) (listed : List (Option Bool)) (values : List Tri) (circuit : IsCircuit netlist) (inputs : ListsInputs netlist listed) (forced : AreForcedValues netlist listed values) where
   -- a primary input is known

@@ -22,7 +22,7 @@ use Rattle.hz_net.proofs.Derivations.{AreForced, IsClosed, forced_once, forced-l
 use Rattle.hz_net.proofs.Wires.{IsWireFrom, IsWireFrom-driver_at, IsWireFrom-node, Contains-fan_out_of, length-at_wires, get_or-at_wires}
 use Rattle.hz_core.proofs.CircuitLemmas.{data_of-node}
 use Rattle.hz_pass.specs.CutLists.{IsDataOf}
-use Rattle.hz_pass.specs.Forcing.{listed_value, HasListedValues, gate_extension, SetsNode, ForcedSoFar, AreForcedValues, touching, carrying, only_waiting}
+use Rattle.hz_pass.specs.Forcing.{listed_value, HasListedValues, gate_extension, SetsNode, ForcedSoFar, AreForcedValues, AreDelivered, touching, carrying, only_waiting}
 use Rattle.hz_pass.proofs.Places.{same-values}
 use Rattle.hz_pass.proofs.AllOpen.{extension-unknown}
 
@@ -449,6 +449,15 @@ module _ (netlist : Netlist) (listed : List (Option Bool)) (circuit : IsCircuit 
         opens = λ node few unknown bit forced.
             known≢unknown (value_at values node) bit (closed-forced netlist listed (value_at values) node bit (values-closed values so_far) forced) unknown;
       }
+
+  -- and each wire has its source's value
+  pub delivered-end : (values : List Tri) → ForcedSoFar netlist listed values (only_waiting []) → AreDelivered netlist values
+  delivered-end values so_far wire node source =
+      elim (so_far.delivered wire node source) [
+        | inl same ↦ same
+        | inr (inl none) ↦ absurd (no-element node none)
+        | inr (inr none) ↦ absurd (no-element wire none)
+      ]
 
   -- the node that is next is a node, and known
   pub next-waits : (values : List Tri) (waiting due cuts touched : List ℕ) (node : ℕ) → ForcedSoFar netlist listed values (touching (waiting ++ node ∷ []) due cuts touched) → (node < length netlist.names) × (value_at values node ≢ Unknown)

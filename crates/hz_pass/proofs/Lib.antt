@@ -28,5 +28,7 @@ pub mod CutLists
 pub mod ListedLoop
 -- What forced values make of a start: the least open gate, the completed state, the least unstable gate
 pub mod CompletedLemmas
+-- A gate that is not listed is stable in a completed start
+pub mod Unlisted
 -- Every listing of the inputs is open, unstable or accepted
 pub mod Decided

@@ -93,6 +93,12 @@ pub record AreForcedValues (netlist : Netlist) (listed : List (Option Bool))
   pub opens : (node : ℕ) → node < length netlist.names → value_at values node ≡ Unknown →
       IsOpen netlist listed node
 
+-- each wire has its source's value
+abbrev pub AreDelivered : Netlist → List Tri → Type 0
+AreDelivered netlist values =
+    (wire node : ℕ) → driver_at (network_of netlist) wire ≡ Source node →
+    value_at values wire ≡ value_at values node
+
 -- what one worklist leaves known at some values, another leaves known at others, for a node whose cuts these are and its value
 abbrev pub CarriesOn : List ℕ → Tri → List Tri → List Tri → (List ℕ → Worklist) →
     (List ℕ → Worklist) → Type 0

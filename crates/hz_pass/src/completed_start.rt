@@ -1,9 +1,8 @@
 //! The completed start: what listed values force upon all nodes.
-ghost use Rattle.std.specs.Prelude.{◌≡◌, ◌≢◌, ℕ, ◌<◌, ◌≤◌, length, map, take, MatchResult, MatchOption, IfOk};
+ghost use Rattle.std.specs.Prelude.{◌≡◌, ◌≢◌, ℕ, ◌<◌, ◌≤◌, length, map, take, slice_get, Some, None, MatchResult, MatchOption, IfOk};
 ghost use Rattle.hz_core.specs.declared.tri.Tri.TheVariants.{Unknown};
 ghost use Rattle.hz_core.specs.Netlist.{IsCircuit, IsGateNumber, primary_inputs};
-ghost use Rattle.hz_net.specs.Network.{network_of, value_at, bit_at, excitation, IsState};
-ghost use Rattle.hz_net.specs.Variables.{expansion_of};
+ghost use Rattle.hz_net.specs.Network.{network_of, value_at, bit_at, excitation, IsState, IsInput};
 ghost use Rattle.hz_net.specs.Starts.{ListsInputs, IsAcceptedStart};
 ghost use Rattle.hz_pass.specs.Completed.{IsStartFault, bit_or_zero, IsLeastUnknown, IsLeastUnstableIn};
 
@@ -45,10 +44,11 @@ pub fn complete(alloc: Global, net: &Net, listed: &[Option<bool>]) -> Result<Vec
     if let Some(node) = least_open(net, values.as_slice()) {
         return Err(StartFault::Open { gate: node });
     }
-    let Ok(state) = state_of(alloc, net, values.as_slice()) else {
+    // Each wire has its source's value.
+    let Ok(state) = bits_of(alloc, values.as_slice()) else {
         return Err(StartFault::Memory);
     };
-    if let Some(gate) = least_unstable(net, state.as_slice()) {
+    if let Some(gate) = least_unstable(net, listed, state.as_slice()) {
         return Err(StartFault::Unstable { gate });
     }
     Ok(state)
@@ -71,19 +71,6 @@ fn least_open(net: &Net, values: &[Tri]) -> Option<u32>
     None
 }
 
-// The state in which each node has its value and each wire its source's.
-fn state_of(alloc: Global, net: &Net, values: &[Tri]) -> Result<Vec<bool>, Memory>
-    requires circuit { IsCircuit net.now }
-    requires values { IsState net.now values.now }
-    ensures { IfOk result (λ state. state.items
-        ≡ expansion_of net.now (map bit_or_zero (take (length net.now.names) values.now))) }
-{
-    let nodes = bits_of(alloc, &values[..net.circuit().nodes() as usize])?;
-    let mut state = vec![in alloc; false; net.len() as usize]?;
-    net.expand(nodes.as_slice(), state.as_mut_slice());
-    Ok(state)
-}
-
 // The bits of known values.
 fn bits_of(alloc: Global, values: &[Tri]) -> Result<Vec<bool>, Memory>
     ensures { IfOk result (λ bits. bits.items ≡ map bit_or_zero values.now) }
@@ -95,10 +82,14 @@ fn bits_of(alloc: Global, values: &[Tri]) -> Result<Vec<bool>, Memory>
     Ok(bits)
 }
 
-// The least gate that is unstable under the inputs of the state.
-fn least_unstable(net: &Net, state: &[bool]) -> Option<u32>
+// The least gate that is unstable under the inputs of the state. A gate that is not listed follows its pins.
+fn least_unstable(net: &Net, listed: &[Option<bool>], state: &[bool]) -> Option<u32>
     requires circuit { IsCircuit net.now }
+    requires listed { length listed.now ≡ length net.now.names }
     requires state { IsState net.now state.now }
+    requires follow { (gate : ℕ) → IsGateNumber net.now gate → slice_get listed.now gate ≡ Some None
+        → bit_at state.now gate
+        ≡ excitation (network_of net.now) (take net.now.inputs state.now) state.now gate }
     ensures { MatchOption result
         ((gate : ℕ) → IsGateNumber net.now gate → bit_at state.now gate
         ≡ excitation (network_of net.now) (take net.now.inputs state.now) state.now gate)
@@ -107,9 +98,32 @@ fn least_unstable(net: &Net, state: &[bool]) -> Option<u32>
     let circuit = net.circuit();
     let input = &state[..circuit.inputs() as usize];
     for gate in circuit.inputs()..circuit.nodes() {
-        if state[gate as usize] != net.excite(input, state, gate) {
+        if state[gate as usize] != excitation_of(net, listed, input, state, gate) {
             return Some(gate);
         }
     }
     None
+}
+
+// The excitation of a gate, which is its bit if it is not listed.
+fn excitation_of(
+    net: &Net,
+    listed: &[Option<bool>],
+    input: &[bool],
+    state: &[bool],
+    gate: u32,
+) -> bool
+    requires circuit { IsCircuit net.now }
+    requires listed { length listed.now ≡ length net.now.names }
+    requires input { IsInput net.now input.now }
+    requires state { IsState net.now state.now }
+    requires gate { IsGateNumber net.now gate }
+    requires follow { slice_get listed.now gate ≡ Some None
+        → bit_at state.now gate ≡ excitation (network_of net.now) input.now state.now gate }
+    ensures { result ≡ excitation (network_of net.now) input.now state.now gate }
+{
+    match listed[gate as usize] {
+        Some(_) => net.excite(input, state, gate),
+        None => state[gate as usize],
+    }
 }

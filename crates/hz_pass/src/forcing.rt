@@ -19,21 +19,22 @@ ghost use Rattle.hz_net.specs.Network.{network_of, value_at, IsState, IsVariable
 ghost use Rattle.hz_net.specs.Variables.{fan_out_of};
 ghost use Rattle.hz_net.specs.Reads.{IsWireInto};
 ghost use Rattle.hz_pass.specs.CutLists.{IsDataOf};
-ghost use Rattle.hz_pass.specs.Forcing.{HasListedValues, IsTaken, gate_extension, SetsNode, ForcedSoFar, AreForcedValues, carrying, only_waiting};
+ghost use Rattle.hz_pass.specs.Forcing.{HasListedValues, IsTaken, gate_extension, SetsNode, ForcedSoFar, AreForcedValues, AreDelivered, carrying, only_waiting};
 
 use crate::cuts::{cuts_at, cuts_by_data};
 use hz_core::{Memory, Tri};
 use hz_net::{Net, VarKind};
 use std::alloc::Global;
 
-/// The value that each variable is forced to, X if it is open.
+/// The value that each node is forced to, X if it is open, and for each wire its source's.
 pub(crate) fn forced_values(
     alloc: Global,
     net: &Net,
     listed: &[Option<bool>],
 ) -> Result<Vec<Tri>, Memory>
     requires { length listed.now ≡ length net.now.names }
-    ensures { IfOk result (λ values. AreForcedValues net.now listed.now values.items) }
+    ensures forced { IfOk result (λ values. AreForcedValues net.now listed.now values.items) }
+    ensures delivered { IfOk result (λ values. AreDelivered net.now values.items) }
 {
     let mut values = vec![in alloc; Tri::Unknown; net.len() as usize]?;
     let mut waiting = Vec::with_capacity(alloc, listed.len())?;

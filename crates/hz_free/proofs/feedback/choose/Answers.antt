@@ -27,10 +27,19 @@ first_feeding-requires-in-Wire c =
     let long = c.requires.marks.long in
     omega arith
 
+pub bounds-free-var : goal.bounds-free-var
+bounds-free-var c = let long = c.requires.marks.long in let var = c.requires.var in omega arith
+
+pub returns-then-free-var : goal.returns-then-free-var
+returns-then-free-var c =
+    let long = c.requires.marks.long in
+    let free = (c.requires.marks.exact c.args.var c.requires.var).0 in
+    rw c.none.ensures (free c.if-free-var.true)
+
 pub returns-in-Input : goal.returns-in-Input
 returns-in-Input c =
     let as_input = driven-as c.args.net.now c.args.var (Input _) c.len-variables.ensures.circuit c.len-variables.ensures.whole c.requires.var c.in-Input.ensures in
-    choice-input (network_of c.args.net.now) c.args.var _ as_input.0
+    rw c.none-in-Input.ensures (choice-input (network_of c.args.net.now) c.args.var _ as_input.0)
 
 pub returns-in-Gate : goal.returns-in-Gate
 returns-in-Gate c =

@@ -8,8 +8,8 @@ pub list_cycles-requires-clause-links : goal.list_cycles-requires-clause-links
 list_cycles-requires-clause-links c =
     choosers-AreLinks c.args.choices.now c.find_roots.new.choosers c.find_roots.new.roots (length c.args.choices.now) c.in_ok-find_roots.ensures
 
-pub list_cores-requires : goal.list_cores-requires
-list_cores-requires c =
+pub write_cores-requires : goal.write_cores-requires
+write_cores-requires c =
     roots-inside c.args.choices.now c.find_roots.new.choosers c.find_roots.new.roots (length c.args.choices.now) (length c.list_cycles.new.numbers) c.in_ok-find_roots.ensures
     (c.list_cycles.auto.numbers ∙ (c.requires.numbers.long ∙ sym c.in_ok-find_roots.ensures.choosers_long))
 
@@ -19,4 +19,4 @@ returns c =
     found-AreFeedback net wired c.args.choices.now c.find_roots.new.choosers c.find_roots.new.roots c.list_cycles.new.numbers c.in_ok-cycles.cycles
     are c.in_ok-find_roots.ensures
     (c.in_ok-cycles.ensures net (are-AreChoosers net c.args.choices.now c.find_roots.new.choosers c.find_roots.new.roots (length c.args.choices.now) are c.in_ok-find_roots.ensures))
-    c.in_ok-cores.cores.items c.in_ok-cores.ensures
+    c.write_cores.new.roots c.write_cores.ensures

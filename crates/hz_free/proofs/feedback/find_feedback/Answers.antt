@@ -1,8 +1,9 @@
 -- The choices are those of the network.
-use Rattle.std.proofs.Common.{sym}
-use Rattle.std.proofs.lemmas.Result.{IfOk-weaker}
+use Rattle.std.proofs.Common.{arith, ℕ, List, Option, sym, subst}
+use Rattle.std.proofs.lemmas.List.{with_items_is}
 use Rattle.hz_net.specs.Network.{network_of}
 use Rattle.hz_net.proofs.Wired.{wired-network_of}
+use Rattle.hz_free.specs.FreePart.{AreFeedback}
 use Rattle.hz_free.proofs.Roots.{choices-AreLinks}
 use Rattle.hz_free.proofs.NoFeedback.{no-feedback}
 use Rattle.hz_free.proofs.feedback.find_feedback.Goals as goal
@@ -20,6 +21,6 @@ find_cycles-requires-clause-links c =
 pub returns : goal.returns
 returns c =
     let choices = rw (sym c.as_slice.ensures.value) at c.in_ok-choices.ensures in
-    IfOk-weaker c.find_cycles.result _ _
-    (λ feedback found. found (network_of c.args.net.now) (wired-network_of c.args.net.now c.len-variables.ensures.circuit) choices)
-    c.find_cycles.ensures
+    let written = with_items_is c.in_ok-roots.roots c.find_cycles.new.roots (omega (arith, c.find_cycles.auto.roots, c.as_mut_slice-2.ensures.len)) in
+    subst (λ (cores : List (Option ℕ)). AreFeedback (network_of c.args.net.now) c.in_ok-cycles.cycles cores) (sym written)
+    (c.in_ok-cycles.ensures (network_of c.args.net.now) (wired-network_of c.args.net.now c.len-variables.ensures.circuit) choices)

@@ -7,7 +7,7 @@ use Rattle.hz_core.specs.declared.tri.Tri.TheVariants.{Unknown}
 use Rattle.hz_net.specs.Network.{value_at}
 use Rattle.hz_net.specs.Variables.{fan_out_of}
 use Rattle.hz_pass.specs.Forcing.{ForcedSoFar, carrying, only_waiting}
-use Rattle.hz_pass.proofs.ForcingLoop.{forced-begin, forced-pop, forced-end, next-waits}
+use Rattle.hz_pass.proofs.ForcingLoop.{forced-begin, forced-pop, forced-end, delivered-end, next-waits}
 use Rattle.hz_pass.proofs.CompletedLemmas.{written-back}
 use Rattle.hz_pass.proofs.forcing.forced_values.Goals as goal
 
@@ -56,5 +56,8 @@ loop-node-preserved c =
 pub returns : goal.returns
 returns c =
     let none : c.loop-node.waiting.items ≡ [] = no-nodes c.loop-node.waiting.items (omega (arith, c.in_default.ensures.cases.0)) in
-    forced-end c.args.net.now c.args.listed.now c.len.ensures.circuit c.requires c.loop-node.values.items
-    (subst (λ (nodes : List ℕ). ForcedSoFar c.args.net.now c.args.listed.now c.loop-node.values.items (only_waiting nodes)) none c.loop-node.invariant)
+    let so_far = subst (λ (nodes : List ℕ). ForcedSoFar c.args.net.now c.args.listed.now c.loop-node.values.items (only_waiting nodes)) none c.loop-node.invariant in
+    record {
+      forced = forced-end c.args.net.now c.args.listed.now c.len.ensures.circuit c.requires c.loop-node.values.items so_far;
+      delivered = delivered-end c.args.net.now c.args.listed.now c.len.ensures.circuit c.requires c.loop-node.values.items so_far;
+    }

@@ -13,7 +13,7 @@ returns-clause-core c =
     let few = subst (λ (part : FreePart). c.args.var < length part.free) (sym view) c.requires.var in
     let out = subst (λ (part : FreePart). get_or part.free c.args.var false ≡ false) (sym view) c.requires.not_free in
     let read : get_or cores c.args.var None ≡ Some c.unwrap-number.result =
-    core-read c.self.inside.free.items c.self.inside.feedback.cycles cores c.args.var c.index.result.now c.self.invariant few out c.index.ensures ∙ c.unwrap-number.ensures in
+    core-read c.self.inside.free.items c.self.inside.feedback.cycles cores c.args.var c.index.result.now c.self.invariant few out c.index.ensures ∙ (sym c.get.ensures ∙ c.unwrap-number.ensures) in
     λ netlist is.
     let core = core-numbered netlist c.args.self.now c.args.var c.unwrap-number.result is c.requires.var c.requires.not_free
     (subst (λ (part : FreePart). get_or part.cores c.args.var None ≡ Some c.unwrap-number.result) view read) in
