@@ -6,13 +6,14 @@ use Rattle.std.specs.Str.{bytes_eq}
 use Rattle.std.specs.Cmp.Lexicographic.{nat_list_eq_equiv}
 use Rattle.std.proofs.lemmas.Bool.Decides.{nat_tests}
 use Rattle.std.proofs.lemmas.List.Sums.{sum_by-append, sum_by-set}
-use Rattle.std.proofs.lemmas.List.Elements.{All-nil, All-push, All-set, All-weaker}
+use Rattle.std.proofs.lemmas.List.Elements.{All-append, All-cons, All-nil, All-push, All-set, All-weaker}
 use Rattle.std.proofs.lemmas.Cmp.{nat_eq_equiv}
 use Rattle.std.proofs.lemmas.Map.Keys.{IsDistinct-push}
 use Rattle.hz_core.specs.declared.kind.Kind.{Kind}
 use Rattle.hz_core.specs.declared.kind.Kind.TheVariants.{And, Nand, Or, Nor, Xor, Xnor, Not, Buff}
 use Rattle.hz_core.specs.Gate.{takes, most_pins}
-use Rattle.hz_core.specs.Netlist.{Gate, Netlist, IsName, IsCircuit, IsGateAmong, IsDataAmong, IsCutNumber, IsGateNumber, IsWhole, pin_count, variable_count, primary_inputs, data_of, gate_at, node_named, empty_netlist, with_input, with_cut, with_data, with_gate, with_source, with_pin, with_output}
+use Rattle.hz_core.specs.Pins.{with_pins, with_sources}
+use Rattle.hz_core.specs.Netlist.{Gate, Netlist, IsName, IsCircuit, IsGateAmong, IsDataAmong, IsCutNumber, IsGateNumber, IsWhole, pin_count, variable_count, primary_inputs, data_of, gate_at, node_named, empty_netlist, with_input, with_cut, with_data, with_gate, with_pin, with_output}
 use Rattle.hz_core.proofs.ListLemmas.{list_any-from_position_none}
 use Rattle.hz_core.specs.Limits.{most_gate_pins, most_variables}
 
@@ -158,19 +159,52 @@ IsCircuit-with_gate netlist name kind circuit is_name fresh room =
       variables = omega (arith, length-append netlist.names (name ∷ []), pin_count-with_gate netlist name kind, room);
     }
 
--- a pin more is counted
-pub pin_count-with_pin :
-    (netlist : Netlist) (node source : ℕ) → IsCircuit netlist → IsGateNumber netlist node →
-    pin_count (with_pin netlist node source) ≡ pin_count netlist + 1
-pin_count-with_pin netlist node source circuit is_gate =
+-- more pins are counted
+pub pin_count-with_pins :
+    (netlist : Netlist) (node : ℕ) (sources : List ℕ) → IsCircuit netlist → IsGateNumber netlist node →
+    pin_count (with_pins netlist node sources) ≡ pin_count netlist + length sources
+pin_count-with_pins netlist node sources circuit is_gate =
     let gate = gate_at netlist node in
     let within : node - netlist.inputs < length netlist.gates = omega (arith, circuit.nodes) in
     omega (
       arith,
-      sum_by-set (λ (gate : Gate). length gate.sources) netlist.gates (node - netlist.inputs) (with_source gate source)
+      sum_by-set (λ (gate : Gate). length gate.sources) netlist.gates (node - netlist.inputs) (with_sources gate sources)
           (record { kind = And; sources = [] }) within,
-      length-append gate.sources (source ∷ []),
+      length-append gate.sources sources,
     )
+
+-- what `connect_all` makes
+pub IsCircuit-with_pins :
+    (netlist : Netlist) (node : ℕ) (sources : List ℕ) → IsCircuit netlist → IsGateNumber netlist node →
+    All (λ source. source < length netlist.names) sources →
+    length (gate_at netlist node).sources + length sources ≤ most_pins (gate_at netlist node).kind →
+    variable_count netlist + length sources ≤ most_variables → IsCircuit (with_pins netlist node sources)
+IsCircuit-with_pins netlist node sources circuit is_gate are_nodes free room =
+    let gate = gate_at netlist node in
+    let within : node - netlist.inputs < length netlist.gates = omega (arith, circuit.nodes) in
+    let was : IsGateAmong (length netlist.names) gate = circuit.gates (node - netlist.inputs) _ within in
+    let more : IsGateAmong (length netlist.names) (with_sources gate sources) =
+    record {
+      pins = omega (arith, length-append gate.sources sources, free);
+      sources = All-append (λ source. source < length netlist.names) gate.sources sources was.sources are_nodes;
+    } in
+    record {
+      names = circuit.names;
+      names_distinct = circuit.names_distinct;
+      nodes = omega (arith, length-set netlist.gates (node - netlist.inputs) (with_sources gate sources), circuit.nodes);
+      cuts = circuit.cuts;
+      data_nodes = circuit.data_nodes;
+      gates = All-set (IsGateAmong (length netlist.names)) netlist.gates (node - netlist.inputs) (with_sources gate sources) more circuit.gates;
+      outputs = circuit.outputs;
+      outputs_distinct = circuit.outputs_distinct;
+      variables = omega (arith, pin_count-with_pins netlist node sources circuit is_gate, room);
+    }
+
+-- a pin more is counted
+pub pin_count-with_pin :
+    (netlist : Netlist) (node source : ℕ) → IsCircuit netlist → IsGateNumber netlist node →
+    pin_count (with_pin netlist node source) ≡ pin_count netlist + 1
+pin_count-with_pin netlist node source circuit is_gate = pin_count-with_pins netlist node (source ∷ []) circuit is_gate
 
 -- what `connect` makes
 pub IsCircuit-with_pin :
@@ -178,25 +212,9 @@ pub IsCircuit-with_pin :
     length (gate_at netlist node).sources < most_pins (gate_at netlist node).kind → variable_count netlist < most_variables →
     IsCircuit (with_pin netlist node source)
 IsCircuit-with_pin netlist node source circuit is_gate is_node free room =
-    let gate = gate_at netlist node in
-    let within : node - netlist.inputs < length netlist.gates = omega (arith, circuit.nodes) in
-    let was : IsGateAmong (length netlist.names) gate = circuit.gates (node - netlist.inputs) _ within in
-    let more : IsGateAmong (length netlist.names) (with_source gate source) =
-    record {
-      pins = omega (arith, length-append gate.sources (source ∷ []), free);
-      sources = All-push (λ source. source < length netlist.names) gate.sources source was.sources is_node;
-    } in
-    record {
-      names = circuit.names;
-      names_distinct = circuit.names_distinct;
-      nodes = omega (arith, length-set netlist.gates (node - netlist.inputs) (with_source gate source), circuit.nodes);
-      cuts = circuit.cuts;
-      data_nodes = circuit.data_nodes;
-      gates = All-set (IsGateAmong (length netlist.names)) netlist.gates (node - netlist.inputs) (with_source gate source) more circuit.gates;
-      outputs = circuit.outputs;
-      outputs_distinct = circuit.outputs_distinct;
-      variables = omega (arith, pin_count-with_pin netlist node source circuit is_gate, room);
-    }
+    IsCircuit-with_pins netlist node (source ∷ []) circuit is_gate
+    (All-cons (λ (source : ℕ). source < length netlist.names) source [] is_node (All-nil (λ (source : ℕ). source < length netlist.names)))
+    (omega (arith, free)) (omega (arith, room))
 
 -- a number of pins between 1 and the most is one that the kind takes
 pub takes-from_bounds : (kind : Kind) (pins : ℕ) → 1 ≤ pins → pins ≤ most_pins kind → IsTrue (takes kind pins)

@@ -1,5 +1,5 @@
 -- How the fields of a circuit change at each call, and what they then stand for.
-use Rattle.std.proofs.Common.{◌≡◌, ◌∙◌, sym, ap, ℕ, ◌+◌, ◌-◌, ◌<◌, List, [], ◌∷◌, ◌++◌, length, None, get_or, set, map, arith, subst}
+use Rattle.std.proofs.Common.{◌≡◌, ◌∙◌, sym, ap, ℕ, ◌+◌, ◌-◌, ◌<◌, ◌≤◌, All, List, [], ◌∷◌, ◌++◌, length, None, get_or, set, map, arith, subst}
 use Rattle.std.specs.List.{position}
 use Rattle.std.specs.Str.{bytes_eq}
 use Rattle.hz_core.specs.NameHash.{hash_of}
@@ -8,10 +8,11 @@ use Rattle.hz_core.specs.declared.kind.Kind.TheVariants.{And}
 use Rattle.hz_core.specs.declared.circuit.Circuit.TheInside.{Inside}
 use Rattle.hz_core.specs.Inside.{netlist_of_fields, HoldsCircuit}
 use Rattle.hz_core.specs.Gate.{most_pins}
-use Rattle.hz_core.specs.Netlist.{Gate, Netlist, IsName, IsCircuit, IsGateNumber, pin_count, variable_count, gate_at, node_named, empty_netlist, with_input, with_cut, with_gate, with_source, with_pin}
+use Rattle.hz_core.specs.Pins.{with_pins, with_sources}
+use Rattle.hz_core.specs.Netlist.{Gate, Netlist, IsName, IsCircuit, IsGateNumber, pin_count, variable_count, gate_at, node_named, empty_netlist, with_input, with_cut, with_gate}
 use Rattle.std.proofs.lemmas.List.{map-append}
 use Rattle.hz_core.proofs.ListLemmas.{get_or-default}
-use Rattle.hz_core.proofs.CircuitLemmas.{IsCircuit-empty, IsCircuit-with_input, IsCircuit-with_cut, IsCircuit-with_gate, IsCircuit-with_pin, pin_count-with_gate, pin_count-with_pin, same_netlist}
+use Rattle.hz_core.proofs.CircuitLemmas.{IsCircuit-empty, IsCircuit-with_input, IsCircuit-with_cut, IsCircuit-with_gate, IsCircuit-with_pins, pin_count-with_gate, pin_count-with_pins, same_netlist}
 use Rattle.hz_core.specs.Limits.{most_variables}
 
 -- the hashes on the chains after a new name came
@@ -132,44 +133,44 @@ HoldsCircuit-GateComes old new netlist name kind same fresh comes holds is_name 
     (IsCircuit-with_gate netlist name kind (circuit_of old netlist same holds) is_name fresh room)
     (comes.pins ∙ holds.counted ∙ ap pin_count same ∙ sym (pin_count-with_gate netlist name kind)) (name_hashed old new name holds.hashed comes.hashing comes.names comes.chains)
 
--- the fields from old to new, where a pin came to the gate that was read
-pub record PinComes (old new : Inside) (was : Gate) (node source : ℕ) : Type 0 where
+-- the fields from old to new, where pins came to the gate that was read
+pub record PinsCome (old new : Inside) (was : Gate) (node : ℕ) (sources : List ℕ) : Type 0 where
   pub names : new.names.items ≡ old.names.items
   pub hashing : new.hashing ≡ old.hashing
   pub chains : new.chains ≡ old.chains
   pub inputs : new.inputs ≡ old.inputs
   pub cuts : new.cuts.items ≡ old.cuts.items
-  pub gates : new.gates.items ≡ set old.gates.items (node - old.inputs) (with_source was source)
+  pub gates : new.gates.items ≡ set old.gates.items (node - old.inputs) (with_sources was sources)
   pub read : was ≡ get_or old.gates.items (node - old.inputs) was
   pub outputs : new.outputs ≡ old.outputs
-  pub pins : new.pins ≡ old.pins + 1
+  pub pins : new.pins ≡ old.pins + length sources
 
 -- then the circuit is the definition's
-pub view-PinComes :
-    (old new : Inside) (netlist : Netlist) (was : Gate) (node source : ℕ) → netlist_of_fields old ≡ netlist → HoldsCircuit old →
-    IsGateNumber netlist node → PinComes old new was node source → netlist_of_fields new ≡ with_pin netlist node source
-view-PinComes old new netlist was node source same holds is_gate comes =
+pub view-PinsCome :
+    (old new : Inside) (netlist : Netlist) (was : Gate) (node : ℕ) (sources : List ℕ) → netlist_of_fields old ≡ netlist → HoldsCircuit old →
+    IsGateNumber netlist node → PinsCome old new was node sources → netlist_of_fields new ≡ with_pins netlist node sources
+view-PinsCome old new netlist was node sources same holds is_gate come =
     let is_gate_of_old : IsGateNumber (netlist_of_fields old) node = subst (λ n. IsGateNumber n node) (sym same) is_gate in
     let within : node - old.inputs < length old.gates.items = omega (arith, holds.circuit.nodes, is_gate_of_old.0, is_gate_of_old.1) in
     let read : was ≡ gate_at (netlist_of_fields old) node =
-    comes.read ∙ get_or-default old.gates.items (node - old.inputs) was (record { kind = And; sources = [] }) within in
-    same_netlist (netlist_of_fields new) (with_pin (netlist_of_fields old) node source) comes.names
-    comes.inputs comes.cuts
-    (comes.gates ∙ ap (λ gate. set old.gates.items (node - old.inputs) (with_source gate source)) read)
-    comes.outputs ∙ ap (λ n. with_pin n node source) same
+    come.read ∙ get_or-default old.gates.items (node - old.inputs) was (record { kind = And; sources = [] }) within in
+    same_netlist (netlist_of_fields new) (with_pins (netlist_of_fields old) node sources) come.names
+    come.inputs come.cuts
+    (come.gates ∙ ap (λ gate. set old.gates.items (node - old.inputs) (with_sources gate sources)) read)
+    come.outputs ∙ ap (λ n. with_pins n node sources) same
 
 -- and the invariant holds again
-pub HoldsCircuit-PinComes :
-    (old new : Inside) (netlist : Netlist) (was : Gate) (node source : ℕ) → netlist_of_fields old ≡ netlist → HoldsCircuit old →
-    IsGateNumber netlist node → PinComes old new was node source → source < length netlist.names →
-    length (gate_at netlist node).sources < most_pins (gate_at netlist node).kind → variable_count netlist < most_variables →
-    HoldsCircuit new
-HoldsCircuit-PinComes old new netlist was node source same holds is_gate comes is_node free room =
+pub HoldsCircuit-PinsCome :
+    (old new : Inside) (netlist : Netlist) (was : Gate) (node : ℕ) (sources : List ℕ) → netlist_of_fields old ≡ netlist → HoldsCircuit old →
+    IsGateNumber netlist node → PinsCome old new was node sources → All (λ source. source < length netlist.names) sources →
+    length (gate_at netlist node).sources + length sources ≤ most_pins (gate_at netlist node).kind →
+    variable_count netlist + length sources ≤ most_variables → HoldsCircuit new
+HoldsCircuit-PinsCome old new netlist was node sources same holds is_gate come are_nodes free room =
     let circuit = circuit_of old netlist same holds in
-    holds_circuit new (with_pin netlist node source) (view-PinComes old new netlist was node source same holds is_gate comes)
-    (IsCircuit-with_pin netlist node source circuit is_gate is_node free room)
-    (comes.pins ∙ ap (λ n. n + 1) (holds.counted ∙ ap pin_count same) ∙ sym (pin_count-with_pin netlist node source circuit is_gate))
-    (comes.chains ∙ holds.hashed ∙ ap (map (hash_of old.hashing)) (sym comes.names) ∙ ap (λ one. map (hash_of one) new.names.items) (sym comes.hashing))
+    holds_circuit new (with_pins netlist node sources) (view-PinsCome old new netlist was node sources same holds is_gate come)
+    (IsCircuit-with_pins netlist node sources circuit is_gate are_nodes free room)
+    (come.pins ∙ ap (λ n. n + length sources) (holds.counted ∙ ap pin_count same) ∙ sym (pin_count-with_pins netlist node sources circuit is_gate))
+    (come.chains ∙ holds.hashed ∙ ap (map (hash_of old.hashing)) (sym come.names) ∙ ap (λ one. map (hash_of one) new.names.items) (sym come.hashing))
 
 -- how many names, of a list of keys
 pub names_counted : (fields : Inside) (netlist : Netlist) → netlist_of_fields fields ≡ netlist → length fields.names.items ≡ length netlist.names

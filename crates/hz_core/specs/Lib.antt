@@ -32,6 +32,7 @@
 -- IsCircuit netlist: what holds of every circuit
 -- IsWhole netlist: each gate has a pin, and each cut a data node that is an output
 -- with_input, with_cut, with_data, with_gate, with_pin, with_output: a circuit with one part more
+-- with_pins netlist node sources: a circuit with more pins at a gate
 -- hash_of hashing name: the hash of a name
 -- AreLinked count links: each entry of a hash table is linked to the one before it in its bucket
 -- netlist_of_fields fields, HoldsCircuit fields: the circuit that the fields of the code's Circuit stand for
@@ -46,4 +47,5 @@ pub mod BitOrSwitch
 pub mod NameHash
 pub mod Chains
 pub mod Netlist
+pub mod Pins
 pub mod Inside

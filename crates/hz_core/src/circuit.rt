@@ -4,6 +4,7 @@ ghost use Rattle.std.specs.List.{list_any};
 ghost use Rattle.hz_core.specs.NameHash.{hash_of};
 ghost use Rattle.hz_core.specs.Gate.{most_pins};
 ghost use Rattle.hz_core.specs.Netlist.{IsName, IsCircuit, IsCutNumber, IsGateNumber, IsWhole, node_named, variable_count, primary_inputs, data_of, has_output, gate_at, empty_netlist, with_input, with_cut, with_data, with_gate, with_pin, with_output};
+ghost use Rattle.hz_core.specs.Pins.{with_pins};
 ghost use Rattle.hz_core.specs.Limits.{most_variables};
 
 use crate::gate::GateEntry;
@@ -167,6 +168,25 @@ impl Circuit {
             return Err(Memory);
         };
         self.pins += 1;
+        Ok(())
+    }
+
+    /// Adds pins to a gate, after its last one.
+    #[inline(always)]
+    pub fn connect_all(&mut self, gate: u32, sources: &[u32]) -> Result<(), Memory>
+        requires gate { IsGateNumber self.old gate }
+        requires sources { All (λ source. source < length self.old.names) sources.now }
+        requires pins { length (gate_at self.old gate).sources + length sources.now
+            ≤ most_pins (gate_at self.old gate).kind }
+        requires room { variable_count self.old + length sources.now ≤ most_variables }
+        ensures ok { OnOk result (self.new ≡ with_pins self.old gate sources.now) }
+        ensures err { OnErr result (self.new ≡ self.old) }
+    {
+        let number = (gate - self.inputs) as usize;
+        let Ok(()) = self.gates[number].connect_all(sources) else {
+            return Err(Memory);
+        };
+        self.pins += sources.len() as u32;
         Ok(())
     }
 

@@ -1,6 +1,7 @@
 //! The gates of a circuit, as it keeps them.
 ghost use Rattle.std.specs.Prelude.{◌≡◌, [], OnOk, OnErr, nat_lt, length};
 ghost use Rattle.hz_core.specs.Netlist.{with_source};
+ghost use Rattle.hz_core.specs.Pins.{with_sources};
 
 use crate::{Kind, Memory};
 use smallvec::SmallVec;
@@ -57,6 +58,17 @@ impl GateEntry {
         ensures err { OnErr result (self.new ≡ self.old) }
     {
         let Ok(()) = self.sources.push(source) else {
+            return Err(Memory);
+        };
+        Ok(())
+    }
+
+    // Appends pins.
+    pub(crate) fn connect_all(&mut self, sources: &[u32]) -> Result<(), Memory>
+        ensures ok { OnOk result (self.new ≡ with_sources self.old sources.now) }
+        ensures err { OnErr result (self.new ≡ self.old) }
+    {
+        let Ok(()) = self.sources.extend_from_slice(sources) else {
             return Err(Memory);
         };
         Ok(())

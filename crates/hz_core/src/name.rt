@@ -4,6 +4,7 @@ ghost use Rattle.std.specs.List.{IsDistinct};
 ghost use Rattle.std.specs.Str.{bytes_eq};
 ghost use Rattle.hz_core.specs.NameHash.{hash_of};
 
+use crate::bytes::four_at;
 use crate::{Chains, Memory, NameHashing};
 use smallvec::SmallVec;
 use std::alloc::Global;
@@ -38,12 +39,24 @@ pub fn find_name<N: Named>(
     let mut number = chains.last(hashing.hash(name));
     while number > 0 {
         let place = number as usize - 1;
-        if name == items[place].name() {
+        if same_name(name, items[place].name()) {
             return Some(place);
         }
         number = chains.earlier(place);
     }
     None
+}
+
+/// Whether two names are the same. Most have four to eight bytes, which are compared four at once.
+#[inline(always)]
+pub fn same_name(name: &[u8], other: &[u8]) -> bool
+    ensures { result ≡ bytes_eq name.now other.now }
+{
+    let len = name.len();
+    if len < 4 || len > 8 || len != other.len() {
+        return name == other;
+    }
+    four_at(name, 0) == four_at(other, 0) && four_at(name, len - 4) == four_at(other, len - 4)
 }
 
 // A name that a circuit keeps. Most names are short, and need no allocation.

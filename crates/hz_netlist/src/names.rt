@@ -7,7 +7,7 @@ ghost use Rattle.hz_core.specs.NameHash.{hash_of};
 ghost use Rattle.hz_netlist.specs.Names.{definer_in, first_undefined, place_in, seen_at, seen_names, undefined_line, with_definition, with_sight, with_use};
 ghost use Rattle.hz_netlist.specs.Table.{IsSearched, entry_names, entry_of, seen_of};
 
-use hz_core::{Chains, Memory, NameHashing, Named};
+use hz_core::{Chains, Memory, NameHashing, Named, same_name};
 use hz_lists::lesser;
 use sha2::{Digest, Sha256};
 use std::alloc::Global;
@@ -219,6 +219,7 @@ impl<'a> NameTable<'a> {
     /// Takes room for the names of the rest of the text, so many bytes, if the table is full: as
     /// many to a byte as were found in what was read so far. So a table of a million names is made
     /// anew once or twice, and not twenty times.
+    #[inline(always)]
     pub fn make_room(&mut self, left: usize) -> Result<(), Memory>
         ensures { self.new ≡ self.old }
     {
@@ -232,6 +233,7 @@ impl<'a> NameTable<'a> {
     }
 
     // Makes room for that many more names.
+    #[cold]
     fn reserve(&mut self, more: usize) -> Result<(), Memory>
         ensures { self.new ≡ self.old }
     {
@@ -240,6 +242,7 @@ impl<'a> NameTable<'a> {
     }
 
     // Hashes the names anew, if they were chosen to collide.
+    #[inline(always)]
     fn scatter(&mut self) -> Result<(), Memory>
         ensures { self.new ≡ self.old }
     {
@@ -251,6 +254,7 @@ impl<'a> NameTable<'a> {
     }
 
     // Hashes the names with a digest of the text as the key.
+    #[cold]
     fn rekey(&mut self) -> Result<(), Memory>
         ensures { self.new ≡ self.old }
     {
@@ -304,7 +308,7 @@ fn find_entry(entries: &[Entry], chains: &Chains, hashing: &NameHashing, name: &
     let mut number = chains.last(hash);
     while number > 0 {
         let place = number as usize - 1;
-        if name == entries[place].name() {
+        if same_name(name, entries[place].name()) {
             return Search::Found(place);
         }
         number = chains.earlier(place);

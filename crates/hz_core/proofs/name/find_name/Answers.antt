@@ -20,13 +20,13 @@ loop-number-init g c =
       left = λ place below. search-left names hash c.args.chains.now c.args.name.now c.requires c.last-number.result (length names) (omega arith) is place (omega (arith, below, counted));
     }
 
-pub returns-then-eq : goal.returns-then-eq
-returns-then-eq g c =
+pub returns-then-same_name : goal.returns-then-same_name
+returns-then-same_name g c =
     let inside : c.loop-number.number - 1 < length c.args.items.now = omega (arith, c.loop-number.invariant.inside, c.loop-number-test.true) in
     let counted = length-map c.args.items.now g.N.Named.name_of in
     let read = get_or-map g.N.Named.name_of c.args.items.now (c.loop-number.number - 1) c.index-items-place.result [] inside ∙ ap g.N.Named.name_of (sym c.index-items-place.is) in
     λ distinct. position-named (map g.N.Named.name_of c.args.items.now) c.args.name.now (c.loop-number.number - 1) distinct (omega (arith, inside, counted))
-    (ap (bytes_eq c.args.name.now) (read ∙ sym c.name.ensures) ∙ sym c.eq.ensures ∙ c.if-eq.true)
+    (ap (bytes_eq c.args.name.now) (read ∙ sym c.name.ensures) ∙ sym c.same_name.ensures ∙ c.if-same_name.true)
 
 pub loop-number-smaller : goal.loop-number-smaller
 loop-number-smaller g c =
@@ -49,7 +49,7 @@ loop-number-preserved g c =
     let within : c.loop-number.number - 1 ≤ length (map g.N.Named.name_of c.args.items.now) = omega (arith, inside, counted) in
     let next = search-next names hash c.args.chains.now c.args.name.now c.requires c.earlier-number.result at c.earlier-number.ensures (c.loop-number.invariant.hashed at number) in
     let read = get_or-map g.N.Named.name_of c.args.items.now at c.index-items-place.result [] inside ∙ ap g.N.Named.name_of (sym c.index-items-place.is) in
-    let differs : has_name names c.args.name.now (c.loop-number.number - 1) ≡ false = ap (bytes_eq c.args.name.now) (read ∙ sym c.name.ensures) ∙ sym c.eq.ensures ∙ c.if-eq.false in
+    let differs : has_name names c.args.name.now (c.loop-number.number - 1) ≡ false = ap (bytes_eq c.args.name.now) (read ∙ sym c.name.ensures) ∙ sym c.same_name.ensures ∙ c.if-same_name.false in
     record {
       inside = omega (arith, search-inside names hash c.args.chains.now c.args.name.now c.requires c.earlier-number.result at within next, inside);
       hashed = search-hashed names hash c.args.chains.now c.args.name.now c.requires c.earlier-number.result at next;

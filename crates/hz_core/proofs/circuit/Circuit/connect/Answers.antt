@@ -1,10 +1,11 @@
-use Rattle.std.proofs.Common.{ap, refl, ◌-◌, set}
-use Rattle.hz_core.proofs.FieldLemmas.{HoldsCircuit-PinComes}
+use Rattle.std.proofs.Common.{ap, refl, ℕ, ◌-◌, ◌<◌, [], ◌∷◌, length, set, arith}
+use Rattle.std.proofs.lemmas.List.Elements.{All-cons, All-nil}
+use Rattle.hz_core.proofs.FieldLemmas.{HoldsCircuit-PinsCome}
 use Rattle.hz_core.proofs.circuit.Circuit.connect.Goals as goal
 
 pub invariant_of-self-2 : goal.invariant_of-self-2
 invariant_of-self-2 c =
-    HoldsCircuit-PinComes c.self.inside _ c.args.self.now c.index_mut.result.now c.args.gate c.args.source c.self.view_is
+    HoldsCircuit-PinsCome c.self.inside _ c.args.self.now c.index_mut.result.now c.args.gate (c.args.source ∷ []) c.self.view_is
     c.self.invariant c.requires.gate
     (record {
       names = refl;
@@ -17,4 +18,5 @@ invariant_of-self-2 c =
       outputs = refl;
       pins = refl;
     })
-    c.requires.source c.requires.pins c.requires.room
+    (All-cons (λ (source : ℕ). source < length c.args.self.now.names) c.args.source [] c.requires.source (All-nil (λ (source : ℕ). source < length c.args.self.now.names)))
+    (omega (arith, c.requires.pins)) (omega (arith, c.requires.room))
