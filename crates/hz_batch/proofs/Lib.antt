@@ -2,8 +2,8 @@
 pub mod HeldLemmas
 -- Values of variables in all lanes, as they are kept one after the other
 pub mod ColumnLemmas
--- Values in four lanes, looked up by the bits of both planes
-pub mod FourLemmas
+-- Both values of an output in a lane, as a number of four bits
+pub mod KeyLemmas
 -- The line of a lane, output by output
 pub mod LineLemmas
 -- What a lane comes to

@@ -25,7 +25,7 @@ pub mod Laws
 pub mod Held
 pub mod Counts
 pub mod Columns
-pub mod Fours
+pub mod Keys
 pub mod Kept
 pub mod Lines
 pub mod Inside

@@ -15,7 +15,7 @@ ghost use Rattle.hz_batch.specs.Laws.{AreLaws};
 ghost use Rattle.hz_batch.specs.Outcome.{Outcome};
 ghost use Rattle.hz_batch.specs.Written.{AreWritten};
 
-use crate::columns::{Columns, keep_values, look_up};
+use crate::columns::{Columns, keep_keys, keep_values};
 use crate::counts::Counts;
 use crate::job::Job;
 use crate::lanes::{Lane, write_lane};
@@ -112,6 +112,7 @@ fn write_block<K: Sink>(
     spread_and_keep(work, planes, room.columns.firsts.as_mut_slice());
     planes.settle(work.net);
     keep_values(work.net, planes, room.columns.seconds.as_mut_slice());
+    keep_keys(&mut room.columns);
     write_lanes(writer, work, planes, first, lanes, room);
 }
 
@@ -184,7 +185,6 @@ fn write_lanes<K: Sink>(
         (first + 1) writer.old writer.new room.old.counts room.new.counts }
 {
     for lane in 0..lanes {
-        look_up(work.net, &mut room.columns, lane);
         let at = Lane {
             lane,
             number: first as u32 + lane + 1,

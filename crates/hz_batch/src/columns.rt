@@ -1,26 +1,25 @@
 //! The values of the outputs in all lanes.
-ghost use Rattle.std.specs.Prelude.{◌≡◌, ◌<◌, ◌*◌, ◌/◌, ◌%◌, false, nat_eq, length, IfOk};
+ghost use Rattle.std.specs.Prelude.{◌≡◌, length, IfOk};
 ghost use Rattle.hz_plane.specs.View.{AreOf};
 ghost use Rattle.hz_batch.specs.Columns.{AreColumns};
-ghost use Rattle.hz_batch.specs.Fours.{ShowFour};
+ghost use Rattle.hz_batch.specs.Keys.{HaveKeys};
 ghost use Rattle.hz_batch.specs.Kept.{AreColumnsFor};
 
-use crate::fours::{look_up_all, table_of};
-use hz_core::{Circuit, Memory, Tri};
+use crate::keys::{make_keys, table_of};
+use hz_core::{Circuit, Memory};
 use hz_net::Net;
 use hz_plane::{LaneValues, Planes};
 use hz_report::Letter;
 use std::alloc::Global;
 
-/// The first and the second values of the outputs, in all lanes, and in the four lanes whose lines
-/// are made.
+/// The first and the second values of the outputs in all lanes, their keys, and the values that
+/// each key says.
 #[derive(Drop)]
 pub(crate) struct Columns {
     pub(crate) firsts: Vec<LaneValues>,
     pub(crate) seconds: Vec<LaneValues>,
-    pub(crate) first_fours: Vec<[Letter; 4]>,
-    pub(crate) second_fours: Vec<[Letter; 4]>,
-    pub(crate) table: Vec<[Letter; 4]>,
+    pub(crate) keys: Vec<[[u64; 8]; 4]>,
+    pub(crate) table: Vec<(Letter, Letter)>,
 }
 
 // Columns for the outputs of a circuit.
@@ -35,8 +34,7 @@ pub(crate) fn columns_for(alloc: Global, circuit: &Circuit) -> Result<Columns, M
     Ok(Columns {
         firsts: vec![in alloc; none; count]?,
         seconds: vec![in alloc; none; count]?,
-        first_fours: vec![in alloc; [Letter::of(Tri::Zero); 4]; count]?,
-        second_fours: vec![in alloc; [Letter::of(Tri::Zero); 4]; count]?,
+        keys: vec![in alloc; [[0; 8]; 4]; count]?,
         table: table_of(alloc)?,
     })
 }
@@ -56,30 +54,20 @@ pub(crate) fn keep_values(net: &Net, planes: &Planes, columns: &mut [LaneValues]
     }
 }
 
-// Looks up the values in a lane and in those beside it, unless that was done for the lane before.
-pub(crate) fn look_up(net: &Net, columns: &mut Columns, lane: u32)
-    requires columns { AreColumnsFor net.now columns.old }
-    requires lane { lane < 512 }
-    requires shown { nat_eq (lane % 4) 0 ≡ false → ShowFour (lane / 4 * 4) columns.old }
-    ensures columns { AreColumnsFor net.now columns.new }
+// Keeps the keys of the outputs, by both of their values.
+pub(crate) fn keep_keys(columns: &mut Columns)
+    requires seconds { length columns.old.seconds.items ≡ length columns.old.firsts.items }
+    requires keys { length columns.old.keys.items ≡ length columns.old.firsts.items }
     ensures firsts { columns.new.firsts ≡ columns.old.firsts }
     ensures seconds { columns.new.seconds ≡ columns.old.seconds }
-    ensures shown { ShowFour (lane / 4 * 4) columns.new }
+    ensures table { columns.new.table ≡ columns.old.table }
+    ensures count { length columns.new.keys.items ≡ length columns.old.firsts.items }
+    ensures keys { HaveKeys columns.new.firsts.items columns.new.seconds.items
+        columns.new.keys.items }
 {
-    let _variables = net.len();
-    if lane % 4 != 0 {
-        return;
-    }
-    look_up_all(
-        columns.table.as_slice(),
+    make_keys(
         columns.firsts.as_slice(),
-        lane,
-        columns.first_fours.as_mut_slice(),
-    );
-    look_up_all(
-        columns.table.as_slice(),
         columns.seconds.as_slice(),
-        lane,
-        columns.second_fours.as_mut_slice(),
+        columns.keys.as_mut_slice(),
     );
 }

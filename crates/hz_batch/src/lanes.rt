@@ -19,8 +19,8 @@ ghost use Rattle.hz_batch.specs.Blocks.{load_of};
 ghost use Rattle.hz_batch.specs.Columns.{HasColumns};
 ghost use Rattle.hz_batch.specs.Comes.{comes_to, held_by, kept_at};
 ghost use Rattle.hz_batch.specs.Counts.{IsMarkOf, settled_mark};
-ghost use Rattle.hz_batch.specs.Fours.{ShowFour};
 ghost use Rattle.hz_batch.specs.Inside.{IsWork};
+ghost use Rattle.hz_batch.specs.Keys.{HaveKeys};
 ghost use Rattle.hz_batch.specs.Kept.{AreColumnsFor, HoldBoth};
 ghost use Rattle.hz_batch.specs.Laws.{AreLaws};
 ghost use Rattle.hz_batch.specs.Outcome.{Outcome, IsOutcome};
@@ -30,11 +30,12 @@ use crate::blocks::Work;
 use crate::columns::Columns;
 use crate::counts::Mark;
 use crate::job::Job;
+use crate::keys::pair_at;
 use hz_core::Circuit;
 use hz_net::Net;
 use hz_outside::Sink;
 use hz_plane::{LaneFault, Planes};
-use hz_report::{Letter, OutputLine};
+use hz_report::OutputLine;
 use hz_write::Piece::{Number, Text};
 use hz_write::Writer;
 
@@ -56,7 +57,6 @@ pub(crate) fn write_lane<K: Sink>(
         × (slice_get planes.now.lanes at.lane ≡ Some (Some loaded)) }
     requires columns { HoldBoth work.now.net.now (kept_at work.now.job) planes.now.lanes
         columns.now }
-    requires shown { ShowFour (at.lane / 4 * 4) columns.now }
     requires line { IsLineFor work.now.net.now line.old }
     ensures line { IsLineFor work.now.net.now line.new }
     ensures gave { (pattern : PatternOf) → IsPatternOf work.now.net.now.inputs pattern
@@ -94,7 +94,6 @@ fn write_outcome<K: Sink>(
     requires loaded { (loaded : Loaded)
         × (slice_get planes.now.lanes at.lane ≡ Some (Some loaded)) }
     requires columns { HoldBoth net.now Spread planes.now.lanes columns.now }
-    requires shown { ShowFour (at.lane / 4 * 4) columns.now }
     requires line { IsLineFor net.now line.old }
     ensures line { IsLineFor net.now line.new }
     ensures gave { (loaded : Loaded) → slice_get planes.now.lanes at.lane ≡ Some (Some loaded)
@@ -135,7 +134,6 @@ fn write_values<K: Sink>(
     requires stage { planes.now.stage ≡ Settled }
     requires lane { at.lane < 512 }
     requires columns { HoldBoth net.now Completed planes.now.lanes columns.now }
-    requires shown { ShowFour (at.lane / 4 * 4) columns.now }
     requires line { IsLineFor net.now line.old }
     ensures line { IsLineFor net.now line.new }
     ensures gave { (loaded : Loaded) (first settled : List Tri)
@@ -182,33 +180,20 @@ fn write_refused<'p, K: Sink>(
 fn set_line(net: &Net, columns: &Columns, lane: u32, line: &mut OutputLine<'_>)
     requires lane { lane < 512 }
     requires columns { AreColumnsFor net.now columns.now }
-    requires shown { ShowFour (lane / 4 * 4) columns.now }
+    requires keys { HaveKeys columns.now.firsts.items columns.now.seconds.items
+        columns.now.keys.items }
     requires line { IsLineFor net.now line.old }
     ensures line { IsLineFor net.now line.new }
     ensures values { (a b : List Tri) → HasColumns net.now.outputs columns.now.firsts.items lane a
         → HasColumns net.now.outputs columns.now.seconds.items lane b
         → line.new.values ≡ output_values net.now a b }
 {
-    let firsts = columns.first_fours.as_slice();
-    let seconds = columns.second_fours.as_slice();
-    let nth = (lane % 4) as usize;
+    let table = columns.table.as_slice();
+    let keys = columns.keys.as_slice();
     for place in 0..net.circuit().outputs().len() {
-        line.set(
-            place,
-            letter_at(firsts, place, nth),
-            letter_at(seconds, place, nth),
-        );
+        let pair = pair_at(table, &keys[place], lane);
+        line.set(place, pair.0, pair.1);
     }
-}
-
-// The letter of a variable in one of four lanes.
-#[inline(always)]
-fn letter_at(fours: &[[Letter; 4]], place: usize, nth: usize) -> Letter
-    requires place { place < length fours.now }
-    requires nth { nth < 4 }
-    ensures { result ≡ slice_index_or (slice_index_or fours.now place []) nth Zero }
-{
-    fours[place][nth]
 }
 
 // What is counted of a pattern for which there are values.

@@ -11,7 +11,7 @@
 //! | `blocks` | a block: it is loaded, all passes are made, and the line of each lane is written |
 //! | `lanes` | the line of a lane |
 //! | `columns` | the first and the second values of the outputs, as they are kept for all lanes |
-//! | `fours` | their values in four lanes, which are looked up together |
+//! | `keys` | both values in a lane as one number, by which their letters are looked up |
 //! | `held` | the gates that are held at the start |
 //! | `counts` | what is counted |
 //! | `fault` | [`BatchFault`]: why the text was not written |
@@ -21,9 +21,9 @@ mod blocks;
 mod columns;
 mod counts;
 mod fault;
-mod fours;
 mod held;
 mod job;
+mod keys;
 mod lanes;
 mod writing;
 

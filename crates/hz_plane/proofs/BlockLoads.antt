@@ -43,6 +43,12 @@ same-listed listings listings' lane long each =
     ext_get_or None (lane_listed listings' lane) (lane_listed listings lane) (size ∙ (long ∙ sym (length-map listings show))) (λ i few.
     get_or-map show listings' i (record { zeros = []; ones = [] }) None (omega (arith, few, size)) ∙ (each i ∙ sym (get_or-map show listings i (record { zeros = []; ones = [] }) None (omega (arith, few, size, long)))))
 
+pub lists-none : (listings : List Listing) (lane i : ℕ) → lane_listed listings lane ≡ replicate (length listings) None → i < length listings → listed_in (get_or listings i (record { zeros = []; ones = [] })) lane ≡ None
+lists-none listings lane i none inside =
+    let nothing : Option Bool = None in
+    sym (get_or-map (λ (listing : Listing). listed_in listing lane) listings i (record { zeros = []; ones = [] }) nothing inside)
+    ∙ (ap (λ (list : List (Option Bool)). get_or list i nothing) none ∙ get_or-replicate (length listings) i nothing nothing inside)
+
 pub gathered-listed : (listings listings' : List Listing) (lane off inputs : ℕ) (bits : List Bool) → length listings' ≡ length listings → inputs ≤ length listings → off + inputs ≤ length bits →
     lane_listed listings lane ≡ replicate (length listings) None →
     ((i : ℕ) → i < inputs → listed_in (get_or listings' i (record { zeros = []; ones = [] })) lane ≡ Some (get_or bits (off + i) false)) →
@@ -62,10 +68,9 @@ gathered-listed listings listings' lane off inputs bits long few room none here 
     get_or-map show listings' i (record { zeros = []; ones = [] }) nothing (omega (arith, inside, long)) ∙ elim (cases_lt i inputs) [
       | inl is_input ↦ here i is_input ∙ sym (get_or_append_left some others nothing i (omega (arith, is_input, count, length-map first (λ (b : Bool). Some b)))
           ∙ (get_or-map (λ (b : Bool). Some b) first i false nothing (omega (arith, is_input, count)) ∙ ap (λ (b : Bool). Some b) (get_or-take inputs (drop off bits) i false is_input ∙ get_or-drop off bits i false)))
-      | inr past ↦ rest i past ∙ (sym (get_or-map show listings i (record { zeros = []; ones = [] }) nothing inside)
-          ∙ (ap (λ (list : List (Option Bool)). get_or list i nothing) none ∙ (get_or-replicate (length listings) i nothing nothing inside
+      | inr past ↦ rest i past ∙ (lists-none listings lane i none inside
           ∙ sym (get_or-append_right some others (length first) i nothing (length-map first (λ (b : Bool). Some b)) (omega (arith, past, count))
-          ∙ get_or-replicate (length listings - length first) (i - length first) nothing nothing (omega (arith, inside, past, count))))))
+          ∙ get_or-replicate (length listings - length first) (i - length first) nothing nothing (omega (arith, inside, past, count))))
     ])
 
 -- eight lanes are loaded, and what was loaded into the others stays

@@ -1,5 +1,5 @@
 -- Eight lanes at once: a byte of a word, and bits that are put into a byte one after the other.
-use Rattle.std.proofs.Common.{◌≡◌, ◌≢◌, ℕ, zero, suc, set, w8, w64, ◌+◌, ◌*◌, ◌^◌, ◌-◌, ◌<◌, ◌≤◌, ◌/◌, ◌%◌, ◌⊎◌, min, max, Bool, true, false, Some, List, length, get_or, refl, sym, ap, ◌∙◌, arith, inl, inr, nat_eq, add-one}
+use Rattle.std.proofs.Common.{◌≡◌, ◌≢◌, ℕ, zero, suc, set, w8, w64, ◌+◌, ◌*◌, ◌^◌, ◌-◌, ◌<◌, ◌≤◌, ◌/◌, ◌%◌, ◌⊎◌, min, max, Bool, true, false, None, Some, List, length, get_or, refl, sym, ap, ◌∙◌, arith, inl, inr, nat_eq, add-one}
 use Rattle.std.specs.Int.{bit_at, bit_not}
 use Rattle.std.specs.Int.Bits.{bit_and, bit_or}
 use Rattle.std.proofs.Math.Nat.{pow-le-pow_right, pow-succ', mod-eq_of_lt}
@@ -59,32 +59,80 @@ module _ (word byte k i : ℕ) (small : byte < 256) (low : k ≤ 56) (inside : i
       let put : bit_at (byte * 2 ^ k % 2 ^ 64) i ≡ 0 = placed-in byte k i small low (omega (arith, past)) ∙ bit_at_above byte 8 (i - k) (omega (arith, small)) (omega (arith, past)) in
       omega (arith, parts, mask, put, bit_at-lt word i)
 
--- a set in which eight lanes have the bits of a byte
-module _ (words : List ℕ) (eight byte lane : ℕ) (is_eight : eight < 64) (small : byte < 256) (long : length words ≡ 8) where
-  abbrev pub with-eight : List ℕ
-  with-eight = set words (eight / 8) (with-byte (get_or words (eight / 8) 0) byte (8 * (eight % 8)))
+-- a word that has no bit at the place of a byte, and the byte there
+abbrev pub with-joined : ℕ → ℕ → ℕ → ℕ
+with-joined word byte k = bit_or word (byte * 2 ^ k % 2 ^ 64)
 
-  pub eight-here : lane / 8 ≡ eight → has_lane with-eight lane ≡ byte_has byte (lane % 8)
-  eight-here e =
-      let word : lane / 64 ≡ eight / 8 = omega (arith, e) in
+module _ (word byte k i : ℕ) (small : byte < 256) (low : k ≤ 56) where
+  both : bit_at (with-joined word byte k) i ≡ max (bit_at word i) (bit_at (byte * 2 ^ k % 2 ^ 64) i)
+  both = bit_at_or word (byte * 2 ^ k % 2 ^ 64) i
+
+  pub joined-here : k ≤ i → bit_at word i ≡ 0 → bit_at (with-joined word byte k) i ≡ bit_at byte (i - k)
+  joined-here from none = omega (arith, both, none, placed-in byte k i small low from)
+
+  pub joined-elsewhere : (i < k) ⊎ (k + 8 ≤ i) → bit_at (with-joined word byte k) i ≡ bit_at word i
+  joined-elsewhere (inl under) = omega (arith, both, placed-below byte k i small low under, bit_at-lt word i)
+  joined-elsewhere (inr past) =
+      let put : bit_at (byte * 2 ^ k % 2 ^ 64) i ≡ 0 = placed-in byte k i small low (omega (arith, past)) ∙ bit_at_above byte 8 (i - k) (omega (arith, small)) (omega (arith, past)) in
+      omega (arith, both, put, bit_at-lt word i)
+
+-- a word of a set is written: eight lanes, and every other lane
+module _ (words : List ℕ) (eight word lane : ℕ) (is_eight : eight < 64) (long : length words ≡ 8) where
+  written-here : (byte : ℕ) → lane / 8 ≡ eight → bit_at word (lane % 64) ≡ bit_at byte (lane % 64 - 8 * (eight % 8)) → has_lane (set words (eight / 8) word) lane ≡ byte_has byte (lane % 8)
+  written-here byte e is =
+      let at : lane / 64 ≡ eight / 8 = omega (arith, e) in
       let bit : lane % 64 - 8 * (eight % 8) ≡ lane % 8 = omega (arith, e) in
       ap (λ (n : ℕ). nat_eq n 1)
-      (ap (λ (n : ℕ). bit_at (get_or with-eight n 0) (lane % 64)) word
-      ∙ (ap (λ (n : ℕ). bit_at n (lane % 64)) (get_or-set_same words (eight / 8) (with-byte (get_or words (eight / 8) 0) byte (8 * (eight % 8))) 0 (omega (arith, is_eight, long)))
-      ∙ (byte-here (get_or words (eight / 8) 0) byte (8 * (eight % 8)) (lane % 64) small (omega arith) (omega arith) (omega (arith, e)) (omega (arith, e))
-      ∙ ap (bit_at byte) bit)))
+      (ap (λ (n : ℕ). bit_at (get_or (set words (eight / 8) word) n 0) (lane % 64)) at
+      ∙ (ap (λ (n : ℕ). bit_at n (lane % 64)) (get_or-set_same words (eight / 8) word 0 (omega (arith, is_eight, long)))
+      ∙ (is ∙ ap (bit_at byte) bit)))
 
-  pub eight-others : lane / 8 ≢ eight → has_lane with-eight lane ≡ has_lane words lane
-  eight-others apart = ap (λ (n : ℕ). nat_eq n 1) (elim (cases_eq (lane / 64) (eight / 8)) [
-    | inl e ↦ ap (λ (n : ℕ). bit_at (get_or with-eight n 0) (lane % 64)) e
-        ∙ (ap (λ (n : ℕ). bit_at n (lane % 64)) (get_or-set_same words (eight / 8) (with-byte (get_or words (eight / 8) 0) byte (8 * (eight % 8))) 0 (omega (arith, is_eight, long)))
-        ∙ (byte-elsewhere (get_or words (eight / 8) 0) byte (8 * (eight % 8)) (lane % 64) small (omega arith) (omega arith) (elim (cases_lt (lane % 64) (8 * (eight % 8))) [
+  written-others : lane / 8 ≢ eight → ((lane % 64 < 8 * (eight % 8)) ⊎ (8 * (eight % 8) + 8 ≤ lane % 64) → bit_at word (lane % 64) ≡ bit_at (get_or words (eight / 8) 0) (lane % 64)) → has_lane (set words (eight / 8) word) lane ≡ has_lane words lane
+  written-others apart same = ap (λ (n : ℕ). nat_eq n 1) (elim (cases_eq (lane / 64) (eight / 8)) [
+    | inl e ↦ ap (λ (n : ℕ). bit_at (get_or (set words (eight / 8) word) n 0) (lane % 64)) e
+        ∙ (ap (λ (n : ℕ). bit_at n (lane % 64)) (get_or-set_same words (eight / 8) word 0 (omega (arith, is_eight, long)))
+        ∙ (same (elim (cases_lt (lane % 64) (8 * (eight % 8))) [
           | inl under ↦ inl under
           | inr from ↦ inr (omega (arith, from, e, apart))
         ])
         ∙ ap (λ (n : ℕ). bit_at (get_or words n 0) (lane % 64)) (sym e)))
-    | inr differ ↦ ap (λ (n : ℕ). bit_at n (lane % 64)) (get_or-set_other words (eight / 8) (lane / 64) (with-byte (get_or words (eight / 8) 0) byte (8 * (eight % 8))) 0 differ)
+    | inr differ ↦ ap (λ (n : ℕ). bit_at n (lane % 64)) (get_or-set_other words (eight / 8) (lane / 64) word 0 differ)
   ])
+
+zero-bit : (bit : ℕ) → bit < 2 → nat_eq bit 1 ≡ false → bit ≡ 0
+zero-bit zero low e = refl
+zero-bit (suc zero) low e = cc
+zero-bit (suc (suc n)) low e = absurd (omega (arith, low))
+
+-- a set in which eight lanes have the bits of a byte
+module _ (words : List ℕ) (eight byte lane : ℕ) (is_eight : eight < 64) (small : byte < 256) (long : length words ≡ 8) where
+  abbrev word-of-eight : ℕ
+  word-of-eight = get_or words (eight / 8) 0
+
+  abbrev pub with-eight : List ℕ
+  with-eight = set words (eight / 8) (with-byte word-of-eight byte (8 * (eight % 8)))
+
+  abbrev pub joined-eight : List ℕ
+  joined-eight = set words (eight / 8) (with-joined word-of-eight byte (8 * (eight % 8)))
+
+  pub eight-here : lane / 8 ≡ eight → has_lane with-eight lane ≡ byte_has byte (lane % 8)
+  eight-here e = written-here words eight _ lane is_eight long byte e
+      (byte-here word-of-eight byte (8 * (eight % 8)) (lane % 64) small (omega arith) (omega arith) (omega (arith, e)) (omega (arith, e)))
+
+  pub eight-others : lane / 8 ≢ eight → has_lane with-eight lane ≡ has_lane words lane
+  eight-others apart = written-others words eight _ lane is_eight long apart
+      (byte-elsewhere word-of-eight byte (8 * (eight % 8)) (lane % 64) small (omega arith) (omega arith))
+
+  pub joined-eight-here : lane / 8 ≡ eight → has_lane words lane ≡ false → has_lane joined-eight lane ≡ byte_has byte (lane % 8)
+  joined-eight-here e out =
+      let at : lane / 64 ≡ eight / 8 = omega (arith, e) in
+      let none : bit_at word-of-eight (lane % 64) ≡ 0 = ap (λ (n : ℕ). bit_at (get_or words n 0) (lane % 64)) (sym at) ∙ zero-bit (bit_at (get_or words (lane / 64) 0) (lane % 64)) (bit_at-lt _ _) out in
+      written-here words eight _ lane is_eight long byte e
+      (joined-here word-of-eight byte (8 * (eight % 8)) (lane % 64) small (omega arith) (omega (arith, e)) none)
+
+  pub joined-eight-others : lane / 8 ≢ eight → has_lane joined-eight lane ≡ has_lane words lane
+  joined-eight-others apart = written-others words eight _ lane is_eight long apart
+      (joined-elsewhere word-of-eight byte (8 * (eight % 8)) (lane % 64) small (omega arith))
 
 -- one bit more below the others
 module _ (byte lane : ℕ) (bit : Bool) where
@@ -122,6 +170,12 @@ pub listed-eight : (listing : Listing) (lane place byte : ℕ) → byte < 256 �
 listed-eight listing lane place byte small inside zeros ones =
     ap (λ (b : Bool). listed_by b (has_lane listing.ones lane)) (zeros ∙ ap (λ (n : ℕ). nat_eq n 1) (bit_at_not w8 byte place (omega (arith, small)) (omega (arith, inside))))
     ∙ (ap (listed_by (nat_eq (1 - bit_at byte place) 1)) ones ∙ flipped (bit_at byte place) (bit_at-lt byte place))
+
+-- a lane that lists none is in neither set
+pub in-neither : (zero one : Bool) → listed_by zero one ≡ None → (zero ≡ false) × (one ≡ false)
+in-neither true one e = cc
+in-neither false true e = cc
+in-neither false false e = (refl, refl)
 
 -- a byte of one bit
 pub all-bits : (place : ℕ) → place < 8 → byte_has 255 place ≡ true

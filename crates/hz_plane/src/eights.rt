@@ -96,7 +96,7 @@ pub(crate) fn start_eight(
     list_eight(eight, bits, at, 2 * inputs, inputs, listings);
 }
 
-// Lets eight lanes list their bits for the inputs, the first nodes of this count.
+// Lets eight lanes that list nothing list their bits for the inputs, the first nodes of this count.
 fn list_eight(
     eight: u32,
     bits: &[bool],
@@ -108,6 +108,8 @@ fn list_eight(
     requires eight { eight < 64 }
     requires inputs { inputs ≤ length listings.old }
     requires inside { inputs + at + 7 * step ≤ length bits.now }
+    requires none { (i lane : ℕ) → i < length listings.old → lane / 8 ≡ eight
+        → listed_in (slice_index_or listings.old i (record { zeros = []; ones = [] })) lane ≡ None }
     ensures here { (i lane : ℕ) → i < inputs → lane / 8 ≡ eight
         → listed_in (slice_index_or listings.new i (record { zeros = []; ones = [] })) lane
         ≡ Some (slice_index_or bits.now (at + i + (lane % 8) * step) false) }
@@ -124,11 +126,14 @@ fn list_eight(
     }
 }
 
-// Lets eight lanes list their bits for a part of the inputs.
+// Lets eight lanes that list nothing list their bits for a part of the inputs.
 fn list_part(eight: u32, bytes: &[u8; 64], from: usize, count: usize, listings: &mut [Listing])
     requires eight { eight < 64 }
     requires count { count ≤ 64 }
     requires inside { from + count ≤ length listings.old }
+    requires none { (i lane : ℕ) → i < count → lane / 8 ≡ eight
+        → listed_in (slice_index_or listings.old (from + i) (record { zeros = []; ones = [] })) lane
+        ≡ None }
     ensures here { (i lane : ℕ) → i < count → lane / 8 ≡ eight
         → listed_in (slice_index_or listings.new (from + i) (record { zeros = []; ones = [] })) lane
         ≡ Some (byte_has (slice_index bytes.now i) (lane % 8)) }

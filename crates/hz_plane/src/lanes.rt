@@ -97,3 +97,17 @@ pub(crate) fn put_eight(set: &mut [u64; 8], eight: u32, byte: u8)
     let low = 8 * (eight % 8);
     set[word] = (set[word] & !(255 << low)) | ((byte as u64) << low);
 }
+
+/// Gives eight lanes, none of which is in a set, their bits, those of a byte.
+#[inline(always)]
+pub(crate) fn join_eight(set: &mut [u64; 8], eight: u32, byte: u8)
+    requires eight { eight < 64 }
+    requires out { (lane : ℕ) → lane / 8 ≡ eight → has_lane set.old lane ≡ false }
+    ensures here { (lane : ℕ) → lane / 8 ≡ eight
+        → has_lane set.new lane ≡ byte_has byte (lane % 8) }
+    ensures others { (other : ℕ) → other < 512 → other / 8 ≢ eight
+        → has_lane set.new other ≡ has_lane set.old other }
+{
+    let word = (eight / 8) as usize;
+    set[word] |= (byte as u64) << (8 * (eight % 8));
+}

@@ -7,7 +7,7 @@ ghost use Rattle.hz_plane.specs.Forward.{IsKnownPair};
 ghost use Rattle.hz_plane.specs.Lanes.{listed_value};
 ghost use Rattle.hz_plane.specs.Loads.{listed_in};
 
-use crate::lanes::{join_lane, put_eight, put_lane, put_lanes};
+use crate::lanes::{join_eight, join_lane, put_lane, put_lanes};
 use crate::pair::{Pair, is_plane, is_zero};
 use std::simd::prelude::*;
 
@@ -54,17 +54,18 @@ impl Listing {
         put_lane(&mut self.ones, lane, value == Some(true));
     }
 
-    /// Lists a bit for the node in each of eight lanes, those of a byte.
+    /// Lists a bit for the node in each of eight lanes that list none, those of a byte.
     #[inline(always)]
     pub(crate) fn list_eight(&mut self, eight: u32, bits: u8)
-        requires { eight < 64 }
+        requires eight { eight < 64 }
+        requires none { (lane : ℕ) → lane / 8 ≡ eight → listed_in self.old lane ≡ None }
         ensures here { (lane : ℕ) → lane / 8 ≡ eight
             → listed_in self.new lane ≡ Some (byte_has bits (lane % 8)) }
         ensures others { (other : ℕ) → other < 512 → other / 8 ≢ eight
             → listed_in self.new other ≡ listed_in self.old other }
     {
-        put_eight(&mut self.zeros, eight, !bits);
-        put_eight(&mut self.ones, eight, bits);
+        join_eight(&mut self.zeros, eight, !bits);
+        join_eight(&mut self.ones, eight, bits);
     }
 
     /// Lists the same bit for the node in each lane of a set.

@@ -1,27 +1,40 @@
 -- The digits of a number and of the next one, at the end of ten bytes.
-use Rattle.std.proofs.Common.{◌≡◌, ◌≢◌, ◌∙◌, ap, sym, ℕ, ◌+◌, ◌-◌, ◌/◌, ◌%◌, ◌^◌, ◌<◌, ◌≤◌, List, [], ◌∷◌, ◌++◌, length, length-append, drop, take, set, decimal, arith}
+use Rattle.std.proofs.Common.{◌≡◌, ◌≢◌, ◌∙◌, ap, refl, sym, get_or, ℕ, ◌+◌, ◌-◌, ◌/◌, ◌%◌, ◌^◌, ◌<◌, ◌≤◌, List, [], ◌∷◌, ◌++◌, length, length-append, drop, take, set, decimal, arith}
 use Rattle.std.proofs.lemmas.Fmt.{decimal_step}
-use Rattle.std.proofs.lemmas.List.{length-drop, drop-set-add, drop-append-le, take_all}
+use Rattle.std.proofs.lemmas.List.{get_or-drop, get_or_at, length-drop, drop-set-add, drop-append-le, take_all}
 use Rattle.std.proofs.Math.Seq.{set-append_seam}
 
--- the next number, if it ends in another digit than 0
-pub next-digits : (n number begin : ℕ) (bytes : List ℕ) → 10 ≤ n → number ≡ n + 1 → number < 2 ^ 32 → number % 10 ≢ 0 → begin ≤ 10 → length bytes ≡ 10 → drop begin bytes ≡ decimal n →
-    drop begin (set bytes 9 (48 + number % 10)) ≡ decimal number
-next-digits n number begin bytes many next small other few room is =
-    let digits = decimal (n / 10) in
-    let was = (48 + n % 10) ∷ [] in
-    let last = (48 + number % 10) ∷ [] in
-    let step : drop begin bytes ≡ digits ++ was = is ∙ decimal_step n many (omega (arith, next, small)) in
-    let long : length digits + 1 ≡ 10 - begin =
-    sym (length-append digits was) ∙ ap (length {A = ℕ}) (sym step) ∙ length-drop begin bytes ∙ ap (λ (k : ℕ). k - begin) room in
-    let there : begin + length digits ≡ 9 = omega (arith, long, few) in
-    let tens : n / 10 ≡ number / 10 = omega (arith, next, other) in
-    ap (λ (k : ℕ). drop begin (set bytes k (48 + number % 10))) (sym there)
-    ∙ drop-set-add begin bytes (length digits) (48 + number % 10)
-    ∙ ap (λ (list : List ℕ). set list (length digits) (48 + number % 10)) step
-    ∙ set-append_seam digits (48 + n % 10) [] (48 + number % 10)
-    ∙ ap (λ (k : ℕ). decimal k ++ last) tens
-    ∙ sym (decimal_step number (omega (arith, many, next)) (omega (arith, small)))
+-- the last digit of a number
+module _ (n begin : ℕ) (bytes : List ℕ) (many : 10 ≤ n) (small : n + 1 < 2 ^ 64) (few : begin ≤ 10) (room : length bytes ≡ 10) (is : drop begin bytes ≡ decimal n) where
+  abbrev front : List ℕ
+  front = decimal (n / 10)
+
+  parts : drop begin bytes ≡ front ++ (48 + n % 10) ∷ []
+  parts = is ∙ decimal_step n many (omega (arith, small))
+
+  there : begin + length front ≡ 9
+  there =
+      let long : length front + 1 ≡ 10 - begin =
+      sym (length-append front ((48 + n % 10) ∷ [])) ∙ ap (length {A = ℕ}) (sym parts) ∙ length-drop begin bytes ∙ ap (λ (k : ℕ). k - begin) room in
+      omega (arith, long, few)
+
+  pub last-digit : (d : ℕ) → get_or bytes 9 d ≡ 48 + n % 10
+  last-digit d =
+      ap (λ (k : ℕ). get_or bytes k d) (sym there) ∙ sym (get_or-drop begin bytes (length front) d)
+      ∙ ap (λ (list : List ℕ). get_or list (length front) d) parts ∙ get_or_at front (48 + n % 10) [] d (length front) refl
+
+  -- the next number, if it ends in another digit than 0
+  pub next-digits : n % 10 ≢ 9 → drop begin (set bytes 9 (48 + n % 10 + 1)) ≡ decimal (n + 1)
+  next-digits other =
+      let tens : n / 10 ≡ (n + 1) / 10 = omega (arith, other) in
+      let last : 48 + n % 10 + 1 ≡ 48 + (n + 1) % 10 = omega (arith, other) in
+      ap (λ (k : ℕ). drop begin (set bytes k (48 + n % 10 + 1))) (sym there)
+      ∙ drop-set-add begin bytes (length front) (48 + n % 10 + 1)
+      ∙ ap (λ (list : List ℕ). set list (length front) (48 + n % 10 + 1)) parts
+      ∙ set-append_seam front (48 + n % 10) [] (48 + n % 10 + 1)
+      ∙ ap (λ (k : ℕ). decimal k ++ (48 + n % 10 + 1) ∷ []) tens
+      ∙ ap (λ (k : ℕ). decimal ((n + 1) / 10) ++ k ∷ []) last
+      ∙ sym (decimal_step (n + 1) (omega (arith, many)) small)
 
 -- digits at the end of ten bytes, in front of a text
 pub digits-in-front : (begin : ℕ) (bytes digits rest : List ℕ) → begin ≤ 10 → length bytes ≡ 10 → drop begin bytes ≡ digits → drop begin (take 10 bytes ++ rest) ≡ digits ++ rest

@@ -1,5 +1,5 @@
 //! The digits of a number that is counted up.
-ghost use Rattle.std.specs.Prelude.{◌≡◌, ◌≢◌, ◌+◌, ◌++◌, ◌%◌, ◌<◌, ◌≤◌, IfOk, decimal, length, drop};
+ghost use Rattle.std.specs.Prelude.{◌≡◌, ◌≢◌, ◌+◌, ◌++◌, ◌%◌, ◌^◌, ◌<◌, ◌≤◌, IfOk, decimal, length, drop};
 
 use hz_core::Memory;
 use itoa::Buffer;
@@ -61,23 +61,32 @@ impl Digits {
     pub(crate) fn count_to(&mut self, number: u32)
         ensures { self.new ≡ number }
     {
-        if number > 10 && number % 10 != 0 && number - 1 == self.number {
-            self.go_on(number);
+        if number > 10 && number - 1 == self.number && self.last() != b'9' {
+            self.go_on();
         } else {
             self.begin_at(number);
         }
     }
 
+    // The last digit, as a byte of a text.
+    #[inline(always)]
+    fn last(&self) -> u8
+        ensures { 10 ≤ self.now → self.now + 1 < 2 ^ 32 → result ≡ 48 + self.now % 10 }
+    {
+        self.bytes[MAX_DIGITS - 1]
+    }
+
     // Goes to the next number, which has the same digits but for the last one.
     #[inline(always)]
-    fn go_on(&mut self, number: u32)
-        requires many { 10 < number }
-        requires other { number % 10 ≢ 0 }
-        requires next { self.old + 1 ≡ number }
-        ensures { self.new ≡ number }
+    fn go_on(&mut self)
+        requires many { 10 ≤ self.old }
+        requires other { self.old % 10 ≢ 9 }
+        requires few { self.old + 1 < 2 ^ 32 }
+        ensures { self.new ≡ self.old + 1 }
     {
-        self.number = number;
-        self.bytes[MAX_DIGITS - 1] = b'0' + (number % 10) as u8;
+        let next = self.last() + 1;
+        self.number += 1;
+        self.bytes[MAX_DIGITS - 1] = next;
     }
 
     // Goes to any number.

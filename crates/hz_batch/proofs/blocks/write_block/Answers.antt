@@ -14,6 +14,22 @@ use Rattle.hz_batch.specs.Written.{AreWritten}
 use Rattle.hz_batch.proofs.BlockLaws.{written-whole, fewer}
 use Rattle.hz_batch.proofs.blocks.write_block.Goals as goal
 
+pub keep_keys-requires-clause-seconds : goal.keep_keys-requires-clause-seconds
+keep_keys-requires-clause-seconds g c =
+    let firsts = written-whole c.args.room.now.columns.firsts.items c.spread_and_keep.new.columns c.args.room.now.columns.firsts.len (c.spread_and_keep.ensures.count ∙ c.as_mut_slice.ensures.len) in
+    let seconds = written-whole c.args.room.now.columns.seconds.items c.keep_values.new.columns c.args.room.now.columns.seconds.len (c.keep_values.ensures.count ∙ c.as_mut_slice-2.ensures.len) in
+    let firsts_long : vec_len c.args.room.now.columns.firsts ≡ length c.args.room.now.columns.firsts.items = search rules in
+    let seconds_long : vec_len c.args.room.now.columns.seconds ≡ length c.args.room.now.columns.seconds.items = search rules in
+    ap (length {A = LaneValues}) seconds ∙ (c.keep_values.ensures.count ∙ (c.as_mut_slice-2.ensures.len ∙ (seconds_long ∙ c.requires.room.columns.seconds)))
+    ∙ sym (ap (length {A = LaneValues}) firsts ∙ (c.spread_and_keep.ensures.count ∙ (c.as_mut_slice.ensures.len ∙ (firsts_long ∙ c.requires.room.columns.firsts))))
+
+pub keep_keys-requires-clause-keys : goal.keep_keys-requires-clause-keys
+keep_keys-requires-clause-keys g c =
+    let firsts = written-whole c.args.room.now.columns.firsts.items c.spread_and_keep.new.columns c.args.room.now.columns.firsts.len (c.spread_and_keep.ensures.count ∙ c.as_mut_slice.ensures.len) in
+    let firsts_long : vec_len c.args.room.now.columns.firsts ≡ length c.args.room.now.columns.firsts.items = search rules in
+    c.requires.room.columns.keys
+    ∙ sym (ap (length {A = LaneValues}) firsts ∙ (c.spread_and_keep.ensures.count ∙ (c.as_mut_slice.ensures.len ∙ (firsts_long ∙ c.requires.room.columns.firsts))))
+
 pub write_lanes-requires-clause-columns : goal.write_lanes-requires-clause-columns
 write_lanes-requires-clause-columns g c =
     let netlist = c.args.work.now.net.now in
@@ -28,17 +44,20 @@ write_lanes-requires-clause-columns g c =
     let seconds_long : vec_len c.args.room.now.columns.seconds ≡ length c.args.room.now.columns.seconds.items = search rules in
     record {
       fit = record {
-        firsts = ap (length {A = LaneValues}) firsts ∙ (c.spread_and_keep.ensures.count ∙ (c.as_mut_slice.ensures.len ∙ (firsts_long ∙ c.requires.room.columns.firsts)));
-        seconds = ap (length {A = LaneValues}) seconds ∙ (c.keep_values.ensures.count ∙ (c.as_mut_slice-2.ensures.len ∙ (seconds_long ∙ c.requires.room.columns.seconds)));
-        first_fours = c.requires.room.columns.first_fours;
-        second_fours = c.requires.room.columns.second_fours;
-        table = c.requires.room.columns.table;
+        firsts = rw c.keep_keys.ensures.firsts (ap (length {A = LaneValues}) firsts ∙ (c.spread_and_keep.ensures.count ∙ (c.as_mut_slice.ensures.len ∙ (firsts_long ∙ c.requires.room.columns.firsts))));
+        seconds = rw c.keep_keys.ensures.seconds (ap (length {A = LaneValues}) seconds ∙ (c.keep_values.ensures.count ∙ (c.as_mut_slice-2.ensures.len ∙ (seconds_long ∙ c.requires.room.columns.seconds))));
+        keys = c.keep_keys.ensures.count ∙ (ap (length {A = LaneValues}) firsts ∙ (c.spread_and_keep.ensures.count ∙ (c.as_mut_slice.ensures.len ∙ (firsts_long ∙ c.requires.room.columns.firsts))));
+        table = rw c.keep_keys.ensures.table c.requires.room.columns.table;
       };
-      firsts = subst (λ (list : List LaneValues). AreColumns netlist stage c.settle.new.self.lanes netlist.outputs list) (sym firsts)
-          (subst (λ (list : List (Option Loaded)). AreColumns netlist stage list netlist.outputs c.spread_and_keep.new.columns) (sym lanes) c.spread_and_keep.ensures.columns);
-      seconds = subst (λ (list : List LaneValues). AreColumns netlist AllSettled c.settle.new.self.lanes netlist.outputs list) (sym seconds)
-          (subst (λ (at : Stage). AreColumns netlist at c.settle.new.self.lanes netlist.outputs c.keep_values.new.columns) last c.keep_values.ensures.columns);
+      firsts = rw c.keep_keys.ensures.firsts (subst (λ (list : List LaneValues). AreColumns netlist stage c.settle.new.self.lanes netlist.outputs list) (sym firsts)
+          (subst (λ (list : List (Option Loaded)). AreColumns netlist stage list netlist.outputs c.spread_and_keep.new.columns) (sym lanes) c.spread_and_keep.ensures.columns));
+      seconds = rw c.keep_keys.ensures.seconds (subst (λ (list : List LaneValues). AreColumns netlist AllSettled c.settle.new.self.lanes netlist.outputs list) (sym seconds)
+          (subst (λ (at : Stage). AreColumns netlist at c.settle.new.self.lanes netlist.outputs c.keep_values.new.columns) last c.keep_values.ensures.columns));
+      keys = c.keep_keys.ensures.keys;
     }
+
+pub write_lanes-requires-clause-room : goal.write_lanes-requires-clause-room
+write_lanes-requires-clause-room g c = record { line = c.requires.room.line; columns = (write_lanes-requires-clause-columns g c).fit }
 
 pub returns-clause-gave : goal.returns-clause-gave
 returns-clause-gave g c =

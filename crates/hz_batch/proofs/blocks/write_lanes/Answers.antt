@@ -1,5 +1,5 @@
 -- The line of one lane more.
-use Rattle.std.proofs.Common.{◌∙◌, ◌<◌, ◌≤◌, ◌+◌, ◌∷◌, [], refl, sym, subst, List, length, take, drop, get_or, arith}
+use Rattle.std.proofs.Common.{◌<◌, ◌≤◌, ◌+◌, ◌∷◌, [], refl, sym, subst, List, length, take, drop, get_or, arith}
 use Rattle.std.proofs.lemmas.List.{length-drop, length-take-le, take_more, get_or-drop}
 use Rattle.hz_text.specs.PatternText.{IsPatternOf}
 use Rattle.hz_text.specs.PatternValue.{PatternOf}
@@ -7,13 +7,12 @@ use Rattle.hz_plane.specs.Loads.{Loaded}
 use Rattle.hz_batch.specs.Comes.{comes_to, held_by}
 use Rattle.hz_batch.specs.Outcome.{listing_of}
 use Rattle.hz_batch.specs.Written.{AreWritten}
-use Rattle.hz_batch.proofs.FourLemmas.{still-shown}
 use Rattle.hz_batch.proofs.LaneLoads.{lane-of-rest}
 use Rattle.hz_batch.proofs.Joined.{written-none, written-then, written-one, within-after}
 use Rattle.hz_batch.proofs.blocks.write_lanes.Goals as goal
 
 pub loop-lane-init : goal.loop-lane-init
-loop-lane-init g c = (written-none _ _ _ c.args.writer.now c.args.room.now.counts, c.requires.room, refl, refl, λ later. cc)
+loop-lane-init g c = (written-none _ _ _ c.args.writer.now c.args.room.now.counts, c.requires.room, refl)
 
 pub write_lane-mark-requires-clause-loaded : goal.write_lane-mark-requires-clause-loaded
 write_lane-mark-requires-clause-loaded g c =
@@ -26,9 +25,7 @@ write_lane-mark-requires-clause-loaded g c =
 
 pub write_lane-mark-requires-clause-columns : goal.write_lane-mark-requires-clause-columns
 write_lane-mark-requires-clause-columns g c =
-    let firsts = c.look_up.ensures.firsts ∙ c.loop-lane.invariant.2 in
-    let seconds = c.look_up.ensures.seconds ∙ c.loop-lane.invariant.3 in
-    record { fit = c.look_up.ensures.columns; firsts = rw firsts c.requires.columns.firsts; seconds = rw seconds c.requires.columns.seconds }
+    rw c.loop-lane.invariant.2 c.requires.columns
 
 pub add-requires : goal.add-requires
 add-requires g c =
@@ -62,8 +59,6 @@ loop-lane-preserved g c =
     let whole = subst (λ (patterns : List PatternOf). AreWritten g.K.Sink.output g.K.Sink.faults netlist comes patterns (c.args.first + 1) c.args.writer.now c.write_lane-mark.new.writer c.args.room.now.counts c.add.new.self)
     (sym (take_more rest lane none within)) more in (
       whole,
-      record { line = c.write_lane-mark.ensures.line; columns = c.look_up.ensures.columns },
-      c.look_up.ensures.firsts ∙ c.loop-lane.invariant.2,
-      c.look_up.ensures.seconds ∙ c.loop-lane.invariant.3,
-      still-shown lane c.look_up.new.columns c.look_up.ensures.shown,
+      record { line = c.write_lane-mark.ensures.line; columns = c.loop-lane.invariant.1.columns },
+      c.loop-lane.invariant.2,
     )

@@ -1,6 +1,5 @@
-use Rattle.std.proofs.Common.{◌≡◌, ◌+◌, ◌*◌, ◌/◌, ◌%◌, false, nat_eq, take, drop}
+use Rattle.std.proofs.Common.{◌≡◌, ◌+◌, take, drop}
 use Rattle.hz_batch.specs.Comes.{comes_to}
-use Rattle.hz_batch.specs.Fours.{ShowFour}
 use Rattle.hz_batch.specs.Inside.{IsRoomFor}
 use Rattle.hz_batch.specs.Written.{AreWritten}
 use Rattle.hz_batch.proofs.blocks.write_lanes.Given as goal
@@ -10,6 +9,4 @@ abbrev pub invariant-loop-lane : goal.invariant-loop-lane
 invariant-loop-lane g l =
     AreWritten g.K.Sink.output g.K.Sink.faults l.work.net.now (comes_to l.work.job l.work.net.now l.work.patterns.now.held) (take l.lane (drop l.first l.work.patterns.now.patterns)) (l.first + 1) l.fn.writer l.writer l.fn.room.counts l.room.counts
     × IsRoomFor l.work.net.now l.room
-    × (l.room.columns.firsts ≡ l.fn.room.columns.firsts)
-    × (l.room.columns.seconds ≡ l.fn.room.columns.seconds)
-    × (nat_eq (l.lane % 4) 0 ≡ false → ShowFour (l.lane / 4 * 4) l.room.columns)
+    × (l.room.columns ≡ l.fn.room.columns)

@@ -3,6 +3,11 @@ use Rattle.std.proofs.lemmas.Bool.{cases_lt}
 use Rattle.hz_plane.specs.Loads.{listed_in}
 use Rattle.hz_plane.proofs.eights.list_eight.Goals as goal
 
+pub list_part-requires-clause-none : goal.list_part-requires-clause-none
+list_part-requires-clause-none c i lane few same =
+    c.loop-part.invariant.ahead (64 * c.loop-part.part + i) lane (omega (arith, same, c.requires.eight)) (omega arith)
+    ∙ c.requires.none (64 * c.loop-part.part + i) lane (omega (arith, few, c.min-count.ensures, c.requires.inputs)) same
+
 pub loop-part-preserved : goal.loop-part-preserved
 loop-part-preserved c =
     let from = 64 * c.loop-part.part in
@@ -23,4 +28,6 @@ loop-part-preserved c =
         | inl differ ↦ c.list_part.ensures.others i lane inside (inl differ) ∙ c.loop-part.invariant.others i lane inside (inl differ)
         | inr past ↦ c.list_part.ensures.others i lane inside (inr (inr (omega (arith, past, c.min-count.ensures, c.div_ceil-part-end.ensures, c.loop-part-test.true)))) ∙ c.loop-part.invariant.others i lane inside (inr past)
       ];
+      ahead = λ i lane inside from_next.
+          c.list_part.ensures.others i lane inside (inr (inr (omega (arith, from_next, c.min-count.ensures)))) ∙ c.loop-part.invariant.ahead i lane inside (omega (arith, from_next));
     }

@@ -6,6 +6,11 @@ use Rattle.hz_plane.specs.EightBits.{byte_has}
 use Rattle.hz_plane.specs.Loads.{listed_in}
 use Rattle.hz_plane.proofs.eights.list_part.Goals as goal
 
+pub list_eight-requires-clause-none : goal.list_eight-requires-clause-none
+list_eight-requires-clause-none c lane same =
+    c.loop-i.invariant.others (c.args.from + c.loop-i.i) lane (omega (arith, same, c.requires.eight)) (inr (inr (omega arith)))
+    ∙ c.requires.none c.loop-i.i lane c.loop-i-test.true same
+
 pub loop-i-preserved : goal.loop-i-preserved
 loop-i-preserved c =
     let none : Listing = record { zeros = []; ones = [] } in

@@ -1,7 +1,10 @@
 use Rattle.std.proofs.Common.{◌≡◌, ◌≤◌, ◌+◌, ◌*◌, ◌%◌, ◌∙◌, ℕ, ap, arith, inl, inr, Some, false, get_or}
 use Rattle.std.proofs.lemmas.Nat.{mul-le}
-use Rattle.hz_plane.proofs.BlockLoads.{gathered-listed, same-listed}
+use Rattle.hz_plane.proofs.BlockLoads.{gathered-listed, lists-none, same-listed}
 use Rattle.hz_plane.proofs.eights.start_eight.Goals as goal
+
+pub list_eight-requires-clause-none : goal.list_eight-requires-clause-none
+list_eight-requires-clause-none c i lane inside same = lists-none c.args.listings.now lane i (c.requires.none lane same) inside
 
 pub returns-clause-here : goal.returns-clause-here
 returns-clause-here c lane same =
