@@ -60,6 +60,7 @@ impl<K: Sink + Drop> Sink for Heard<K> {
 
     ghost faults = { λ sink. K.faults sink.out };
 
+    #[inline(always)]
     fn put(&mut self, piece: &[u8]) -> Result<(), PutFault> {
         if self.len == 0 {
             return self.put_first(piece);
