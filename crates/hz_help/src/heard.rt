@@ -1,5 +1,7 @@
 //! The first bytes of the output, kept for what is said of it on standard error.
-ghost use Rattle.std.specs.Prelude.{◌≡◌};
+ghost use Rattle.std.specs.Prelude.{◌≡◌, ◌≢◌, ◌<◌, ◌≤◌, length, OnOk, OnErr};
+ghost use Rattle.hz_outside.specs.Counts.{Rose};
+ghost use Rattle.hz_outside.specs.WrittenText.{Took, TookPrefix};
 
 use hz_outside::{PutFault, Sink};
 
@@ -31,15 +33,25 @@ impl<K: Sink + Drop> Heard<K> {
         self.first.get(..self.len).unwrap_or(b"")
     }
 
-    // Keeps the first bytes of a piece, if it is the first one.
-    fn note(&mut self, piece: &[u8])
-        ensures { self.new.out ≡ self.old.out }
+    // Puts the first piece, and keeps its first bytes. With it kept apart, `put` is short.
+    #[cold]
+    #[inline(never)]
+    fn put_first(&mut self, piece: &[u8]) -> Result<(), PutFault>
+        requires { 0 < length piece.now }
+        ensures whole { OnOk result
+            (Took (K.output self.old.out) piece.now (K.output self.new.out)) }
+        ensures front { OnErr result
+            (TookPrefix (K.output self.old.out) piece.now (K.output self.new.out)) }
+        ensures failed { result ≡ Err PutFault.Failed →
+            Rose (K.faults self.old.out) (K.faults self.new.out) }
+        ensures quiet { result ≢ Err PutFault.Failed →
+            K.faults self.new.out ≡ K.faults self.old.out }
+        ensures never_falls { K.faults self.old.out ≤ K.faults self.new.out }
     {
-        if self.len == 0 {
-            let count = piece.len().min(KEPT);
-            self.first[..count].copy_from_slice(&piece[..count]);
-            self.len = count;
-        }
+        let count = piece.len().min(KEPT);
+        self.first[..count].copy_from_slice(&piece[..count]);
+        self.len = count;
+        self.out.put(piece)
     }
 }
 
@@ -48,8 +60,11 @@ impl<K: Sink + Drop> Sink for Heard<K> {
 
     ghost faults = { λ sink. K.faults sink.out };
 
+    #[inline(always)]
     fn put(&mut self, piece: &[u8]) -> Result<(), PutFault> {
-        self.note(piece);
+        if self.len == 0 {
+            return self.put_first(piece);
+        }
         self.out.put(piece)
     }
 

@@ -3,6 +3,7 @@ ghost use Rattle.std.specs.Prelude.{◌≡◌, ◌≢◌, ◌+◌, ◌-◌, ◌<
 ghost use Rattle.hz_outside.specs.Counts.{Rose};
 ghost use Rattle.hz_outside.specs.WrittenText.{Took, TookPrefix, with_more};
 
+use super::copying::copy_short;
 use super::fault::PutFault;
 use super::sink::Sink;
 use std::marker::Model;
@@ -51,9 +52,9 @@ impl<K: Sink + Drop> Gathered<K> {
         requires { length self.old.gathered + length piece.now ≤ GATHERED }
         ensures { self.new ≡ record self.old { gathered = self.old.gathered ++ piece.now } }
     {
-        let end = self.held + piece.len();
-        self.buffer[self.held..end].copy_from_slice(piece);
-        self.held = end;
+        let start = self.held;
+        self.held = start + piece.len();
+        copy_short(&mut self.buffer[start..self.held], piece);
     }
 
     // Puts what waits in the buffer, which is then empty, whatever the answer.

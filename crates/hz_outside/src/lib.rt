@@ -7,6 +7,7 @@
 //! | `receive` | the trait [`Receive`]: what takes the bytes of a file part by part |
 //! | `sink` | the trait [`Sink`]: a put takes a piece, a flush writes what waits |
 //! | `gathered` | a buffer of 64 KiB in front of any sink |
+//! | `copying` | copies of short pieces, for buffers |
 //! | `counts` | counts of faults, one for each place |
 //! | `shelf` | named files in memory |
 //! | `mem_files`, `plain_files` | files in memory, with and without loads that fail |
@@ -14,6 +15,7 @@
 //! | `disk_files`, `std_sink` | the trusted edge: the file system and standard output |
 #![tactic(auto)]
 
+mod copying;
 mod counts;
 mod disk_files;
 mod fault;
@@ -28,6 +30,7 @@ mod shelf;
 mod sink;
 mod std_sink;
 
+pub use copying::copy_short;
 pub use disk_files::DiskFiles;
 pub use fault::{LoadFault, Memory, Place, PutFault};
 pub use files::Files;

@@ -1,7 +1,11 @@
--- The steps of one run among those of all.
-use Rattle.std.proofs.Common.{ℕ, ◌<◌, ◌++◌, zero, suc, List, [], ◌∷◌, length, get_or, arith}
+-- The steps of one run among those of all, and the line of a step of one variable.
+use Rattle.std.proofs.Common.{◌≡◌, ◌∙◌, ap, sym, ℕ, ◌+◌, ◌<◌, ◌++◌, zero, suc, List, [], ◌∷◌, length, get_or, arith, codes, decimal, append_assoc}
 use Rattle.std.specs.List.{All}
+use Rattle.std.proofs.lemmas.Fmt.{decimal_digit}
+use Rattle.std.proofs.lemmas.List.{append-nil}
 use Rattle.std.proofs.lemmas.List.Elements.{All-nil, All-cons, All-head, All-tail}
+use Rattle.hz_core.specs.Netlist.{Netlist}
+use Rattle.hz_text.specs.RunPrinted.{variable_word, step_text}
 use Rattle.hz_text.specs.RunValue.{RunOf, cycle_steps, all_steps}
 
 pub All-front : {X : Type 0} (P : X → Type 0) (front back : List X) → All P (front ++ back) → All P front
@@ -19,3 +23,15 @@ steps_of_run P (run ∷ runs) zero d all below =
     let mine = All-front P (run.lead ++ cycle_steps run.cycle) (all_steps runs) all in
     (All-front P run.lead (cycle_steps run.cycle) mine, All-back P run.lead (cycle_steps run.cycle) mine)
 steps_of_run P (run ∷ runs) (suc number) d all below = steps_of_run P runs number d (All-back P (run.lead ++ cycle_steps run.cycle) (all_steps runs) all) (omega (arith, below))
+
+-- a pin whose number has one digit
+pub pin_of_digit : (name : List ℕ) (digit pin : ℕ) → pin < 9 → digit ≡ 49 + pin → name ++ (40 ∷ digit ∷ 41 ∷ []) ≡ name ++ 40 ∷ decimal (pin + 1) ++ 41 ∷ []
+pin_of_digit name digit pin few is =
+    let one : digit ∷ [] ≡ decimal (pin + 1) = ap (λ (n : ℕ). n ∷ []) (omega (arith, is)) ∙ sym (decimal_digit (pin + 1) (omega (arith, few))) in
+    ap (λ (digits : List ℕ). name ++ (40 ∷ digits ++ 41 ∷ [])) one ∙ sym (append_assoc name (40 ∷ decimal (pin + 1)) (41 ∷ []))
+
+-- the line of a step of one variable, by the bytes behind the first word
+pub single_step : (netlist : Netlist) (var : ℕ) (front back : List ℕ) → front ++ back ≡ variable_word netlist var ++ 10 ∷ [] → codes "step " ++ front ++ back ≡ step_text netlist (var ∷ [])
+unfolding step_text
+single_step netlist var front back same =
+    ap (λ (rest : List ℕ). codes "step " ++ rest) (same ∙ ap (λ (word : List ℕ). word ++ 10 ∷ []) (sym (append-nil (variable_word netlist var))))

@@ -16,16 +16,12 @@ fn write_assignment<K: Sink>(writer: &mut Writer<'_, K>, circuit: &Circuit, node
     ensures { Writes K.output K.faults
         (assignment_text circuit.now (node, bit)) writer.old writer.new }
 {
-    writer.text(b" ");
-    writer.text(circuit.name(node));
-    writer.text(assigned_text(bit));
-}
-
-// What stands after the name of a node to which a bit is assigned.
-fn assigned_text(bit: bool) -> &'static [u8]
-    ensures { result.now ≡ 61 ∷ letter_of bit ∷ [] }
-{
-    if bit { b"=1" } else { b"=0" }
+    let name = circuit.name(node);
+    if bit {
+        writer.three(b" ", name, b"=1");
+    } else {
+        writer.three(b" ", name, b"=0");
+    }
 }
 
 /// Gives assignments of bits to nodes, each after a space.

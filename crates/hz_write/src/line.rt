@@ -2,7 +2,7 @@
 ghost use Rattle.std.specs.Prelude.{◌≡◌, ◌+◌, ◌-◌, ◌≤◌, [], ◌++◌, length, OnErr};
 ghost use Rattle.hz_write.specs.Writes.{newline, Wrote, WroteBuffered};
 
-use hz_outside::{PutFault, Sink};
+use hz_outside::{PutFault, Sink, copy_short};
 use std::marker::Model;
 
 /// How many bytes of a line one put carries at most.
@@ -97,6 +97,29 @@ impl Line {
     {
         let end = self.len + piece.len();
         self.buffer[self.len..end].copy_from_slice(piece);
+        self.len = end;
+    }
+
+    /// Lets three more pieces wait, which are short as a rule.
+    #[inline(always)]
+    pub(crate) fn push_three(&mut self, first: &[u8], second: &[u8], third: &[u8])
+        requires { length self.old + (length first.now + length second.now + length third.now)
+            ≤ BUFFER_SIZE }
+        ensures { self.new ≡ self.old ++ (first.now ++ second.now ++ third.now) }
+    {
+        self.push_short(first);
+        self.push_short(second);
+        self.push_short(third);
+    }
+
+    // Lets a piece wait, which is short as a rule.
+    #[inline(always)]
+    fn push_short(&mut self, piece: &[u8])
+        requires { length self.old + length piece.now ≤ BUFFER_SIZE }
+        ensures { self.new ≡ self.old ++ piece.now }
+    {
+        let end = self.len + piece.len();
+        copy_short(&mut self.buffer[self.len..end], piece);
         self.len = end;
     }
 

@@ -178,9 +178,52 @@ fn write_steps<K: Sink>(writer: &mut Writer<'_, K>, net: &Net, run: &Run)
     }
 }
 
-// Gives the line of a step.
-#[tactic(auto, using(hz_write::proofs::Writers::writes_then), unfolding(crate::specs::RunPrinted::step_text))]
+// Gives the line of a step. Most steps change one variable.
 fn write_step<K: Sink>(writer: &mut Writer<'_, K>, net: &Net, flips: &[u32])
+    requires { All (IsVariable net.now) flips.now }
+    ensures gave { Writes K.output K.faults (step_text net.now flips.now) writer.old writer.new }
+    ensures none_waits { NoneWaits writer.new }
+{
+    match flips {
+        [var] => write_single(writer, net, *var),
+        _ => write_several(writer, net, flips),
+    }
+}
+
+// Gives the line of a step of one variable.
+fn write_single<K: Sink>(writer: &mut Writer<'_, K>, net: &Net, var: u32)
+    requires { IsVariable net.now var }
+    ensures gave { Writes K.output K.faults (step_text net.now (var ∷ [])) writer.old writer.new }
+    ensures none_waits { NoneWaits writer.new }
+{
+    let circuit = net.circuit();
+    if var < circuit.nodes() {
+        writer.end_by_three(b"step ", circuit.name(var), b"\n");
+    } else {
+        write_single_wire(writer, net, var);
+    }
+}
+
+// Gives the line of a step of one wire. Most pins have a number of one digit.
+fn write_single_wire<K: Sink>(writer: &mut Writer<'_, K>, net: &Net, wire: u32)
+    requires node { length net.now.names ≤ wire }
+    requires within { IsVariable net.now wire }
+    ensures gave { Writes K.output K.faults
+        (step_text net.now (wire ∷ [])) writer.old writer.new }
+    ensures none_waits { NoneWaits writer.new }
+{
+    let (name, pin) = gate_and_pin(net, wire);
+    if pin < 9 {
+        writer.end_by_three(b"step ", name, &[b'(', digit_after(pin), b')', b'\n']);
+    } else {
+        write_several(writer, net, &[wire]);
+    }
+}
+
+// Gives the line of a step of any number of variables.
+#[inline(never)]
+#[tactic(auto, using(hz_write::proofs::Writers::writes_then), unfolding(crate::specs::RunPrinted::step_text))]
+fn write_several<K: Sink>(writer: &mut Writer<'_, K>, net: &Net, flips: &[u32])
     requires { All (IsVariable net.now) flips.now }
     ensures gave { Writes K.output K.faults (step_text net.now flips.now) writer.old writer.new }
     ensures none_waits { NoneWaits writer.new }
@@ -198,8 +241,7 @@ fn write_variables<K: Sink>(writer: &mut Writer<'_, K>, net: &Net, flips: &[u32]
         (flat_map (spaced_word net.now) flips.now) writer.old writer.new }
 {
     for var in flips {
-        writer.text(b" ");
-        write_variable(writer, net, *var);
+        write_after(writer, net, b" ", *var);
     }
 }
 
@@ -208,51 +250,70 @@ pub fn write_variable<K: Sink>(writer: &mut Writer<'_, K>, net: &Net, var: u32)
     requires { IsVariable net.now var }
     ensures { Writes K.output K.faults (variable_word net.now var) writer.old writer.new }
 {
+    write_after(writer, net, b"", var);
+}
+
+// Gives some bytes, and the word of a variable.
+#[inline(always)]
+fn write_after<K: Sink>(writer: &mut Writer<'_, K>, net: &Net, front: &[u8], var: u32)
+    requires { IsVariable net.now var }
+    ensures { Writes K.output K.faults
+        (front.now ++ variable_word net.now var) writer.old writer.new }
+{
     let circuit = net.circuit();
     if var < circuit.nodes() {
-        writer.text(circuit.name(var));
+        writer.three(front, circuit.name(var), b"");
     } else {
-        write_wire(writer, net, var);
+        write_wire_after(writer, net, front, var);
     }
 }
 
-// Gives the word of a wire. It is kept apart, so that `write_variable` is short enough to be inlined: most words are nodes' names.
-#[inline(never)]
-fn write_wire<K: Sink>(writer: &mut Writer<'_, K>, net: &Net, wire: u32)
+// Gives some bytes, and the word of a wire. Most pins have a number of one digit.
+#[inline(always)]
+fn write_wire_after<K: Sink>(writer: &mut Writer<'_, K>, net: &Net, front: &[u8], wire: u32)
     requires node { length net.now.names ≤ wire }
     requires within { IsVariable net.now wire }
-    ensures { Writes K.output K.faults (variable_word net.now wire) writer.old writer.new }
+    ensures { Writes K.output K.faults
+        (front.now ++ variable_word net.now wire) writer.old writer.new }
 {
-    let circuit = net.circuit();
-    match net.kind_of(wire) {
-        VarKind::Wire { gate, pin, .. } => write_gate_pin(writer, circuit, gate, pin),
-        VarKind::Input { .. } => unreachable!(),
-        VarKind::Gate { .. } => unreachable!(),
+    let (name, pin) = gate_and_pin(net, wire);
+    if pin < 9 {
+        writer.three(front, name, &[b'(', digit_after(pin), b')']);
+    } else {
+        writer.text(front);
+        writer.text(name);
+        write_pin(writer, pin);
     }
 }
 
-// Gives the name of a gate and the number of a pin of it, which is counted from 0.
-fn write_gate_pin<K: Sink>(writer: &mut Writer<'_, K>, circuit: &Circuit, gate: u32, pin: u32)
-    requires gate { gate < length circuit.now.names }
-    requires pin { pin < most_gate_pins }
-    ensures { Writes K.output K.faults
-        (node_name circuit.now.names gate ++ 40 ∷ decimal (pin + 1) ++ 41 ∷ []) writer.old
-        writer.new }
-{
-    writer.text(circuit.name(gate));
-    write_pin(writer, pin);
-}
-
-// Gives the number of a pin, which is counted from 0, in parentheses. Most gates have few pins.
+// Gives the number of a pin, which is counted from 0, in parentheses.
 fn write_pin<K: Sink>(writer: &mut Writer<'_, K>, pin: u32)
     requires { pin < most_gate_pins }
     ensures { Writes K.output K.faults (40 ∷ decimal (pin + 1) ++ 41 ∷ []) writer.old writer.new }
 {
-    match pin {
-        0 => writer.text(b"(1)"),
-        1 => writer.text(b"(2)"),
-        2 => writer.text(b"(3)"),
-        3 => writer.text(b"(4)"),
-        _ => writer.add(&[Text(b"("), Number(pin + 1), Text(b")")]),
+    writer.add(&[Text(b"("), Number(pin + 1), Text(b")")]);
+}
+
+// The digit that comes after a number below 9.
+fn digit_after(number: u32) -> u8
+    requires { number < 9 }
+    ensures { result ≡ 49 + number }
+{
+    b'1' + number as u8
+}
+
+// The name of the gate that a wire goes into, and its pin, which is counted from 0.
+fn gate_and_pin(net: &Net, wire: u32) -> (&[u8], u32)
+    requires node { length net.now.names ≤ wire }
+    requires within { IsVariable net.now wire }
+    ensures word { variable_word net.now wire
+        ≡ result.0.now ++ 40 ∷ decimal (result.1 + 1) ++ 41 ∷ [] }
+    ensures pin { result.1 < most_gate_pins }
+{
+    let circuit = net.circuit();
+    match net.kind_of(wire) {
+        VarKind::Wire { gate, pin, .. } => (circuit.name(gate), pin),
+        VarKind::Input { .. } => unreachable!(),
+        VarKind::Gate { .. } => unreachable!(),
     }
 }
