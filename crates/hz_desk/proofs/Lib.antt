@@ -1,5 +1,7 @@
 -- The rows that lists of values and words stand for
 pub mod RowLists
+-- What lists tell that variables rest at, and the rows of variables that do
+pub mod RestLists
 -- A follower goes along a run and counts its race states
 pub mod RaceLoop
 -- Runs cut in two, runs that begin alike, and a step that is undone

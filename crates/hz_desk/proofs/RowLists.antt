@@ -32,7 +32,7 @@ module _ (start : List Bool) (a b : List Tri) (words : List (Option Word)) where
   pub length-rows : length (rows_of start a b words) ≡ length start
   length-rows = length-map-range_with_len (row_at start a b words) 0 (length start)
 
-  row-there : (i : ℕ) → i < length start → slice_get (rows_of start a b words) i ≡ Some (row_at start a b words i)
+  pub row-there : (i : ℕ) → i < length start → slice_get (rows_of start a b words) i ≡ Some (row_at start a b words i)
   row-there i inside =
       let row = row_at start a b words i in
       slice_get-get_or (rows_of start a b words) i row (omega (arith, inside, length-rows))

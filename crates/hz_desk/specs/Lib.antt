@@ -28,6 +28,7 @@ pub mod RightFinding
 pub mod Rows
 pub mod ClassTable
 pub mod RowsOf
+pub mod RestsOf
 pub mod ResultsOfPasses
 pub mod Room
 pub mod RoomFor

@@ -18,6 +18,7 @@ mod existence;
 mod finding;
 mod passes;
 mod races;
+mod rests;
 mod room;
 mod runs;
 
@@ -25,3 +26,4 @@ pub use class::{Class, one_class};
 pub use desk::Desk;
 pub use existence::findings_exist;
 pub use finding::{Bits, Finding, Rest, Row, Rows};
+pub use rests::Rests;

@@ -1,6 +1,7 @@
 //! Words as they are kept: a word or none, in as few bytes as it takes.
-ghost use Rattle.std.specs.Prelude.{◌≡◌, Some, None};
+ghost use Rattle.std.specs.Prelude.{◌≡◌, Some, None, IsTrue};
 ghost use Rattle.hz_word.specs.Capped.{IsWithinCap, greatest_cap};
+ghost use Rattle.hz_free.specs.CappedWords.{constant_if};
 
 use hz_word::{Count, Word};
 use std::marker::Model;
@@ -58,6 +59,13 @@ impl PackedWord {
                 code: MANY_CODE + letter,
             },
         }
+    }
+
+    /// Whether it is the word of a variable that keeps this value, or no word if none is asked for.
+    pub fn rests_at(self, value: bool, some: bool) -> bool
+        ensures { IsTrue result → self ≡ constant_if some value }
+    {
+        self.code == if some { u32::from(value) } else { NO_CODE }
     }
 
     /// The word, if there is one.

@@ -1,8 +1,8 @@
 -- The values that a round changed, taken over into the state, and the round noted at them.
-use Rattle.std.proofs.Common.{◌≡◌, ◌≢◌, ℕ, zero, suc, ◌<◌, ◌≤◌, Bool, List, [], ◌∷◌, length, set, slice_index, get_or, replicate, All, refl, sym, ap, ◌∙◌, subst, arith, inl, inr}
+use Rattle.std.proofs.Common.{◌≡◌, ◌≢◌, ℕ, zero, suc, ◌<◌, ◌≤◌, Bool, List, [], ◌∷◌, length, set, slice_index, get_or, All, refl, sym, ap, ◌∙◌, subst, arith, inl, inr}
 use Rattle.std.specs.Prelude.{Contains, fold, slice_set}
 use Rattle.std.proofs.lemmas.Bool.{cases_eq, cases_lt}
-use Rattle.std.proofs.lemmas.List.{get_or-set_same, get_or-set_other, get_or_past, get_or-replicate, length-replicate, length-set}
+use Rattle.std.proofs.lemmas.List.{get_or-set_same, get_or-set_other, get_or_past, length-set}
 use Rattle.std.proofs.lemmas.List.Elements.{All-from_get_or, Contains-get_or}
 use Rattle.hz_core.specs.declared.tri.Tri.{Tri}
 use Rattle.hz_core.specs.declared.tri.Tri.TheVariants.{Zero}
@@ -25,13 +25,6 @@ length-taken next state (x ∷ list) = length-taken next (set state x (value_at 
 pub length-noted : (round : ℕ) (noted list : List ℕ) → length (noted_at round noted list) ≡ length noted
 length-noted round noted [] = refl
 length-noted round noted (x ∷ list) = length-noted round (set noted x round) list ∙ length-set noted x round
-
--- before the first round none is noted
-pub none-noted : (noted : List ℕ) (count : ℕ) → noted ≡ replicate count 0 → (i : ℕ) → slice_index noted i ≡ 0
-none-noted noted count fresh i = ap (λ (rounds : List ℕ). slice_index rounds i) fresh ∙ (elim (cases_lt i count) [
-  | inl inside ↦ get_or-replicate count i 0 0 inside
-  | inr past ↦ get_or_past (replicate count 0) i 0 (omega (arith, past, length-replicate {A = ℕ} count 0))
-])
 
 -- what has the new value already keeps it
 taken-kept :

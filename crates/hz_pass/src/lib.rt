@@ -19,6 +19,7 @@ mod cuts;
 mod forcing;
 mod front;
 mod laws;
+mod noted;
 mod round;
 mod rounds;
 

@@ -7,6 +7,7 @@ ghost use Rattle.hz_pass.specs.Frontier.{AreFirstRounds};
 ghost use Rattle.hz_pass.specs.InRound.{states_from, CanBegin};
 
 use crate::front::Front;
+use crate::noted::forget;
 use crate::round::{Round, Rule, take_over};
 use hz_core::Tri;
 use hz_lists::Steps;
@@ -51,7 +52,7 @@ impl Pass<'_> {
     {
         let _variables = self.net.len();
         work.copy_from_slice(state);
-        noted.fill(0);
+        forget(noted);
         let round = Round {
             rule: self.rule,
             net: self.net,

@@ -1,5 +1,5 @@
 -- The variables that pass a test: which they are, that none comes twice, and how they are marked one after the other.
-use Rattle.std.proofs.Common.{◌≡◌, ◌≢◌, ℕ, zero, suc, ◌+◌, ◌<◌, Bool, true, false, cond, List, [], ◌∷◌, ◌++◌, length, refl, sym, ap, ◌∙◌, subst, arith, inl, inr, eqb, length-append, append-nil, add-one, filter}
+use Rattle.std.proofs.Common.{◌≡◌, ◌≢◌, ℕ, zero, suc, ◌+◌, ◌<◌, Bool, true, false, cond, List, [], ◌∷◌, ◌++◌, length, refl, sym, ap, ◌∙◌, subst, arith, inl, inr, eqb, length-append, append-nil, append_assoc, add-one, filter}
 use Rattle.hz_reach.proofs.Words.{range_with_len, filter-append, length-range_with_len, or_cases, or_left, false_from_ne_true, differs, is_listed}
 use Rattle.hz_reach.proofs.Words.{IsRepeatFree, Contains-listed, listed-Contains, filtered_range, listed-cases, is_repeat_free-append, is_repeat_free-bound}
 use Rattle.hz_reach.proofs.Words.{Ascends, ascends-lower, ascends-filter, ascends-once, filtered-is, is-filtered, get_or-range_with_len}
@@ -94,3 +94,27 @@ pub filtered_range-next : (test : ℕ → Bool) (first count var : ℕ) → var 
 filtered_range-next test first count var next =
     ap (λ (n : ℕ). filtered_range test first count ++ cond (test n) (n ∷ []) []) next
     ∙ (sym (filtered_range-last test first count) ∙ ap (filtered_range test first) (sym (add-one count)))
+
+-- what is picked of one range, and then of the next one, is picked of both
+pub filtered_range-joined : (test : ℕ → Bool) (first count next more all : ℕ) → next ≡ first + count → all ≡ count + more
+    → filtered_range test first count ++ filtered_range test next more ≡ filtered_range test first all
+filtered_range-joined test first count next zero all is whole =
+    let same : count ≡ all = omega (arith, whole) in
+    append-nil (filtered_range test first count) ∙ ap (filtered_range test first) same
+filtered_range-joined test first count next (suc more) all is whole =
+    let last : next + more ≡ first + (count + more) = omega (arith, is) in
+    let same : suc (count + more) ≡ all = omega (arith, whole) in
+    let picked : ℕ → List ℕ = λ n. cond (test n) (n ∷ []) [] in
+    ap (λ (list : List ℕ). filtered_range test first count ++ list) (filtered_range-last test next more)
+    ∙ (sym (append_assoc (filtered_range test first count) (filtered_range test next more) (picked (next + more)))
+    ∙ (ap (λ (list : List ℕ). list ++ picked (next + more)) (filtered_range-joined test first count next more (count + more) is refl)
+    ∙ (ap (λ (n : ℕ). filtered_range test first (count + more) ++ picked n) last
+    ∙ (sym (filtered_range-last test first (count + more)) ∙ ap (filtered_range test first) same))))
+
+-- if none passes, none is picked
+pub filtered_range-none : (test : ℕ → Bool) (first count : ℕ) → ((i : ℕ) → i < count → test (first + i) ≡ false) → filtered_range test first count ≡ []
+filtered_range-none test first zero none = refl
+filtered_range-none test first (suc count) none =
+    filtered_range-last test first count
+    ∙ (ap (λ (list : List ℕ). list ++ cond (test (first + count)) ((first + count) ∷ []) []) (filtered_range-none test first count (λ i few. none i (omega (arith, few))))
+    ∙ ap (λ (b : Bool). cond b ((first + count) ∷ []) []) (none count (omega arith)))

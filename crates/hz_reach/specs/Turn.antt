@@ -91,10 +91,13 @@ free_pins own ranks = map (λ rank. not (rank == 0) && nat_lt rank own) ranks
 abbrev pub earlier_pins : Netlist → List ℕ → ℕ → List Bool
 earlier_pins netlist ranks gate = free_pins (key_at ranks gate) (at_wires netlist gate ranks)
 
+-- variable i is X in the result of Algorithm A and has not changed
+abbrev pub is_unchanged : List Tri → List Bool → List Bool → ℕ → Bool
+is_unchanged a start state i =
+    is_unknown (value_at a i) && not (differs (bit_at start i) (bit_at state i))
+
 -- the wires that are X in the result of Algorithm A and have not changed
 abbrev pub unchanged_wires : Netlist → List Tri → List Bool → List Bool → List ℕ
 unchanged_wires netlist a start state =
-    filtered_range
-    (λ i. is_unknown (value_at a i) && not (differs (bit_at start i) (bit_at state i)))
-    (length netlist.names)
+    filtered_range (is_unchanged a start state) (length netlist.names)
     (length (network_of netlist) - length netlist.names)

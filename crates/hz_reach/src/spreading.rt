@@ -10,17 +10,19 @@
 //!
 //! What breaks if you add a change: a wire before its source, or a gate before its wires, is stable then, and the step is
 //! none. A second change of a variable falsifies `IsSpreadRun`, and the room. A new kind of gate needs its canonical pattern.
-ghost use Rattle.std.specs.Prelude.{◌≡◌, ℕ, ◌+◌, ◌<◌, ◌≤◌, Bool, true, false, not, ◌&&◌, List, [], length, MatchBool};
+ghost use Rattle.std.specs.Prelude.{◌≡◌, ℕ, ◌+◌, ◌-◌, ◌<◌, ◌≤◌, ◌^◌, Bool, true, false, not, ◌&&◌, List, [], ◌++◌, length, IsTrue, MatchBool};
 ghost use Rattle.hz_core.specs.Ternary.{is_unknown};
 ghost use Rattle.hz_core.specs.Netlist.{IsCircuit, IsGateNumber};
 ghost use Rattle.hz_core.specs.Pattern.{differs};
-ghost use Rattle.hz_net.specs.Network.{network_of, IsState, AreByVariable, IsInput};
+ghost use Rattle.hz_net.specs.Network.{network_of, value_at, IsState, AreByVariable, IsInput};
 ghost use Rattle.hz_gmw.specs.Runs.{end_of};
+ghost use Rattle.hz_lists.specs.Listed.{is_listed};
+ghost use Rattle.hz_reach.specs.FilteredRange.{filtered_range};
 ghost use Rattle.hz_reach.specs.Order.{IsInKeyOrder};
 ghost use Rattle.hz_reach.specs.Room.{Spends, with_step_if_any, HasRoomForStep};
 ghost use Rattle.hz_reach.specs.Given.{AreResultsOfA, IsScratchFor, IsEmptyRun};
 ghost use Rattle.hz_reach.specs.Spread.{IsSpreadRun, IsSparingRun};
-ghost use Rattle.hz_reach.specs.Turn.{changed_inputs, free_pins, earlier_pins, IsTurn, unchanged_wires, CanTurn, HasRoomForTurn};
+ghost use Rattle.hz_reach.specs.Turn.{changed_inputs, free_pins, earlier_pins, is_unchanged, IsTurn, unchanged_wires, CanTurn, HasRoomForTurn};
 
 use crate::turn::{is_gate, take_turn};
 use crate::{Change, Scratch};
@@ -220,10 +222,63 @@ fn mark_unchanged(net: &Net, start: &[bool], a: &[Tri], scratch: &mut Scratch)
     ensures sorted { scratch.new.sorted ≡ scratch.old.sorted }
     ensures by_round { scratch.new.by_round ≡ scratch.old.by_round }
 {
-    for wire in net.circuit().nodes()..net.len() {
-        let place = wire as usize;
+    let nodes = net.circuit().nodes();
+    let blocks = (net.len() - nodes) / 16;
+    for block in 0..blocks {
+        mark_sixteen(start, a, nodes + block * 16, scratch);
+    }
+    mark_range(start, a, nodes + blocks * 16, net.len(), scratch);
+}
+
+// Marks those of sixteen variables that are X in the result of Algorithm A and have not changed. Most are not X.
+fn mark_sixteen(start: &[bool], a: &[Tri], first: u32, scratch: &mut Scratch)
+    requires few { first + 16 < 2 ^ 32 }
+    requires inside { first + 16 ≤ length scratch.old.state }
+    requires start { length start.now ≡ length scratch.old.state }
+    requires a { length a.now ≡ length scratch.old.state }
+    requires ascending { (i : ℕ) → IsTrue (is_listed scratch.old.marked i) → i < first }
+    ensures marked { scratch.new.marked ≡ scratch.old.marked
+        ++ filtered_range (is_unchanged a.now start.now scratch.old.state) first (first + 16 - first) }
+    ensures state { scratch.new.state ≡ scratch.old.state }
+    ensures sorted { scratch.new.sorted ≡ scratch.old.sorted }
+    ensures by_round { scratch.new.by_round ≡ scratch.old.by_round }
+{
+    if are_known(a, first as usize) {
+        return;
+    }
+    mark_range(start, a, first, first + 16, scratch);
+}
+
+// Whether sixteen values are 0 or 1. It has no branch between two of them.
+fn are_known(values: &[Tri], first: usize) -> bool
+    requires { first + 16 ≤ length values.now }
+    ensures { IsTrue result → (i : ℕ) → i < 16
+        → is_unknown (value_at values.now (first + i)) ≡ false }
+{
+    let mut known = true;
+    for place in 0..16 {
+        known &= values[first + place] != Tri::Unknown;
+    }
+    known
+}
+
+// Marks those of the variables from one number on and below another that are X in the result of Algorithm A and have not changed.
+fn mark_range(start: &[bool], a: &[Tri], from: u32, below: u32, scratch: &mut Scratch)
+    requires ordered { from ≤ below }
+    requires inside { below ≤ length scratch.old.state }
+    requires start { length start.now ≡ length scratch.old.state }
+    requires a { length a.now ≡ length scratch.old.state }
+    requires ascending { (i : ℕ) → IsTrue (is_listed scratch.old.marked i) → i < from }
+    ensures marked { scratch.new.marked ≡ scratch.old.marked
+        ++ filtered_range (is_unchanged a.now start.now scratch.old.state) from (below - from) }
+    ensures state { scratch.new.state ≡ scratch.old.state }
+    ensures sorted { scratch.new.sorted ≡ scratch.old.sorted }
+    ensures by_round { scratch.new.by_round ≡ scratch.old.by_round }
+{
+    for var in from..below {
+        let place = var as usize;
         let now = scratch.state()[place];
-        scratch.mark_if(has_yet_to_change(a[place], start[place], now), wire);
+        scratch.mark_if(has_yet_to_change(a[place], start[place], now), var);
     }
 }
 

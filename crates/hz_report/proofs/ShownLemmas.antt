@@ -1,5 +1,5 @@
 -- The lines that are kept while rows are put over them: a node that stays, one that is written anew, and one that is passed over.
-use Rattle.std.proofs.Common.{◌≡◌, ◌∙◌, refl, sym, ap, subst, ℕ, ◌+◌, ◌-◌, ◌<◌, ◌≤◌, ◌≢◌, List, [], ◌∷◌, ◌++◌, length, map, take, drop, set, replicate, get_or, get_or-set_same, get_or-set_other, length-set, slice_get, Option, Some, None, arith, inl, inr}
+use Rattle.std.proofs.Common.{◌≡◌, ◌∙◌, refl, sym, ap, subst, ℕ, zero, suc, ◌+◌, ◌-◌, ◌<◌, ◌≤◌, ◌≢◌, List, [], ◌∷◌, ◌++◌, length, map, take, drop, set, replicate, get_or, get_or-set_same, get_or-set_other, length-set, slice_get, Option, Some, None, arith, inl, inr}
 use Rattle.std.specs.Prelude.{IfSome}
 use Rattle.std.specs.List.{between}
 use Rattle.std.proofs.lemmas.Bool.{cases_eq}
@@ -72,6 +72,20 @@ module _ (netlist : Netlist) (rows : List Row) (begins : List ℕ) where
     ordered = omega (arith, put.ordered);
     done = done-more put.kept.middles from upto (row_at_rest rest) put.ordered (omega (arith, few, put.kept.are.long)) there (put.kept.shows upto rest few told) put.done;
   }
+
+  -- so many nodes stay
+  pub put-stay-many : (from upto count : ℕ) (text : List ℕ) (shown : List (Option Rest)) → upto + count ≤ length netlist.names
+      → ((i : ℕ) → i < count → (rest : Rest) × (get_or shown (upto + i) None ≡ Some rest) × (slice_get rows (upto + i) ≡ Some (row_at_rest rest)))
+      → ArePut netlist rows from upto text begins shown → ArePut netlist rows from (upto + count) text begins shown
+  put-stay-many from upto zero text shown few stays put =
+      let same : upto ≡ upto + zero = omega arith in
+      subst (λ (n : ℕ). ArePut netlist rows from n text begins shown) same put
+  put-stay-many from upto (suc count) text shown few stays put =
+      let here = stays count (omega arith) in
+      let next : upto + count + 1 ≡ upto + suc count = omega arith in
+      subst (λ (n : ℕ). ArePut netlist rows from n text begins shown) next
+      (put-stay from (upto + count) text shown here.0 (omega (arith, few)) here.1 here.2
+      (put-stay-many from upto count text shown (omega (arith, few)) (λ i less. stays i (omega (arith, less))) put))
 
   -- the row of a node is written over its line
   pub put-set : (from upto : ℕ) (row : Row) (now text : List ℕ) (shown : List (Option Rest)) (rest : Option Rest) → length netlist.names ≤ length rows → upto < length netlist.names

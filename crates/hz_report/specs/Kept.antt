@@ -72,7 +72,7 @@ AreBits netlist bits text begins =
 
 -- a line and a word for each node
 pub record IsKept (netlist : Netlist) (kept : Kept) : Type 0 where
-  pub rows : AreRowLines netlist kept.rows.text.items kept.rows.begins.items kept.shown.items
+  pub rows : AreRowLines netlist kept.rows.text.items kept.rows.begins.items kept.shown
   pub bits : AreBitParts netlist (length netlist.names) kept.start.text.items
       kept.start.begins.items
 

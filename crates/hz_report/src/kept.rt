@@ -3,7 +3,7 @@ ghost use Rattle.std.specs.Prelude.{◌≡◌, [], ◌∷◌, ◌++◌, length, 
 ghost use Rattle.hz_report.specs.Kept.{IsKept};
 
 use hz_core::{Circuit, Memory};
-use hz_desk::Rest;
+use hz_desk::Rests;
 use std::alloc::Global;
 
 /// How many bytes stand between the name of a variable and the end of its line, if its row is a
@@ -61,7 +61,7 @@ impl Parts {
 pub(crate) struct Kept {
     pub rows: Parts,
     /// What the line of each node shows, if it is that of a node which never changes.
-    pub shown: Vec<Option<Rest>>,
+    pub shown: Rests,
     pub start: Parts,
 }
 
@@ -77,7 +77,7 @@ impl Kept {
             rows.add(b"", name, b" start 0 A 0 B 0 changes 0 steady\n")?;
             start.add(b" ", name, b"=0")?;
         }
-        let shown = vec![in alloc; None; circuit.nodes() as usize]?;
+        let shown = Rests::none(alloc, circuit.nodes() as usize)?;
         Ok(Kept { rows, shown, start })
     }
 }

@@ -74,7 +74,7 @@ impl<'n> Plate<'n> {
                 rows,
                 kept.rows.text.as_mut_slice(),
                 kept.rows.begins.as_slice(),
-                kept.shown.as_mut_slice(),
+                &mut kept.shown,
             ),
             None => write_rows(writer, self.net, rows, self.show),
         }

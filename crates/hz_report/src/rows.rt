@@ -1,5 +1,6 @@
 //! The lines of variables.
-ghost use Rattle.std.specs.Prelude.{◌≡◌, ◌<◌, ◌≤◌, ◌-◌, ◌+◌, ◌∷◌, ◌++◌, length, take, drop, slice_index, slice_range, codes, decimal, true, Some, IfSome};
+ghost use Rattle.std.specs.Prelude.{◌≡◌, ◌<◌, ◌≤◌, ◌-◌, ◌+◌, ◌∷◌, ◌++◌, length, take, drop, slice_index, slice_range, codes, decimal, true, ℕ, Some, None, IfSome, IsTrue, slice_index_or};
+ghost use Rattle.std.specs.List.{slice_get};
 ghost use Rattle.hz_core.specs.Netlist.{IsCircuit};
 ghost use Rattle.hz_net.specs.Network.{AreByVariable, IsVariable};
 ghost use Rattle.hz_text.specs.Printed.{letter_of};
@@ -7,6 +8,7 @@ ghost use Rattle.hz_write.specs.Writer.{Writes, NoneWaits};
 ghost use Rattle.hz_desk.specs.declared.class.Class.TheVariants.{Single, Steady};
 ghost use Rattle.hz_report.specs.Kept.{AreRowParts, AreRowLines, AreLines};
 ghost use Rattle.hz_desk.specs.declared.finding.Rest.{Rest};
+ghost use Rattle.hz_desk.specs.RowsOf.{row_at_rest};
 ghost use Rattle.hz_report.specs.Report.{changes_word, class_word, row_line, row_lines, row_text, shown_count, shown_rows};
 ghost use Rattle.hz_report.specs.Words.{tri_letter};
 
@@ -14,7 +16,7 @@ use crate::kept::COMMON;
 use hz_core::Tri;
 use hz_core::Tri::{One, Unknown, Zero};
 use hz_desk::Class::{Single, Steady};
-use hz_desk::{Class, Rest, Row, Rows};
+use hz_desk::{Class, Rest, Rests, Row, Rows};
 use hz_net::Net;
 use hz_options::Show;
 use hz_outside::Sink;
@@ -46,7 +48,7 @@ pub(crate) fn write_kept_rows<K: Sink>(
     rows: &Rows,
     text: &mut [u8],
     begins: &[usize],
-    shown: &mut [Option<Rest>],
+    shown: &mut Rests,
 )
     requires rows { AreByVariable net.now rows.now }
     requires kept { AreRowLines net.now text.old begins.now shown.old }
@@ -59,16 +61,22 @@ pub(crate) fn write_kept_rows<K: Sink>(
     let count = net.circuit().nodes() as usize;
     // The first node whose line was not given so far.
     let mut from = 0;
-    for var in 0..count {
-        let rest = rows.rest(var);
-        if stays(shown[var], rest) {
+    let mut var = 0;
+    while var < count {
+        if eight_stay(rows, shown, var, count) {
+            var += 8;
             continue;
         }
+        if shown.are_in(rows, var, 1) {
+            var += 1;
+            continue;
+        }
+        let rest = rows.rest(var);
         let row = rows.row(var);
         match common_text(row) {
             Some(common) => {
                 set_row(net, text, begins, var, common);
-                shown[var] = rest;
+                shown.set(var, rest);
             }
             None => {
                 write_lines(writer, kept_lines(net, text, begins, from, var));
@@ -76,19 +84,29 @@ pub(crate) fn write_kept_rows<K: Sink>(
                 from = var + 1;
             }
         }
+        var += 1;
     }
     write_lines(writer, kept_lines(net, text, begins, from, count));
 }
 
-// Whether a variable rests at what is shown.
+// Whether eight nodes from one on rest at what is shown. It is seen of blocks alone, whose first number is a multiple of eight.
 #[inline(always)]
-fn stays(shown: Option<Rest>, rest: Option<Rest>) -> bool
-    ensures { result ≡ true → (same : Rest) × (shown ≡ Some same) × (rest ≡ Some same) }
+fn eight_stay(rows: &Rows, shown: &Rests, first: usize, count: usize) -> bool
+    requires first { first ≤ count }
+    requires shown { length shown.now ≡ count }
+    requires rows { count ≤ length rows.now }
+    ensures inside { IsTrue result → first + 8 ≤ count }
+    ensures stay { IsTrue result → (i : ℕ) → i < 8 → (rest : Rest)
+        × (slice_index_or shown.now (first + i) None ≡ Some rest)
+        × (slice_get rows.now (first + i) ≡ Some (row_at_rest rest)) }
 {
-    match (shown, rest) {
-        (Some(shown), Some(rest)) => shown.value == rest.value && shown.counted == rest.counted,
-        _ => false,
+    if first % 8 != 0 {
+        return false;
     }
+    if count - first < 8 {
+        return false;
+    }
+    shown.are_in(rows, first, 8)
 }
 
 // Writes a common row over that of a node.

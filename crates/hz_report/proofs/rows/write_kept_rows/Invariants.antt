@@ -1,4 +1,4 @@
-use Rattle.std.proofs.Common.{take}
+use Rattle.std.proofs.Common.{◌-◌, ◌≤◌, length, take}
 use Rattle.hz_write.specs.Writer.{Writes, NoneWaits}
 use Rattle.hz_report.specs.Report.{row_lines}
 use Rattle.hz_report.proofs.ShownLemmas.{ArePut}
@@ -10,3 +10,7 @@ invariant-loop-var g l =
     ArePut l.net l.rows l.from l.var l.text l.begins l.shown
     × Writes g.K.Sink.output g.K.Sink.faults (row_lines l.net 0 (take l.from l.rows)) l.fn.writer l.writer
     × NoneWaits l.writer
+    × (l.var ≤ length l.net.names)
+
+abbrev pub decreases-loop-var : goal.decreases-loop-var
+decreases-loop-var g l = l.count - l.var

@@ -7,16 +7,16 @@ use Rattle.hz_pass.specs.Frontier.{Falls, open_weight, reader_count}
 use Rattle.hz_pass.proofs.PassLoop.{pass-begin, pass-long, pass-falls, pass-bound, pass-changes, pass-on, pass-done}
 use Rattle.hz_pass.proofs.Values.{falls-after}
 use Rattle.hz_pass.proofs.StepCounts.{StepsSoFar, steps-begin, steps-more}
-use Rattle.hz_pass.proofs.ChangedValues.{length-noted, none-noted, state-after, noted-after, unchanged, differs, some-long, changed-all, next-long, quiet-list}
+use Rattle.hz_pass.proofs.ChangedValues.{length-noted, state-after, noted-after, unchanged, differs, some-long, changed-all, next-long, quiet-list}
 use Rattle.hz_pass.proofs.rounds.Pass.make_rounds.Goals as goal
 
 pub loop-front-init : goal.loop-front-init
 loop-front-init g c =
     let net = network_of c.args.self.now.net.now in
-    let noted_long : length c.fill.new.self ≡ length net = omega (arith, c.fill.ensures.len, c.requires.noted) in (
+    let noted_long : length c.forget.new.noted ≡ length net = omega (arith, c.forget.ensures.long, c.requires.noted) in (
       omega arith,
       omega (arith, c.len-variables.ensures.len, c.len-variables.ensures.bound),
-      pass-begin c.requires.pass.state c.requires.pass.falls c.fill.new.self noted_long (none-noted c.fill.new.self _ (c.fill.ensures.after (λ y e. e))),
+      pass-begin c.requires.pass.state c.requires.pass.falls c.forget.new.noted noted_long c.forget.ensures.zero,
       c.evaluate_first.ensures.round,
       steps-begin c.args.self.now.net.now c.len-variables.ensures.circuit c.evaluate_first.ensures.round c.requires.pass.state c.evaluate_first.ensures.steps c.evaluate_first.ensures.counted,
       c.front.invariant.room ∙ (c.front.view_is ∙ c.requires.front),

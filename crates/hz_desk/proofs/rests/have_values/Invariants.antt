@@ -1,0 +1,7 @@
+-- If all so far are the same, each so far is.
+use Rattle.std.proofs.Common.{◌≡◌, ◌+◌, ◌<◌, ℕ, true}
+use Rattle.hz_net.specs.Network.{value_at}
+use Rattle.hz_desk.proofs.rests.have_values.Given as goal
+
+abbrev pub invariant-loop-place : goal.invariant-loop-place
+invariant-loop-place l = l.same ≡ true → (i : ℕ) → i < l.place → value_at l.list (l.first + i) ≡ value_at l.told (l.first + i)
