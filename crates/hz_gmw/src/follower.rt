@@ -70,7 +70,8 @@ impl<'n> Follower<'n> {
     pub fn sees_two_unstable_after(&mut self, flips: &[u32]) -> bool
         requires inside { All (IsVariable self.old.circuit) flips.now }
         requires once { IsRepeatFree flips.now }
-        ensures two { IsTrue result → 2 ≤ unstable_count (network_of self.old.circuit) self.old.input
+        ensures two { IsTrue result → 2
+            ≤ unstable_count (network_of self.old.circuit) self.old.input
             (state_after flips.now self.old.state) }
         ensures stays { self.new ≡ self.old }
     {

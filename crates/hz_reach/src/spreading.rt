@@ -190,24 +190,10 @@ fn turn_by_rank(net: &Net, rank: &[u32], gate: u32, scratch: &mut Scratch, run: 
     let (_, pins) = net.wires_in(gate);
     if pins as usize <= FEW_PINS {
         let mut free = [false; FEW_PINS];
-        turn_by_free(
-            net,
-            rank,
-            gate,
-            &mut free[..pins as usize],
-            scratch,
-            run,
-        );
+        turn_by_free(net, rank, gate, &mut free[..pins as usize], scratch, run);
     } else {
         let mut free = [false; MAX_PINS];
-        turn_by_free(
-            net,
-            rank,
-            gate,
-            &mut free[..pins as usize],
-            scratch,
-            run,
-        );
+        turn_by_free(net, rank, gate, &mut free[..pins as usize], scratch, run);
     }
 }
 

@@ -130,7 +130,8 @@ fn turn_gate(net: &Net, gate: u32, with_fan_out: bool, scratch: &mut Scratch, ru
     requires circuit { IsCircuit net.now }
     requires gate { IsGateNumber net.now gate }
     requires scratch { IsScratchFor net.now scratch.old }
-    requires room { HasRoomFor (length (turn_flips net.now gate with_fan_out scratch.old.state)) run.old }
+    requires room { HasRoomFor
+        (length (turn_flips net.now gate with_fan_out scratch.old.state)) run.old }
     ensures state { scratch.new.state
         ≡ state_after (turn_flips net.now gate with_fan_out scratch.old.state) scratch.old.state }
     ensures steps { run.new.steps
