@@ -1,13 +1,12 @@
 -- Runs cut in two, runs that begin alike, and a step that is undone.
-use Rattle.std.proofs.Common.{◌≡◌, ◌∙◌, refl, sym, ap, subst, ℕ, suc, ◌+◌, ◌<◌, ◌≤◌, Bool, true, false, not, List, [], ◌∷◌, ◌++◌, length, take, drop, get_or, cond, arith, length-append}
+use Rattle.std.proofs.Common.{◌≡◌, ◌∙◌, refl, sym, ap, subst, ℕ, suc, ◌+◌, ◌<◌, ◌≤◌, Bool, List, [], ◌∷◌, ◌++◌, length, take, drop, get_or, arith, length-append}
 use Rattle.std.specs.List.{slice_range}
 use Rattle.std.proofs.Math.Seq.{drop-cons}
 use Rattle.std.proofs.lemmas.List.{drop_all, take-append-drop, take-append-le}
 use Rattle.std.proofs.lemmas.Slice.{between_from_start}
 use Rattle.hz_core.specs.Netlist.{Netlist}
 use Rattle.hz_net.specs.Network.{Driver}
-use Rattle.hz_lists.specs.Listed.{is_listed}
-use Rattle.hz_gmw.specs.Runs.{bits_after_from, state_after, end_of, IsStep, IsRun}
+use Rattle.hz_gmw.specs.Runs.{state_after, end_of, IsStep, IsRun}
 use Rattle.hz_gmw.specs.Cycles.{states_of}
 use Rattle.hz_gmw.specs.Follower.{FollowerOf, follower_at}
 use Rattle.hz_gmw.proofs.Paths.{end_of-append, IsRun-front, IsRun-rest}
@@ -83,21 +82,6 @@ at-end {circuit} {input} {start} before after steps was on under ends =
     (ap (λ (i : List Bool). parts before.circuit i after.state) under ∙
     (ap (λ (s : List Bool). parts before.circuit before.input s) ends ∙
     ap (λ (f : FollowerOf). parts f.circuit f.input (end_of f.state steps)) was))
-
--- the same step again undoes it
-twice : (turn bit : Bool) → cond turn (not (cond turn (not bit) bit)) (cond turn (not bit) bit) ≡ bit
-twice true true = refl
-twice true false = refl
-twice false bit = refl
-
-bits-back : (place : ℕ) (flips : List ℕ) (bits : List Bool) → bits_after_from place flips (bits_after_from place flips bits) ≡ bits
-bits-back place flips [] = refl
-bits-back place flips (bit ∷ bits) =
-    ap (λ (b : Bool). b ∷ bits_after_from (suc place) flips (bits_after_from (suc place) flips bits)) (twice (is_listed flips place) bit)
-    ∙ ap (λ (list : List Bool). bit ∷ list) (bits-back (suc place) flips bits)
-
-pub step-back : (flips : List ℕ) (state : List Bool) → state_after flips (state_after flips state) ≡ state
-step-back flips state = bits-back 0 flips state
 
 -- one step is left
 last-is : (steps : List (List ℕ)) (from : ℕ) (flips : List ℕ) → from < length steps → length steps ≤ from + 1 → flips ≡ get_or steps from [] → drop from steps ≡ flips ∷ []

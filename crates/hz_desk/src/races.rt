@@ -1,8 +1,9 @@
 //! Race states, counted while a follower goes along the runs.
-ghost use Rattle.std.specs.Prelude.{◌≡◌, ◌≤◌, ◌+◌, length, drop, if◌then◌else◌};
+ghost use Rattle.std.specs.Prelude.{◌≡◌, ◌≤◌, ◌+◌, length, drop, All, if◌then◌else◌};
 ghost use Rattle.std.specs.List.{slice_range};
-ghost use Rattle.hz_net.specs.Network.{network_of, IsState, IsInput};
-ghost use Rattle.hz_gmw.specs.Runs.{IsRun, end_of};
+ghost use Rattle.hz_net.specs.Network.{network_of, IsState, IsInput, IsVariable};
+ghost use Rattle.hz_lists.specs.Listed.{IsRepeatFree};
+ghost use Rattle.hz_gmw.specs.Runs.{IsRun, end_of, state_after};
 ghost use Rattle.hz_gmw.specs.Cycles.{states_of};
 ghost use Rattle.hz_desk.specs.Races.{is_race, race_count, states_before, cycle_states};
 ghost use Rattle.hz_desk.specs.RunProgress.{IsShortRun, BeginAlike, most_short_steps};
@@ -89,12 +90,26 @@ fn last_races(follower: &mut Follower, run: &Run, from: usize) -> u32
     if run.steps() <= from {
         return here;
     }
-    let flips = run.step(from);
+    here + race_after(follower, run.step(from))
+}
+
+// 1 if a step leads to a race state, else 0. The follower comes back. Mostly a look at a few gates tells that two are unstable there.
+fn race_after(follower: &mut Follower, flips: &[u32]) -> u32
+    requires inside { All (IsVariable follower.old.circuit) flips.now }
+    requires once { IsRepeatFree flips.now }
+    ensures race { result
+        ≡ (if is_race (network_of follower.old.circuit) follower.old.input
+        (state_after flips.now follower.old.state) then 1 else 0) }
+    ensures back { follower.new ≡ follower.old }
+{
+    if follower.sees_two_unstable_after(flips) {
+        return 1;
+    }
     follower.step(flips);
     let after = race_here(follower);
     // The same step again undoes it.
     follower.step(flips);
-    here + after
+    after
 }
 
 // Counts the race states of a cycle from the current state, without its last one, which is the first again.

@@ -15,7 +15,8 @@ use Rattle.hz_net.specs.Reads.{IsWireInto, IsWired}
 use Rattle.hz_net.proofs.Places.{length-network_of, length-wires_of, first_wire-bound}
 use Rattle.hz_net.proofs.Wired.{is_gate_of, wired-network_of}
 use Rattle.hz_lists.specs.Listed.{is_listed, IsRepeatFree}
-use Rattle.hz_gmw.specs.Instability.{is_unstable, unstable_count}
+use Rattle.hz_lists.proofs.ListedLemmas.{listed-other, listed-one, first-or-later, All-each}
+use Rattle.hz_gmw.specs.Instability.{is_unstable, unstable_count, IsOtherUnstable}
 use Rattle.hz_gmw.specs.CurrentState.{AreCounts, with_readers}
 use Rattle.hz_gmw.proofs.GateOnes.{twice-not}
 use Rattle.hz_gmw.proofs.Flips.{state_after-one}
@@ -299,6 +300,21 @@ pub some-around : (netlist : Netlist) (input state : List Bool) (var : ℕ) (lis
 some-around netlist input state var list circuit inside around =
     subst (λ (vars : List ℕ). count_by (is_unstable (network_of netlist) input state) vars ≤ unstable_count (network_of netlist) input state) around
     (listed-bound netlist input state (with_readers netlist var) (around-once netlist circuit var inside) (around-inside netlist circuit var inside))
+
+-- two variables that are unstable
+pub two-unstable : (netlist : Netlist) (input state : List Bool) (none one other : ℕ) → IsOtherUnstable netlist input state none one → IsOtherUnstable netlist input state one other → 2 ≤ unstable_count (network_of netlist) input state
+two-unstable netlist input state none one other first second =
+    let unstable : ℕ → Bool = is_unstable (network_of netlist) input state in
+    let apart : is_listed (other ∷ []) one ≡ false = listed-other one other [] (λ same. second.other (sym same)) in
+    let inside : All (λ i. i < length (network_of netlist)) (one ∷ other ∷ []) = All-each (λ i. i < length (network_of netlist)) (one ∷ other ∷ []) (λ i there. elim (first-or-later i one (other ∷ []) there) [
+      | inl same ↦ omega (arith, same, first.inside)
+      | inr later ↦ omega (arith, listed-one i other later, second.inside)
+    ]) in
+    let bound = listed-bound netlist input state (one ∷ other ∷ []) (apart, (refl, tt)) inside in
+    let left : weight (unstable one) ≡ 1 = ap weight first.unstable in
+    let right : weight (unstable other) ≡ 1 = ap weight second.unstable in
+    let last : count_by unstable [] ≡ 0 = refl in
+    omega (arith, bound, left, right, last, sum_by-cons (λ (i : ℕ). weight (unstable i)) one (other ∷ []), sum_by-cons (λ (i : ℕ). weight (unstable i)) other [])
 
 -- the bits and counts as they are read
 bit-weight : (b : Bool) → cond (not b) 0 1 ≡ weight b

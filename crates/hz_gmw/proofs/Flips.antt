@@ -1,5 +1,5 @@
 -- The state after a step, place by place.
-use Rattle.std.proofs.Common.{◌≡◌, ℕ, zero, suc, ◌+◌, ◌<◌, Bool, false, not, cond, List, [], ◌∷◌, length, set, refl, sym, ap, ◌∙◌, arith, inl, inr}
+use Rattle.std.proofs.Common.{◌≡◌, ℕ, zero, suc, ◌+◌, ◌<◌, Bool, true, false, not, cond, List, [], ◌∷◌, length, set, refl, sym, ap, ◌∙◌, arith, inl, inr}
 use Rattle.std.proofs.lemmas.Bool.{cases_eq}
 use Rattle.std.proofs.lemmas.List.{ext_get_or, length-set, get_or-set_same, get_or-set_other}
 use Rattle.hz_net.specs.Network.{bit_at}
@@ -56,3 +56,18 @@ state_after-first x flips state once =
 -- one variable changes
 pub state_after-one : (var : ℕ) (state : List Bool) → state_after (var ∷ []) state ≡ set state var (not (bit_at state var))
 state_after-one var state = state_after-first var [] state refl ∙ state_after-none 0 (set state var (not (bit_at state var)))
+
+-- the same step again undoes it
+twice : (turn bit : Bool) → cond turn (not (cond turn (not bit) bit)) (cond turn (not bit) bit) ≡ bit
+twice true true = refl
+twice true false = refl
+twice false bit = refl
+
+bits-back : (place : ℕ) (flips : List ℕ) (bits : List Bool) → bits_after_from place flips (bits_after_from place flips bits) ≡ bits
+bits-back place flips [] = refl
+bits-back place flips (bit ∷ bits) =
+    ap (λ (b : Bool). b ∷ bits_after_from (suc place) flips (bits_after_from (suc place) flips bits)) (twice (is_listed flips place) bit)
+    ∙ ap (λ (list : List Bool). bit ∷ list) (bits-back (suc place) flips bits)
+
+pub step-back : (flips : List ℕ) (state : List Bool) → state_after flips (state_after flips state) ≡ state
+step-back flips state = bits-back 0 flips state

@@ -30,6 +30,8 @@ pub mod Counts
 pub mod CurrentStateLemmas
 -- The watched variables: how many there are, and which are left after a step
 pub mod WatchLemmas
+-- Each wire counts with its source: sums over all nodes
+pub mod NodeSums
 -- What a replayer stands for: after a mark, after a step, and what that tells of the cycle since the mark
 pub mod ReplayLemmas
 -- What a run's fields hold: the vectors count it, and the step with a number stands where its ends say

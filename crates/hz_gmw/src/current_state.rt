@@ -6,8 +6,10 @@
 //! it changes, so the count of all unstable variables is mended by what is unstable among these before and after. What they
 //! are is looked up once, and no excitation but that of a wire's gate changes.
 //!
-//! What must stay true: `IsCounted` after every write to `input` or `state`, so no one else writes to them; `IsExact` after
-//! every `flip` and `set_input`.
+//! If a whole state is given, its variables change without that, and the unstable ones are counted afterwards, node by node.
+//!
+//! What must stay true: `IsCounted` after every write to `input` or `state`, so no one else writes to them, but for a follower that
+//! looks ahead and puts the state back; `IsExact` after every `flip`, `set_input` and `turn_to`.
 //!
 //! What breaks if you add a kind: one that is not symmetric in its pins (a multiplexer) has no value by a count of ones. If you
 //! add a kind of variable with readers of its own: `change_node`, `unstable_from` and `flip_wire` do not count them.
@@ -92,19 +94,20 @@ impl CurrentState {
         if are_same(self.state.as_slice(), state) {
             return;
         }
-        self.turn_each(net, state);
+        self.change_each(net, state);
+        self.unstable = self.count_unstable(net);
     }
 
-    // The same, variable by variable.
-    fn turn_each(&mut self, net: &Net, state: &[bool])
-        requires exact { IsExact net.now self.old }
+    // The same, but the unstable variables are not counted.
+    fn change_each(&mut self, net: &Net, state: &[bool])
+        requires counted { IsCounted net.now self.old }
         requires state { IsState net.now state.now }
-        ensures exact { IsExact net.now self.new }
+        ensures counted { IsCounted net.now self.new }
         ensures input { self.new.input.items ≡ self.old.input.items }
         ensures state { self.new.state.items ≡ state.now }
     {
         for var in 0..net.len() {
-            self.turn(net, var, state[var as usize]);
+            self.change_to(net, var, state[var as usize]);
         }
     }
 
@@ -200,6 +203,9 @@ impl CurrentState {
         ensures input { self.new.input.items ≡ slice_set self.old.input.items number value }
         ensures state { self.new.state.items ≡ self.old.state.items }
     {
+        if self.input[number as usize] == value {
+            return;
+        }
         self.unstable -= one_if(self.is_unstable(net, number));
         self.input[number as usize] = value;
         self.unstable += one_if(self.is_unstable(net, number));
@@ -213,25 +219,23 @@ impl CurrentState {
         ensures input { self.new.input.items ≡ self.old.input.items }
         ensures state { self.new.state.items ≡ with_flip self.old.state.items var }
     {
-        let kind = kind_at(net, var);
-        match kind {
+        match kind_at(net, var) {
             VarKind::Wire { gate, source, .. } => self.flip_wire(net, var, gate, source),
-            VarKind::Input { .. } => self.flip_node(net, var, kind),
-            VarKind::Gate { .. } => self.flip_node(net, var, kind),
+            VarKind::Input { .. } => self.flip_node(net, var),
+            VarKind::Gate { .. } => self.flip_node(net, var),
         }
     }
 
     // Changes a node. Its excitation stays, since a node doesn't read itself. So what is unstable among it and the wires from it
     // becomes stable, and the others unstable.
-    fn flip_node(&mut self, net: &Net, node: u32, kind: VarKind)
+    fn flip_node(&mut self, net: &Net, node: u32)
         requires exact { IsExact net.now self.old }
-        requires kind { IsDrivenAs net.now node kind }
         requires node { node < length net.now.names }
         ensures exact { IsExact net.now self.new }
         ensures input { self.new.input.items ≡ self.old.input.items }
         ensures state { self.new.state.items ≡ with_flip self.old.state.items node }
     {
-        let excited = self.excited_as(net, node, kind);
+        let excited = self.excited(net, node);
         let unstable = self.unstable_from(net, node, excited);
         let wires = self.change_node(net, node);
         self.unstable -= unstable;
@@ -256,6 +260,40 @@ impl CurrentState {
         let value = self.state[gate as usize];
         self.unstable -= one_if(!unstable) + one_if(value != before);
         self.unstable += one_if(unstable) + one_if(value != after);
+    }
+
+    // Gives a variable a value. If it has it nothing is done. The unstable variables are not counted.
+    fn change_to(&mut self, net: &Net, var: u32, value: bool)
+        requires counted { IsCounted net.now self.old }
+        requires var { IsVariable net.now var }
+        ensures counted { IsCounted net.now self.new }
+        ensures input { self.new.input.items ≡ self.old.input.items }
+        ensures state { self.new.state.items ≡ slice_set self.old.state.items var value }
+    {
+        if self.state[var as usize] != value {
+            self.change(net, var);
+        }
+    }
+
+    // A variable changes. The unstable variables are not counted.
+    fn change(&mut self, net: &Net, var: u32)
+        requires counted { IsCounted net.now self.old }
+        requires var { IsVariable net.now var }
+        ensures counted { IsCounted net.now self.new }
+        ensures input { self.new.input.items ≡ self.old.input.items }
+        ensures state { self.new.state.items ≡ with_flip self.old.state.items var }
+    {
+        match kind_at(net, var) {
+            VarKind::Wire { gate, source, .. } => {
+                self.change_wire(net, var, gate, source);
+            }
+            VarKind::Input { .. } => {
+                self.change_node(net, var);
+            }
+            VarKind::Gate { .. } => {
+                self.change_node(net, var);
+            }
+        }
     }
 
     // A node changes: of the wires from it the stable ones become unstable, and the others stable. Returns how many wires there
@@ -358,15 +396,16 @@ impl CurrentState {
         one_if(self.state[node as usize] != excited) + self.unstable_wires[node as usize]
     }
 
-    // How many variables are unstable, by a look at each.
+    // How many variables are unstable: each wire counts with its source.
     fn count_unstable(&self, net: &Net) -> u32
         requires { IsCounted net.now self.now }
         ensures { result
             ≡ unstable_count (network_of net.now) self.now.input.items self.now.state.items }
     {
         let mut count = 0;
-        for var in 0..net.len() {
-            count += one_if(self.is_unstable(net, var));
+        for node in 0..net.circuit().nodes() {
+            let excited = self.excited(net, node);
+            count += self.unstable_from(net, node, excited);
         }
         count
     }

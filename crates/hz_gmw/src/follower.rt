@@ -1,13 +1,15 @@
 //! Following runs.
-ghost use Rattle.std.specs.Prelude.{◌≡◌, false, length, replicate, All, IfOk};
+ghost use Rattle.std.specs.Prelude.{◌≡◌, ◌≤◌, false, length, replicate, All, IfOk, IfSome, IsTrue};
 ghost use Rattle.hz_net.specs.Network.{network_of, IsState, IsInput, IsVariable};
 ghost use Rattle.hz_lists.specs.Listed.{IsRepeatFree};
-ghost use Rattle.hz_gmw.specs.Instability.{unstable_count};
+ghost use Rattle.hz_gmw.specs.Runs.{state_after};
+ghost use Rattle.hz_gmw.specs.Instability.{unstable_count, IsOtherUnstable};
 ghost use Rattle.hz_gmw.specs.Follower.{follower_at, follower_after};
 
-use crate::current_state::CurrentState;
+use crate::current_state::{CurrentState, kind_at};
+use crate::step::make_step;
 use hz_core::Memory;
-use hz_net::Net;
+use hz_net::{Net, VarKind};
 use std::alloc::Global;
 use std::marker::Model;
 
@@ -15,7 +17,7 @@ use std::marker::Model;
 /// [`Replay`](crate::Replay) does.
 ///
 /// A step costs the variables that it changes, whatever their fan-out, and the number of unstable ones takes constant time.
-/// `begin` costs the whole network and what it changes. Only `new` takes memory.
+/// A look at where a step would lead costs the variables of the step. `begin` costs the whole network. Only `new` takes memory.
 #[derive(Debug, Drop)]
 pub struct Follower<'n> {
     net: &'n Net,
@@ -63,6 +65,27 @@ impl<'n> Follower<'n> {
         self.current.advance(self.net, flips);
     }
 
+    /// Whether two variables are seen to be unstable where a step would lead: two gates among those that the wires of the step go
+    /// into. It looks at no other variable, and stays where it is.
+    pub fn sees_two_unstable_after(&mut self, flips: &[u32]) -> bool
+        requires inside { All (IsVariable self.old.circuit) flips.now }
+        requires once { IsRepeatFree flips.now }
+        ensures two { IsTrue result → 2
+            ≤ unstable_count (network_of self.old.circuit) self.old.input
+            (state_after flips.now self.old.state) }
+        ensures stays { self.new ≡ self.old }
+    {
+        make_step(self.current.state.as_mut_slice(), flips);
+        let seen = has_two_unstable(
+            self.net,
+            self.current.input.as_slice(),
+            self.current.state.as_slice(),
+            flips,
+        );
+        make_step(self.current.state.as_mut_slice(), flips);
+        seen
+    }
+
     /// How many variables are unstable in the current state.
     pub fn unstable_count(&self) -> u32
         ensures { result
@@ -70,4 +93,37 @@ impl<'n> Follower<'n> {
     {
         self.current.unstable
     }
+}
+
+// Whether two gates are seen to be unstable among those that the listed wires go into.
+fn has_two_unstable(net: &Net, input: &[bool], state: &[bool], list: &[u32]) -> bool
+    requires input { IsInput net.now input.now }
+    requires state { IsState net.now state.now }
+    requires inside { All (IsVariable net.now) list.now }
+    ensures { IsTrue result → 2 ≤ unstable_count (network_of net.now) input.now state.now }
+{
+    let Some(one) = unstable_reader(net, input, state, list, u32::MAX) else {
+        return false;
+    };
+    let Some(_other) = unstable_reader(net, input, state, list, one) else {
+        return false;
+    };
+    true
+}
+
+// The first gate that is unstable among those that the listed wires go into, but for one.
+fn unstable_reader(net: &Net, input: &[bool], state: &[bool], list: &[u32], but: u32) -> Option<u32>
+    requires input { IsInput net.now input.now }
+    requires state { IsState net.now state.now }
+    requires inside { All (IsVariable net.now) list.now }
+    ensures { IfSome result (IsOtherUnstable net.now input.now state.now but) }
+{
+    for var in list {
+        if let VarKind::Wire { gate, .. } = kind_at(net, *var) {
+            if gate != but && state[gate as usize] != net.excite(input, state, gate) {
+                return Some(gate);
+            }
+        }
+    }
+    None
 }

@@ -3,6 +3,7 @@
 //! | Module | What lives in it |
 //! |---|---|
 //! | `run` | [`Run`]: the steps of a run, with room that is taken once |
+//! | `step` | what a step does to a state |
 //! | `replay` | [`Replay`]: checks steps and cycles |
 //! | `follower` | [`Follower`]: follows runs, and knows how many variables are unstable |
 //! | `replay_fault` | why a step or a cycle is refused |
@@ -22,6 +23,7 @@ mod ones;
 mod replay;
 mod replay_fault;
 mod run;
+mod step;
 mod variable_set;
 mod watch;
 
@@ -29,6 +31,7 @@ pub use follower::Follower;
 pub use replay::Replay;
 pub use replay_fault::{CycleFault, StepFault};
 pub use run::Run;
+pub use step::make_step;
 
 /// Algorithm A covers: if its result is 0 or 1 at a variable, every reachable state has this value there.
 #[tactic(auto, using(crate::proofs::CoverA::covers))]

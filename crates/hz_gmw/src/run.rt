@@ -151,6 +151,7 @@ impl Run {
 }
 
 // Appends. There is room. Most steps have one flip, which is pushed without a copy of many.
+#[inline(always)]
 fn append<T: Copy>(list: &mut Vec<T>, more: &[T])
     requires { vec_len list.old + length more.now ≤ vec_capacity list.old }
     ensures items { list.new.items ≡ list.old.items ++ more.now }

@@ -2,7 +2,7 @@
 -- both values in states that are reached.
 use Rattle.std.proofs.Common.{◌≡◌, ℕ, ◌<◌, Bool, true, false, not, List, [], length, refl, ap, ◌∙◌, subst, arith, cond, eqb, IsTrue, ◌%◌}
 use Rattle.hz_reach.proofs.Words.{Tri, Zero, One, Unknown, admits, IsJoinOf, Refines, Netlist, IsCircuit, get_or-Refines, Driver, network_of, bit_at}
-use Rattle.hz_reach.proofs.Words.{value_at, IsStable, algorithm_a, AreRounds, wired-network_of, end_of, SparingRunExists, IsSpreadRun, IsReachable, JoinsTo}
+use Rattle.hz_reach.proofs.Words.{value_at, algorithm_a, AreRounds, wired-network_of, end_of, SparingRunExists, IsSpreadRun, IsReachable}
 use Rattle.hz_reach.proofs.Words.{AIsExact, SpreadRunExists}
 use Rattle.hz_reach.proofs.RanksOrderGates.{AreTurns, ranked-turns, turns-of}
 use Rattle.hz_reach.proofs.SpreadSteps.{turns-made, sparing-run, whole-run}

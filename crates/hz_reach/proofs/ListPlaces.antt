@@ -1,5 +1,5 @@
 -- Variables in a list, by their places.
-use Rattle.std.proofs.Common.{◌≢◌, ℕ, ◌<◌, List, length, arith, inl, inr}
+use Rattle.std.proofs.Common.{◌≢◌, ℕ, ◌<◌, List, length, inl, inr}
 use Rattle.hz_reach.proofs.Words.{cases_lt, get_or_past, key_at}
 
 -- what has a key is a variable

@@ -1,12 +1,12 @@
 -- The spread run of a change: its steps have room, it ends as it should, and there is one.
-use Rattle.std.proofs.Common.{◌≡◌, ◌≢◌, ℕ, ◌+◌, ◌-◌, ◌<◌, ◌≤◌, Bool, true, false, not, ◌&&◌, List, [], ◌∷◌, ◌++◌, length, get_or, refl, sym, ap, ◌∙◌, subst, arith, inl, inr}
+use Rattle.std.proofs.Common.{◌≡◌, ◌≢◌, ℕ, ◌+◌, ◌-◌, ◌<◌, ◌≤◌, Bool, true, false, not, ◌&&◌, List, [], ◌++◌, length, refl, sym, ap, ◌∙◌, subst, arith, inl, inr}
 use Rattle.hz_reach.proofs.Words.{cases_Bool, cases_lt, both_ways, and_parts, and_from, not-true, not_from_false, false_from_ne_true, Tri, Unknown}
-use Rattle.hz_reach.proofs.Words.{is_unknown, Netlist, IsCircuit, IsGateNumber, gate_at, differs, IsCandidate, Driver, External, Function, Source}
-use Rattle.hz_reach.proofs.Words.{driver_at, network_of, bit_at, value_at, driver_value, first_wire, at_wires, length-network_of, driver_at-input}
+use Rattle.hz_reach.proofs.Words.{is_unknown, Netlist, IsCircuit, IsGateNumber, gate_at, differs, Driver, External, Function, Source}
+use Rattle.hz_reach.proofs.Words.{driver_at, network_of, bit_at, value_at, driver_value, first_wire, length-network_of, driver_at-input}
 use Rattle.hz_reach.proofs.Words.{driver_at-gate, driver_at-wire, is_listed, IsRepeatFree, IsRun, state_after, end_of, RunRecord, flip_count, AreResultsOfA}
 use Rattle.hz_reach.proofs.Words.{key_at, IsInKeyOrder, with_step_if_any, Spends, HasRoomFor, HasRoomForStep, ScratchState, IsSpreadRun, IsSparingRun}
-use Rattle.hz_reach.proofs.Words.{is_gate_in, changed_inputs, AreTurnWires, IsTurn, listed-cases, listed-left, listed-right, is_repeat_free-append}
-use Rattle.hz_reach.proofs.Words.{listed-at, IsEmptyRun, earlier_pins, unchanged_wires}
+use Rattle.hz_reach.proofs.Words.{is_gate_in, changed_inputs, listed-cases, listed-left, listed-right, is_repeat_free-append}
+use Rattle.hz_reach.proofs.Words.{IsEmptyRun, earlier_pins, unchanged_wires}
 use Rattle.hz_net.proofs.Wires.{IsWireFrom-driver_at}
 use Rattle.hz_reach.proofs.FilteredRangeLemmas.{filtered_range-is, is-filtered_range, filtered_range-once, differs-true, true-differs}
 use Rattle.hz_reach.proofs.RanksOrderGates.{IsChangedAfter, AreTurns, turns-of}

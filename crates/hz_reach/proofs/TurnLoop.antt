@@ -1,6 +1,6 @@
 -- A loop over the places of an order: what holds at a place, and that a gate's turn, or none, leads to the next one.
-use Rattle.std.proofs.Common.{◌≡◌, ◌≢◌, ℕ, ◌+◌, ◌<◌, ◌≤◌, Bool, true, false, not, List, [], ◌++◌, length, get_or, sym, ap, ◌∙◌, subst, arith}
-use Rattle.hz_reach.proofs.Words.{Netlist, IsCircuit, IsGateNumber, gate_at, IsCandidate, IsPattern, bit_at, network_of, first_wire, at_wires, IsRun}
+use Rattle.std.proofs.Common.{◌≡◌, ℕ, ◌+◌, ◌<◌, ◌≤◌, Bool, true, false, not, List, [], ◌++◌, length, get_or, sym, ap, ◌∙◌, subst, arith}
+use Rattle.hz_reach.proofs.Words.{Netlist, IsCircuit, IsGateNumber, gate_at, IsPattern, bit_at, network_of, first_wire, at_wires, IsRun}
 use Rattle.hz_reach.proofs.Words.{state_after, RunRecord, flip_count, IsInKeyOrder, with_step_if_any, Spends, HasRoomFor, ScratchState, AreTurnWires}
 use Rattle.hz_reach.proofs.Words.{changed_wires, turn_flips, turn_end, turn_steps, IsTurn, listed-at, CanTurn, HasRoomForTurn}
 use Rattle.hz_reach.proofs.ListPlaces.{key-inside}

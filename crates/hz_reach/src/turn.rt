@@ -11,14 +11,18 @@ ghost use Rattle.std.specs.List.{slice_range};
 ghost use Rattle.hz_core.specs.Netlist.{IsCircuit, IsGateNumber, gate_at};
 ghost use Rattle.hz_core.specs.Limits.{most_variables};
 ghost use Rattle.hz_net.specs.Network.{network_of, IsVariable};
+ghost use Rattle.hz_gmw.specs.Runs.{state_after};
 ghost use Rattle.hz_reach.specs.Given.{IsScratchFor};
-ghost use Rattle.hz_reach.specs.Room.{Spends};
+ghost use Rattle.hz_reach.specs.Room.{Spends, HasRoomFor, with_step_if_any};
 ghost use Rattle.hz_reach.specs.Turn.{is_gate_in, changed_wires, AreTurnWires, turn_flips, IsTurn, CanTurn, HasRoomForTurn};
 
 use crate::Scratch;
 use hz_core::MAX_PINS;
 use hz_gmw::Run;
 use hz_net::Net;
+
+/// So many pins are few: most gates have no more, and what is noted of each of them stands in a short array.
+pub const FEW_PINS: usize = 8;
 
 /// Whether a variable is a gate.
 pub fn is_gate(net: &Net, var: u32) -> bool
@@ -57,12 +61,12 @@ pub fn take_turn(
 {
     mark_pattern(net, gate, free, scratch);
     scratch.step(run);
-    mark_gate(net, gate, with_fan_out, scratch);
-    scratch.step(run);
+    turn_gate(net, gate, with_fan_out, scratch, run);
 }
 
 // Marks the wires that differ from the pattern which turns a gate.
 fn mark_pattern(net: &Net, gate: u32, free: &[bool], scratch: &mut Scratch)
+    requires circuit { IsCircuit net.now }
     requires gate { IsGateNumber net.now gate }
     requires free { length free.now ≡ length (gate_at net.now gate).sources }
     requires possible { CanTurn net.now gate free.now scratch.old.state }
@@ -71,16 +75,36 @@ fn mark_pattern(net: &Net, gate: u32, free: &[bool], scratch: &mut Scratch)
     ensures state { scratch.new.state ≡ scratch.old.state }
     ensures sorted { scratch.new.sorted ≡ scratch.old.sorted }
 {
+    if free.len() <= FEW_PINS {
+        let mut pattern = [false; FEW_PINS];
+        mark_chosen(net, gate, free, &mut pattern[..free.len()], scratch);
+    } else {
+        let mut pattern = [false; MAX_PINS];
+        mark_chosen(net, gate, free, &mut pattern[..free.len()], scratch);
+    }
+}
+
+// The same, with room for the pattern. What stood there is not read.
+#[inline(always)]
+fn mark_chosen(net: &Net, gate: u32, free: &[bool], pattern: &mut [bool], scratch: &mut Scratch)
+    requires gate { IsGateNumber net.now gate }
+    requires free { length free.now ≡ length (gate_at net.now gate).sources }
+    requires pattern { length pattern.old ≡ length (gate_at net.now gate).sources }
+    requires possible { CanTurn net.now gate free.now scratch.old.state }
+    requires scratch { IsScratchFor net.now scratch.old }
+    ensures marked { AreTurnWires net.now gate free.now scratch.old.state scratch.new.marked }
+    ensures state { scratch.new.state ≡ scratch.old.state }
+    ensures sorted { scratch.new.sorted ≡ scratch.old.sorted }
+{
     let kind = net.circuit().kind(gate);
     let (first, pins) = net.wires_in(gate);
-    let mut pattern = [false; MAX_PINS];
     kind.choose(
         &scratch.state()[first as usize..(first + pins) as usize],
         free,
         !scratch.state()[gate as usize],
-        &mut pattern[..pins as usize],
+        pattern,
     );
-    mark_changed(first, &pattern[..pins as usize], scratch);
+    mark_changed(first, pattern, scratch);
 }
 
 // Marks, of the wires from a first one on, those whose bit differs from a pattern's bit.
@@ -101,20 +125,27 @@ fn mark_changed(first: u32, pattern: &[bool], scratch: &mut Scratch)
     }
 }
 
-// Marks a gate, alone or along with the wires of its fan-out that differ from it.
-fn mark_gate(net: &Net, gate: u32, with_fan_out: bool, scratch: &mut Scratch)
+// A gate changes, alone or along with the wires of its fan-out that differ from it.
+fn turn_gate(net: &Net, gate: u32, with_fan_out: bool, scratch: &mut Scratch, run: &mut Run)
     requires circuit { IsCircuit net.now }
     requires gate { IsGateNumber net.now gate }
     requires scratch { IsScratchFor net.now scratch.old }
-    ensures marked { scratch.new.marked ≡ turn_flips net.now gate with_fan_out scratch.old.state }
-    ensures state { scratch.new.state ≡ scratch.old.state }
+    requires room { HasRoomFor
+        (length (turn_flips net.now gate with_fan_out scratch.old.state)) run.old }
+    ensures state { scratch.new.state
+        ≡ state_after (turn_flips net.now gate with_fan_out scratch.old.state) scratch.old.state }
+    ensures steps { run.new.steps
+        ≡ with_step_if_any run.old.steps (turn_flips net.now gate with_fan_out scratch.old.state) }
+    ensures room { Spends run.old run.new }
+    ensures marked { scratch.new.marked ≡ [] }
     ensures sorted { scratch.new.sorted ≡ scratch.old.sorted }
 {
-    if with_fan_out {
-        mark_with_fan_out(net, gate, scratch);
-    } else {
-        scratch.mark(gate);
+    if !with_fan_out {
+        scratch.step_alone(gate, run);
+        return;
     }
+    mark_with_fan_out(net, gate, scratch);
+    scratch.step(run);
 }
 
 // Marks a gate, and the wires of its fan-out that differ from it.

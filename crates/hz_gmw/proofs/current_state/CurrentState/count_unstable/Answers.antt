@@ -1,27 +1,56 @@
-use Rattle.std.proofs.Common.{◌≡◌, ◌+◌, ◌∙◌, ap, ℕ, Bool, map, arith}
+use Rattle.std.proofs.Common.{◌≡◌, ◌∙◌, ◌∷◌, ◌+◌, ◌<◌, ℕ, Bool, length, ap, cond, arith}
+use Rattle.std.specs.Prelude.{sum_by, count_by}
 use Rattle.std.specs.List.{range_with_len}
-use Rattle.std.proofs.lemmas.List.FromFn.{length-map-range_with_len, sum_by-map-range_with_len_more}
-use Rattle.std.proofs.lemmas.List.Sums.{count_by-le-length}
+use Rattle.std.proofs.lemmas.Bool.{lt-ltb}
+use Rattle.hz_core.specs.Netlist.{Netlist}
 use Rattle.hz_net.specs.Network.{network_of}
+use Rattle.hz_net.specs.Variables.{fan_out_of}
 use Rattle.hz_gmw.specs.Instability.{is_unstable}
-use Rattle.hz_gmw.proofs.Counting.{weight}
+use Rattle.hz_gmw.specs.CurrentState.{unstable_from}
+use Rattle.hz_gmw.proofs.Counts.{nodes-among, unstable-bound, network-bound}
+use Rattle.hz_gmw.proofs.NodeSums.{range-more, first-nodes, all-nodes}
 use Rattle.hz_gmw.proofs.current_state.CurrentState.count_unstable.Goals as goal
+
+pub excited-excited-requires-clause-var : goal.excited-excited-requires-clause-var
+excited-excited-requires-clause-var c =
+    let nodes = ap (λ (n : Netlist). length n.names) c.circuit.ensures.same in
+    omega (arith, c.loop-node-test.true, nodes, c.nodes-node-end.ensures.nodes, nodes-among c.args.net.now c.requires.fits.circuit)
 
 pub overflow_add-count : goal.overflow_add-count
 overflow_add-count c =
+    let netlist = c.args.net.now in
     let current = c.args.self.now in
-    let test : ℕ → Bool = is_unstable (network_of c.args.net.now) current.input.items current.state.items in
-    let k = c.loop-var.var in
-    let more = sum_by-map-range_with_len_more weight test 0 k k (omega arith) in
-    let one : c.one_if-count.result ≡ weight (test k) = c.one_if-count.ensures ∙ ap weight c.is_unstable.ensures in
-    let few = count_by-le-length (λ (b : Bool). b) (map test (range_with_len 0 (k + 1))) in
-    omega (arith, c.loop-var.invariant.0, more, one, few, length-map-range_with_len test 0 (k + 1), c.len-var-end.ensures.len, c.len-var-end.ensures.bound)
+    let node = c.loop-node.node in
+    let weigh : ℕ → ℕ = unstable_from netlist current.input.items current.state.items in
+    let around = count_by (is_unstable (network_of netlist) current.input.items current.state.items) (node ∷ fan_out_of netlist node) in
+    let nodes = ap (λ (n : Netlist). length n.names) c.circuit.ensures.same in
+    let less : node < length netlist.names = omega (arith, c.loop-node-test.true, nodes, c.nodes-node-end.ensures.nodes) in
+    let weighs : weigh node ≡ around = ap (λ (b : Bool). cond b around 0) (lt-ltb node (length netlist.names) less) in
+    let more = range-more weigh 0 node in
+    let place : weigh (0 + node) ≡ weigh node = ap weigh (omega arith) in
+    let few = first-nodes netlist c.requires.fits.circuit current.input.items current.state.items (node + 1) (omega (arith, less)) in
+    omega (arith, c.loop-node.invariant.0, c.unstable_from-count.ensures, weighs, place, more, few, unstable-bound netlist current.input.items current.state.items, network-bound netlist c.requires.fits.circuit)
 
-pub loop-var-preserved : goal.loop-var-preserved
-loop-var-preserved c =
+pub loop-node-preserved : goal.loop-node-preserved
+loop-node-preserved c =
+    let netlist = c.args.net.now in
     let current = c.args.self.now in
-    let test : ℕ → Bool = is_unstable (network_of c.args.net.now) current.input.items current.state.items in
-    let k = c.loop-var.var in
-    let more = sum_by-map-range_with_len_more weight test 0 k k (omega arith) in
-    let one : c.one_if-count.result ≡ weight (test k) = c.one_if-count.ensures ∙ ap weight c.is_unstable.ensures in
-    (omega (arith, c.loop-var.invariant.0, more, one), omega (arith, c.len-var-end.ensures.len))
+    let node = c.loop-node.node in
+    let weigh : ℕ → ℕ = unstable_from netlist current.input.items current.state.items in
+    let around = count_by (is_unstable (network_of netlist) current.input.items current.state.items) (node ∷ fan_out_of netlist node) in
+    let nodes = ap (λ (n : Netlist). length n.names) c.circuit.ensures.same in
+    let less : node < length netlist.names = omega (arith, c.loop-node-test.true, nodes, c.nodes-node-end.ensures.nodes) in
+    let weighs : weigh node ≡ around = ap (λ (b : Bool). cond b around 0) (lt-ltb node (length netlist.names) less) in
+    let place : weigh (0 + node) ≡ weigh node = ap weigh (omega arith) in
+    (omega (arith, c.loop-node.invariant.0, c.unstable_from-count.ensures, weighs, place, range-more weigh 0 node), omega (arith, less))
+
+pub returns : goal.returns
+returns c =
+    let netlist = c.args.net.now in
+    let current = c.args.self.now in
+    let weigh : ℕ → ℕ = unstable_from netlist current.input.items current.state.items in
+    let nodes = ap (λ (n : Netlist). length n.names) c.circuit.ensures.same in
+    let end : c.loop-node.node ≡ length netlist.names = omega (arith, c.loop-node-test.false, nodes, c.nodes-node-end.ensures.nodes, c.loop-node.invariant.1) in
+    c.loop-node.invariant.0
+    ∙ (ap (λ (count : ℕ). sum_by weigh (range_with_len 0 count)) end
+    ∙ all-nodes netlist c.requires.fits.circuit current.input.items current.state.items)

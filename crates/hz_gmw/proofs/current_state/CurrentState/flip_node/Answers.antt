@@ -4,6 +4,10 @@ use Rattle.hz_gmw.proofs.DriverLemmas.{around-node}
 use Rattle.hz_gmw.proofs.Counts.{nodes-among, network-bound, fan-bound, unstable-bound, some-around, mended, node-turned}
 use Rattle.hz_gmw.proofs.current_state.CurrentState.flip_node.Goals as goal
 
+pub excited-excited-requires-clause-var : goal.excited-excited-requires-clause-var
+excited-excited-requires-clause-var c =
+    omega (arith, c.requires.node, nodes-among c.args.net.now c.requires.exact.counted.fits.circuit)
+
 pub overflow_sub-self : goal.overflow_sub-self
 overflow_sub-self c =
     let netlist = c.args.net.now in

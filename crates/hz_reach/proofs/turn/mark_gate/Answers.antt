@@ -1,6 +1,0 @@
-use Rattle.std.proofs.Common.{arith}
-use Rattle.hz_reach.proofs.Words.{length-network_of}
-use Rattle.hz_reach.proofs.turn.mark_gate.Goals as goal
-
-pub mark-requires-clause-inside : goal.mark-requires-clause-inside
-mark-requires-clause-inside c = omega (arith, c.requires.gate.1, c.requires.scratch.long, length-network_of c.args.net.now c.requires.circuit)
