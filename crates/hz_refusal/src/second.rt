@@ -1,5 +1,5 @@
 //! The second text: it is read, and then a job does its part with the value, or its least fault is written.
-ghost use Rattle.std.specs.Prelude.{◌≤◌, ℕ, List, length, vec_len};
+ghost use Rattle.std.specs.Prelude.{◌≡◌, ◌≤◌, ℕ, List, length};
 ghost use Rattle.hz_core.specs.Netlist.{Netlist, IsCircuit};
 ghost use Rattle.hz_line.specs.Line.{most_text_bytes};
 ghost use Rattle.hz_text.specs.PatternText.{ArePatternsFor};
@@ -17,7 +17,7 @@ use crate::status::Status;
 use hz_core::Circuit;
 use hz_net::Net;
 use hz_outside::Sink;
-use hz_text::{Patterns, RunText, Script, read_owned_patterns, read_run, read_script};
+use hz_text::{PatternReader, Patterns, RunText, Script, read_run, read_script};
 use std::alloc::Global;
 
 /// What a job does with a script. `judges` says which text comes with which status.
@@ -97,21 +97,22 @@ pub fn on_runs<J: OnRuns, K: Sink>(
     }
 }
 
-// Reads patterns, whose text is freed by then, and does a job with them.
+// Reads the patterns of a text that was received, and does a job with them.
 pub fn on_patterns<J: OnPatterns, K: Sink>(
     alloc: Global,
     job: &J,
     net: &Net,
-    text: Vec<u8>,
+    reader: PatternReader,
     out: &mut K,
 ) -> Status
-    requires { vec_len text ≤ most_text_bytes }
-    ensures { Ends K.output K.faults (OfPatterns (J.judges job.now) net.now text.items) out.old
+    requires netlist { reader.netlist ≡ net.now }
+    requires long { length reader.received ≤ most_text_bytes }
+    ensures { Ends K.output K.faults (OfPatterns (J.judges job.now) net.now reader.entry.received)
+        out.old
         out.new result }
 {
-    let circuit = net.circuit();
-    match read_owned_patterns(alloc, circuit, text) {
+    match reader.finish() {
         Ok(patterns) => job.with_patterns(alloc, net, &patterns, out),
-        Err(fault) => refuse_text(out, b"patterns", circuit, fault),
+        Err(fault) => refuse_text(out, b"patterns", net.circuit(), fault),
     }
 }

@@ -1,17 +1,18 @@
 -- Lines of patterns that agree with lines of zeros.
-use Rattle.std.proofs.Common.{◌≡◌, ◌∙◌, ℕ, ◌+◌, ◌-◌, ◌*◌, ◌<◌, ◌≤◌, Bool, true, false, not, ◌||◌, ◌&&◌, nat_eq, List, [], ◌∷◌, ◌++◌, zero, suc, length, length-append, get_or, take, drop, map, replicate, codes, refl, ap, sym, subst, arith, append_assoc, add-one, zero-add}
+use Rattle.std.proofs.Common.{◌≡◌, ◌∙◌, ◌⊎◌, inl, inr, ℕ, ◌+◌, ◌-◌, ◌*◌, ◌<◌, ◌≤◌, Bool, true, false, not, ◌||◌, ◌&&◌, nat_eq, List, [], ◌∷◌, ◌++◌, zero, suc, length, length-append, get_or, take, drop, map, replicate, codes, refl, ap, sym, subst, arith, append_assoc, add-one, zero-add}
 use Rattle.std.specs.List.{list_all, flat_map, All}
 use Rattle.std.proofs.Math.Nat.{add-mul, suc-mul, zero-mul}
 use Rattle.std.proofs.lemmas.Nat.{mul-le}
 use Rattle.std.proofs.lemmas.Bool.{and_parts}
 use Rattle.std.proofs.lemmas.Bool.Decides.{nat_tests}
-use Rattle.std.proofs.lemmas.List.{append-nil, drop-drop, drop-take, take-take, drop-append-le, take-append-le, drop-map, take-map, length-map, length-take-le, length-drop, length-replicate, take-append-drop, take_all}
+use Rattle.std.proofs.lemmas.List.{append-nil, drop-drop, drop-take, take-take, drop-append-le, take-append-le, drop-map, take-map, length-map, length-take-le, length-drop, length-replicate, take-append-drop}
 use Rattle.std.proofs.lemmas.List.Elements.{All-nil, All-cons}
 use Rattle.std.proofs.lemmas.Grind.{flat_map-append}
-use Rattle.hz_text.specs.Limits.{most_patterns}
+use Rattle.hz_core.specs.Netlist.{Netlist}
 use Rattle.hz_text.specs.PatternText.{IsPatternOf}
-use Rattle.hz_text.specs.PatternModel.{agrees, AgreesWith, model_line, model_lines, bits_at, ArePrintedBits, AreAddedBits, AreInFront}
+use Rattle.hz_text.specs.PatternModel.{agrees, AgreesWith, model_line, model_lines, bits_at, text_behind, ArePrintedBits, AreAddedBits}
 use Rattle.hz_text.specs.PatternPrinted.{pattern_text}
+use Rattle.hz_text.specs.PatternReading.{PatternsReceived}
 use Rattle.hz_text.specs.PatternInside.{patterns_in}
 use Rattle.hz_text.specs.PatternValue.{PatternOf}
 use Rattle.hz_text.specs.PatternWord.{bits_word, is_bit_letter}
@@ -301,46 +302,42 @@ added-more n start end old bits more front block whole up h k e = record {
       subst P sum (subst Q text all);
 }
 
--- the first bits of all
-printed_first : (n count : ℕ) (bits : List Bool) (text : List ℕ) → AreAddedBits n count [] bits text → ArePrintedBits n count bits text
-printed_first n count bits text h =
-    let P : ℕ → Type 0 = λ k. ArePrintedBits n k bits text in
-    subst P (zero-add count) (h.behind 0 [] (record { long = sym (zero-mul (2 * n)); lines = refl }))
+-- no bytes, or those of a line and more
+pub none_or_line : (count w : ℕ) → (count * w ≡ 0) ⊎ (w ≤ count * w)
+none_or_line zero w = inl (zero-mul w)
+none_or_line (suc count) w = inr (omega (arith, suc-mul count w))
 
--- lines that are read stand in front of the text
-pub in_front : (n count : ℕ) (bits : List Bool) (text : List ℕ) → count ≤ most_patterns → AreAddedBits n count [] bits (take (count * (10 + 2 * n)) text) → AreInFront n count bits (drop (count * (10 + 2 * n)) text) text
-in_front n count bits text few h =
+-- what was read in front of a text, with lines more, and the bits of these
+pub record AreTaken (n before count : ℕ) (old new : List Bool) (text : List ℕ) : Type 0 where
+  pub long : length new ≡ (before + count) * (2 * n)
+  pub behind : text_behind n (before + count) new (drop (count * (10 + 2 * n)) text) ≡ text_behind n before old text
+
+pub lines_taken : (n before count : ℕ) (old new : List Bool) (text : List ℕ) → length old ≡ before * (2 * n) → AreAddedBits n count old new (take (count * (10 + 2 * n)) text) → AreTaken n before count old new text
+lines_taken n before count old new text long h =
     let end = count * (10 + 2 * n) in
-    let is = printed_first n count bits (take end text) h in
-    record { few = few; long = is.long; whole = ap (λ (front : List ℕ). front ++ drop end text) is.lines ∙ take-append-drop end text }
-
--- the same of two readings, one after the other
-pub in_front-twice :
-    (n first second : ℕ) (some bits : List Bool) (text : List ℕ) → first + second ≤ most_patterns → AreAddedBits n first [] some (take (first * (10 + 2 * n)) text) →
-    AreAddedBits n second some bits (take (second * (10 + 2 * n)) (drop (first * (10 + 2 * n)) text)) → AreInFront n (first + second) bits (drop (second * (10 + 2 * n)) (drop (first * (10 + 2 * n)) text)) text
-in_front-twice n first second some bits text few h k =
-    let a = first * (10 + 2 * n) in
-    let b = second * (10 + 2 * n) in
-    let left = drop a text in
-    let is = k.behind first (take a text) (printed_first n first some (take a text) h) in
+    let front = flat_map pattern_text (patterns_in before n old) in
+    let is = h.behind before front (record { long = long; lines = refl }) in
     record {
-      few = few;
       long = is.long;
-      whole =
-          ap (λ (front : List ℕ). front ++ drop b left) is.lines
-          ∙ append_assoc (take a text) (take b left) (drop b left)
-          ∙ ap (λ (later : List ℕ). take a text ++ later) (take-append-drop b left)
-          ∙ take-append-drop a text;
+      behind =
+          ap (λ (lines : List ℕ). lines ++ drop end text) is.lines
+          ∙ append_assoc front (take end text) (drop end text)
+          ∙ ap (λ (later : List ℕ). front ++ later) (take-append-drop end text);
     }
 
--- the rest is no longer than the text
-pub rest-short : (n count : ℕ) (bits : List Bool) (rest text : List ℕ) → AreInFront n count bits rest text → length rest ≤ length text
-rest-short n count bits rest text is = omega (arith, length-append (flat_map pattern_text (patterns_in count n bits)) rest, ap length is.whole)
+-- a text behind what was read, with bytes more
+pub behind-append : (n count : ℕ) (bits : List Bool) (rest more : List ℕ) → text_behind n count bits (rest ++ more) ≡ text_behind n count bits rest ++ more
+behind-append n count bits rest more = sym (append_assoc (flat_map pattern_text (patterns_in count n bits)) rest more)
 
--- what stands at the end of a text that is split into no more bytes in front than this end is behind
-pub moved_down : (from left : ℕ) (bytes behind : List ℕ) → left + from ≡ length bytes → left ≤ from → behind ≡ drop left bytes → take (length behind - (from - left)) (drop (from - left) behind) ≡ drop from bytes
-moved_down from left bytes behind sum few is =
-    take_all (length behind - (from - left)) (drop (from - left) behind) (omega (arith, length-drop (from - left) behind))
-    ∙ ap (drop (from - left)) is
-    ∙ drop-drop (from - left) left bytes
-    ∙ ap (λ (k : ℕ). drop k bytes) (omega (arith, few))
+-- what waits is no longer than the text
+pub rest-short : (n count : ℕ) (bits : List Bool) (rest : List ℕ) → length rest ≤ length (text_behind n count bits rest)
+rest-short n count bits rest = omega (arith, length-append (flat_map pattern_text (patterns_in count n bits)) rest)
+
+-- what a reader received, if it had received nothing before
+pub is_received :
+    (netlist : Netlist) (text : List ℕ) (was now : PatternsReceived) → was ≡ record { netlist = netlist; received = [] } → now.received ≡ was.received ++ text → now.netlist ≡ was.netlist →
+    now ≡ record { netlist = netlist; received = text }
+is_received netlist text was now new received same =
+    let taken : now.received ≡ text = received ∙ ap (λ (all : PatternsReceived). all.received ++ text) new in
+    let of : now.netlist ≡ netlist = same ∙ ap (λ (all : PatternsReceived). all.netlist) new in
+    ap (λ (bytes : List ℕ). record { netlist = now.netlist; received = bytes }) taken ∙ ap (λ (here : Netlist). record { netlist = here; received = text }) of

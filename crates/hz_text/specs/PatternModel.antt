@@ -1,7 +1,6 @@
 -- Lines of patterns beside lines in which all bits are 0.
-use Rattle.std.specs.Prelude.{◌≡◌, ℕ, zero, suc, ◌+◌, ◌*◌, ◌≤◌, Bool, true, ◌||◌, ◌&&◌, nat_eq, List, [], ◌∷◌, ◌++◌, codes, length, take, drop, replicate, if◌then◌else◌}
+use Rattle.std.specs.Prelude.{◌≡◌, ℕ, zero, suc, ◌+◌, ◌*◌, Bool, true, ◌||◌, ◌&&◌, nat_eq, List, [], ◌∷◌, ◌++◌, codes, length, take, drop, replicate, if◌then◌else◌}
 use Rattle.std.specs.List.{flat_map}
-use Rattle.hz_text.specs.Limits.{most_patterns}
 use Rattle.hz_text.specs.PatternInside.{patterns_in}
 use Rattle.hz_text.specs.PatternPrinted.{pattern_text}
 
@@ -49,9 +48,3 @@ pub record AreAddedBits (inputs count : ℕ) (old new : List Bool) (text : List 
 -- the printed lines of so many patterns of these bits, and what stands behind them
 abbrev pub text_behind : ℕ → ℕ → List Bool → List ℕ → List ℕ
 text_behind inputs count bits rest = flat_map pattern_text (patterns_in count inputs bits) ++ rest
-
--- the printed lines of so many patterns of these bits stand in front of the rest of a text
-pub record AreInFront (inputs count : ℕ) (bits : List Bool) (rest text : List ℕ) : Type 0 where
-  pub few : count ≤ most_patterns
-  pub long : length bits ≡ count * (2 * inputs)
-  pub whole : text_behind inputs count bits rest ≡ text

@@ -23,7 +23,7 @@ mod script;
 mod text;
 
 pub use fault::TextFault;
-pub use patterns::{MAX_PATTERNS, Patterns, print_patterns, read_owned_patterns, read_patterns};
+pub use patterns::{MAX_PATTERNS, PatternReader, Patterns, print_patterns, read_patterns};
 pub use printing::{write_assignments, write_bits};
 pub use run::{
     RunText, print_run, printed_runs_are_read, read_run, write_end, write_run, write_run_text,

@@ -3,7 +3,8 @@
 //! | Module | What lives in it |
 //! |---|---|
 //! | `value` | [`Patterns`]: what is held, and the bits of each pattern |
-//! | `read` | [`read_patterns`], [`read_owned_patterns`]: the order of work |
+//! | `read` | [`read_patterns`]: the order of work |
+//! | `reader` | [`PatternReader`]: a text that comes part by part |
 //! | `printed` | the first lines of a text, where they are as they are printed, read block by block |
 //! | `short` | the commonest line, read without its tokens |
 //! | `statement` | the statements, looked up in a circuit |
@@ -16,6 +17,7 @@ mod build;
 mod print;
 mod printed;
 mod read;
+mod reader;
 mod rules;
 mod short;
 mod statement;
@@ -23,5 +25,6 @@ mod value;
 mod word;
 
 pub use print::print_patterns;
-pub use read::{read_owned_patterns, read_patterns};
+pub use read::read_patterns;
+pub use reader::PatternReader;
 pub use value::{MAX_PATTERNS, Patterns};

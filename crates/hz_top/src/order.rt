@@ -1,8 +1,9 @@
 //! The order of work on two files: the first file, its netlist, the second file, and then what the task does with its text.
-ghost use Rattle.std.specs.Prelude.{◌≤◌, Some, vec_len};
+ghost use Rattle.std.specs.Prelude.{Some};
 ghost use Rattle.hz_outside.specs.declared.fault.Place.TheVariants.{First, Second};
 ghost use Rattle.hz_options.specs.Numbers.{IsCap};
 ghost use Rattle.hz_refusal.specs.Ends.{Ends};
+ghost use Rattle.hz_refusal.specs.Second.{OfScript, OfRuns, OfPatterns};
 ghost use Rattle.hz_top.specs.LeftFiles.{LeavesFiles};
 ghost use Rattle.hz_words.specs.Job.{OnFiles};
 ghost use Rattle.hz_line.specs.Line.{most_text_bytes};
@@ -16,9 +17,11 @@ use hz_options::Options;
 use hz_outside::{Files, Place, Sink};
 use hz_patterns::{Batches, Resets};
 use hz_refusal::{
-    Status, on_patterns, on_runs, on_script, read_netlist, refuse_load, refuse_netlist,
+    OnPatterns, OnRuns, OnScript, Status, on_patterns, on_runs, on_script, read_netlist,
+    refuse_load, refuse_netlist,
 };
 use hz_replay::{Converts, Dumps, Replays};
+use hz_text::PatternReader;
 use hz_words::Task;
 use std::alloc::Global;
 
@@ -81,34 +84,81 @@ fn work_on_second<F: Files, K: Sink>(
         (comes_of work.options work.task net.now) second.now)
         out.old out.new result }
 {
+    let options = work.options;
+    match work.task {
+        Task::Analyse => work_on_script(alloc, &Analyses { options }, net, second, files, out),
+        Task::Split => work_on_script(alloc, &Splits { options }, net, second, files, out),
+        Task::Replay => work_on_runs(alloc, &Replays, net, second, files, out),
+        Task::Convert => work_on_runs(alloc, &Converts, net, second, files, out),
+        Task::Vcd => work_on_runs(alloc, &Dumps, net, second, files, out),
+        Task::Batch => work_on_patterns(alloc, &Batches, net, second, files, out),
+        Task::Reset => work_on_patterns(alloc, &Resets, net, second, files, out),
+    }
+}
+
+// Does a job with a script that is loaded.
+fn work_on_script<J: OnScript, F: Files, K: Sink>(
+    alloc: Global,
+    job: &J,
+    net: &Net,
+    second: &str,
+    files: &mut F,
+    out: &mut K,
+) -> Status
+    requires { F.granted files.old Second second.now most_text_bytes }
+    ensures { Ends K.output K.faults
+        (IsSecondFileOutcome (observation_of F.held F.faults F.longs files.old files.new)
+        (OfScript (J.judges job.now) net.now) second.now)
+        out.old out.new result }
+{
     match files.load(alloc, Place::Second, second, MAX_TEXT) {
-        Ok(text) => work_on_text(alloc, net, work, text, out),
+        Ok(text) => on_script(alloc, job, net, text.as_slice(), out),
         Err(fault) => refuse_load(out, Place::Second, fault),
     }
 }
 
-// Does work on a network and the second text.
-fn work_on_text<K: Sink>(
+// Does a job with runs that are loaded.
+fn work_on_runs<J: OnRuns, F: Files, K: Sink>(
     alloc: Global,
+    job: &J,
     net: &Net,
-    work: FileWork,
-    text: Vec<u8>,
+    second: &str,
+    files: &mut F,
     out: &mut K,
 ) -> Status
-    requires cap { IsCap work.options.cap }
-    requires text { vec_len text ≤ most_text_bytes }
-    ensures { Ends K.output K.faults (comes_of work.options work.task net.now text.items) out.old
-        out.new
-        result }
+    requires { F.granted files.old Second second.now most_text_bytes }
+    ensures { Ends K.output K.faults
+        (IsSecondFileOutcome (observation_of F.held F.faults F.longs files.old files.new)
+        (OfRuns (J.judges job.now) net.now) second.now)
+        out.old out.new result }
 {
-    let options = work.options;
-    match work.task {
-        Task::Analyse => on_script(alloc, &Analyses { options }, net, text.as_slice(), out),
-        Task::Split => on_script(alloc, &Splits { options }, net, text.as_slice(), out),
-        Task::Replay => on_runs(alloc, &Replays, net, text.as_slice(), out),
-        Task::Convert => on_runs(alloc, &Converts, net, text.as_slice(), out),
-        Task::Vcd => on_runs(alloc, &Dumps, net, text.as_slice(), out),
-        Task::Batch => on_patterns(alloc, &Batches, net, text, out),
-        Task::Reset => on_patterns(alloc, &Resets, net, text, out),
+    match files.load(alloc, Place::Second, second, MAX_TEXT) {
+        Ok(text) => on_runs(alloc, job, net, text.as_slice(), out),
+        Err(fault) => refuse_load(out, Place::Second, fault),
+    }
+}
+
+// Does a job with patterns, which are read while their text is loaded.
+fn work_on_patterns<J: OnPatterns, F: Files, K: Sink>(
+    alloc: Global,
+    job: &J,
+    net: &Net,
+    second: &str,
+    files: &mut F,
+    out: &mut K,
+) -> Status
+    requires { F.granted files.old Second second.now most_text_bytes }
+    ensures { Ends K.output K.faults
+        (IsSecondFileOutcome (observation_of F.held F.faults F.longs files.old files.new)
+        (OfPatterns (J.judges job.now) net.now) second.now)
+        out.old out.new result }
+{
+    let Ok(reader) = PatternReader::new(alloc, net.circuit()) else {
+        return Status::Memory;
+    };
+    let mut reader = reader;
+    match files.load_into(alloc, Place::Second, second, MAX_TEXT, &mut reader) {
+        Ok(()) => on_patterns(alloc, job, net, reader, out),
+        Err(fault) => refuse_load(out, Place::Second, fault),
     }
 }

@@ -1,8 +1,8 @@
 // The first lines of a text of patterns, where they are as they are printed.
 
-ghost use Rattle.std.specs.Prelude.{◌≡◌, ◌+◌, ◌-◌, ◌*◌, ◌^◌, ◌<◌, ◌≤◌, ◌++◌, ◌&&◌, [], true, nat_eq, length, vec_len, take, drop, map, replicate, IfOk, OnOk};
-ghost use Rattle.hz_text.specs.Limits.{most_patterns};
-ghost use Rattle.hz_text.specs.PatternModel.{AgreesWith, agrees, slack_by, bits_at, model_line, model_lines, AreAddedBits, AreInFront};
+ghost use Rattle.std.specs.Prelude.{◌≡◌, ◌+◌, ◌-◌, ◌*◌, ◌^◌, ◌<◌, ◌≤◌, ◌⊎◌, ◌++◌, ◌&&◌, [], true, nat_eq, length, take, drop, map, replicate, IfOk, OnOk};
+ghost use Rattle.hz_text.specs.PatternModel.{AgreesWith, agrees, slack_by, bits_at, model_line, model_lines, AreAddedBits, text_behind};
+ghost use Rattle.hz_text.specs.PatternReading.{AreZeroLines, AreCounted};
 
 use crate::patterns::value::MAX_PATTERNS;
 use hz_core::Memory;
@@ -11,122 +11,93 @@ use std::alloc::Global;
 // How many bytes are compared at once, if a line is shorter.
 const BLOCK_BYTES: usize = 4096;
 
-// A text of so many bytes is read in two parts. A shorter one takes little memory.
-const LONG_TEXT: usize = 8_388_608;
-
-// The patterns of the first lines of a text: how many they are, how many bytes their lines have, and their bits.
+// The patterns of the first lines of a text: how many they are, and their bits.
 #[derive(Drop)]
 pub(crate) struct Front {
     pub(crate) count: usize,
-    pub(crate) end: usize,
     pub(crate) bits: Vec<bool>,
 }
 
-// The first lines of a text that are as they are printed. Of the rest nothing is known.
-pub(crate) fn read_front(alloc: Global, inputs: usize, text: &[u8]) -> Result<Front, Memory>
+// Lines in which all bits are 0, with which other lines are compared: how many they are, their bytes, and how much greater a
+// byte may be that agrees with each.
+#[derive(Drop)]
+pub(crate) struct ZeroLines {
+    lines: usize,
+    model: Vec<u8>,
+    slack: Vec<u8>,
+}
+
+// Lines of so many inputs in which all bits are 0: as many as a block has room for, and at least one.
+pub(crate) fn zero_lines(alloc: Global, inputs: usize) -> Result<ZeroLines, Memory>
     requires few { inputs < 2 ^ 32 }
-    ensures inside { IfOk result (λ front. front.end ≤ length text.now) }
-    ensures front { IfOk result
-        (λ front. AreInFront inputs front.count front.bits.items (drop front.end text.now)
-        text.now) }
+    ensures { IfOk result (AreZeroLines inputs) }
 {
-    let width = 10 + 2 * inputs;
-    let most = most_lines(text, inputs, width);
-    let mut bits = Vec::with_capacity(alloc, most * (2 * inputs))?;
-    let count = push_front(alloc, &mut bits, inputs, text, most)?;
-    Ok(Front {
-        count,
-        end: count * width,
-        bits,
+    let lines = (BLOCK_BYTES / (10 + 2 * inputs)).max(1);
+    let model = model_of(alloc, inputs, lines)?;
+    let slack = slack_of(alloc, model.as_slice())?;
+    Ok(ZeroLines {
+        lines,
+        model,
+        slack,
     })
 }
 
-// The same of a text that is read in two parts. The first one is freed before the second one is read, if its lines are as they
-// are printed. The front ends so far into what is left.
-pub(crate) fn read_front_by_parts(
-    alloc: Global,
+// Takes the lines that are as they are printed off the front of a text, and returns how many bytes they have. There is at least
+// one input. If memory runs out, no pattern is left.
+pub(crate) fn take_lines(
+    front: &mut Front,
+    zeros: &ZeroLines,
     inputs: usize,
-    text: &mut Vec<u8>,
-) -> Result<Front, Memory>
+    text: &[u8],
+) -> Result<usize, Memory>
     requires few { inputs < 2 ^ 32 }
-    ensures inside { IfOk result (λ front. front.end ≤ vec_len text.new) }
-    ensures front { IfOk result
-        (λ front. AreInFront inputs front.count front.bits.items (drop front.end text.new.items)
-        text.old.items) }
+    requires some { 1 ≤ inputs }
+    requires zeros { AreZeroLines inputs zeros.now }
+    requires counted { AreCounted inputs front.old }
+    ensures counted { AreCounted inputs front.new }
+    ensures inside { IfOk result (λ taken. taken ≤ length text.now) }
+    ensures whole { IfOk result (λ taken. taken ≡ 0 ⊎ 10 + 2 * inputs ≤ taken) }
+    ensures behind { IfOk result
+        (λ taken. text_behind inputs front.new.count front.new.bits.items (drop taken text.now)
+        ≡ text_behind inputs front.old.count front.old.bits.items text.now) }
 {
     let width = 10 + 2 * inputs;
-    let most = most_lines(text.as_slice(), inputs, width);
-    let part = first_part(text.len(), most);
-    let mut bits = Vec::with_capacity(alloc, most * (2 * inputs))?;
-    let first = push_front(alloc, &mut bits, inputs, text.as_slice(), part)?;
-    let end = first * width;
-    if end < text.len() - end {
-        return Ok(Front {
-            count: first,
-            end,
-            bits,
-        });
-    }
-    free_first(text, end);
-    let second = push_front(alloc, &mut bits, inputs, text.as_slice(), most - first)?;
-    Ok(Front {
-        count: first + second,
-        end: second * width,
-        bits,
-    })
-}
-
-// How many lines are read before their memory is freed: three quarters of a long text, since what is left has to be moved.
-fn first_part(len: usize, most: usize) -> usize
-    ensures { result ≤ most }
-{
-    if len < LONG_TEXT {
-        return most;
-    }
-    most - most / 4
-}
-
-// Takes so many bytes off the front, at least half of all, and frees their memory.
-fn free_first(bytes: &mut Vec<u8>, count: usize)
-    requires inside { count ≤ vec_len bytes.old }
-    requires half { vec_len bytes.old ≤ 2 * count }
-    ensures { bytes.new.items ≡ drop count bytes.old.items }
-{
-    let left = bytes.len() - count;
-    let (front, behind) = bytes.as_mut_slice().split_at_mut(left);
-    front.copy_from_slice(&behind[count - left..]);
-    bytes.truncate(left);
-    bytes.shrink_to_fit();
+    let most = (text.len() / width).min(MAX_PATTERNS - front.count);
+    let Ok(count) = push_front(&mut front.bits, zeros, inputs, text, most) else {
+        front.bits.clear();
+        front.count = 0;
+        return Err(Memory);
+    };
+    front.count += count;
+    Ok(count * width)
 }
 
 // Adds the bits of the first lines of a text that are as they are printed, so many at most, and returns how many they are.
-// They have one length, so blocks of lines are compared with a model, in which all bits are 0, up to the first block with
-// another line.
+// They have one length, so blocks of lines are compared with lines of zeros, up to the first block with another line.
 fn push_front(
-    alloc: Global,
     bits: &mut Vec<bool>,
+    zeros: &ZeroLines,
     inputs: usize,
     text: &[u8],
     most: usize,
 ) -> Result<usize, Memory>
     requires few { inputs < 2 ^ 32 }
+    requires some { 1 ≤ inputs }
+    requires zeros { AreZeroLines inputs zeros.now }
     requires room { most * (10 + 2 * inputs) ≤ length text.now }
-    requires some { 1 ≤ most → 1 ≤ inputs }
     ensures count { IfOk result (λ count. count ≤ most) }
     ensures added { IfOk result
         (λ count. AreAddedBits inputs count bits.old.items bits.new.items
         (take (count * (10 + 2 * inputs)) text.now)) }
 {
     let width = 10 + 2 * inputs;
-    let lines = (BLOCK_BYTES / width).max(1);
-    let model = model_of(alloc, inputs, lines)?;
-    let slack = slack_of(alloc, model.as_slice())?;
-    let mut ones = Vec::new(alloc);
+    bits.reserve(most * (2 * inputs))?;
+    let mut ones = Vec::new(*bits.allocator());
     let mut start = 0;
     while start < most {
-        let end = most.min(start + lines);
+        let end = start + zeros.lines.min(most - start);
         let block = &text[start * width..end * width];
-        if !agree(block, model.as_slice(), slack.as_slice()) {
+        if !agree(block, zeros.model.as_slice(), zeros.slack.as_slice()) {
             return Ok(start);
         }
         mark_ones(&mut ones, block)?;
@@ -134,21 +105,6 @@ fn push_front(
         start = end;
     }
     Ok(start)
-}
-
-// How many lines of so many bytes a text has room for. Without inputs none is read so, and none of a text that has room for
-// too many, since it is refused if all its lines are patterns.
-fn most_lines(text: &[u8], inputs: usize, width: usize) -> usize
-    requires { 1 ≤ width }
-    ensures room { result * width ≤ length text.now }
-    ensures few { result ≤ most_patterns }
-    ensures some { 1 ≤ result → 1 ≤ inputs }
-{
-    let lines = text.len() / width;
-    if inputs == 0 || lines > MAX_PATTERNS {
-        return 0;
-    }
-    lines
 }
 
 // So many lines in which all bits are 0.

@@ -1,6 +1,6 @@
 //! Reading patterns.
 
-ghost use Rattle.std.specs.Prelude.{◌≡◌, ◌*◌, ◌≤◌, ◌⊎◌, length, vec_len, All, IfOk, IfErr, IfSome, OnOk, IsErrOf, MatchResult};
+ghost use Rattle.std.specs.Prelude.{◌≡◌, ◌*◌, ◌≤◌, ◌⊎◌, length, All, IfOk, IfErr, IfSome, OnOk, IsErrOf, MatchResult};
 ghost use Rattle.std.specs.Option.{option_map};
 ghost use Rattle.hz_text.specs.declared.fault.TextFault.TheVariants as told;
 ghost use Rattle.hz_text.specs.Limits.{most_patterns};
@@ -15,7 +15,8 @@ ghost use Rattle.hz_line.specs.OrThat.{OrThat};
 
 use crate::fault::TextFault;
 use crate::patterns::build::build;
-use crate::patterns::printed::{Front, read_front, read_front_by_parts};
+use crate::patterns::printed::Front;
+use crate::patterns::reader::PatternReader;
 use crate::patterns::statement::{Entry, Statements};
 use crate::patterns::value::Patterns;
 use crate::text::read_text;
@@ -37,34 +38,13 @@ pub fn read_patterns(alloc: Global, circuit: &Circuit, text: &[u8]) -> Result<Pa
     ensures exact { (fault : TextFault) → IsLeastPatternFault circuit.now text.now fault
         → IsErrOf result fault ⊎ IsErrOf result TextFault.Memory }
 {
-    let front = read_front(alloc, circuit.inputs() as usize, text)?;
-    let rest = &text[front.end..];
-    read_behind(alloc, circuit, front, rest)
-}
-
-/// Reads patterns as [`read_patterns`] does, and frees their text. If the lines of a long text are as they are printed, it frees
-/// most of them before it reads the others, so that the whole text and all bits are never there at the same time.
-pub fn read_owned_patterns(
-    alloc: Global,
-    circuit: &Circuit,
-    text: Vec<u8>,
-) -> Result<Patterns, TextFault>
-    requires { vec_len text ≤ most_text_bytes }
-    ensures value { IfOk result (IsPatternsValue circuit.now text.items) }
-    ensures usable { IfOk result (ArePatternsFor circuit.now) }
-    ensures faultless { OnOk result (IsPatternFaultless circuit.now text.items) }
-    ensures fault { IfErr result (IsPatternRefusal circuit.now text.items) }
-    ensures exact { (fault : TextFault) → IsLeastPatternFault circuit.now text.items fault
-        → IsErrOf result fault ⊎ IsErrOf result TextFault.Memory }
-{
-    let mut text = text;
-    let front = read_front_by_parts(alloc, circuit.inputs() as usize, &mut text)?;
-    let rest = &text.as_slice()[front.end..];
-    read_behind(alloc, circuit, front, rest)
+    let mut reader = PatternReader::new(alloc, circuit)?;
+    reader.take_part(text)?;
+    reader.finish()
 }
 
 // Reads what stands behind the first lines, and builds the patterns of both.
-fn read_behind(
+pub(crate) fn read_behind(
     alloc: Global,
     circuit: &Circuit,
     front: Front,

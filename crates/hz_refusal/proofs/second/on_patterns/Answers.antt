@@ -1,4 +1,4 @@
--- The text has a fault, or the job does its part with the script.
+-- The text has a fault, or the job does its part with the patterns.
 use Rattle.std.proofs.Common.{inl, inr, codes}
 use Rattle.hz_text.specs.PatternFault.{HasPatternFault}
 use Rattle.hz_refusal.specs.Second.{OfPatterns}
@@ -8,18 +8,21 @@ use Rattle.hz_refusal.proofs.RefusedTexts.{text-refused}
 use Rattle.hz_refusal.proofs.NamedNodes.{patterns-node}
 use Rattle.hz_refusal.proofs.second.on_patterns.Goals as goal
 
+pub with_patterns-requires : goal.with_patterns-requires
+with_patterns-requires g c = rw c.requires.netlist at c.in-Ok.ensures.usable
+
 pub returns-in-Ok : goal.returns-in-Ok
 returns-in-Ok g c =
     let judges = g.J.OnPatterns.judges c.args.job.now in
-    Ends-more g.K.Sink.output g.K.Sink.faults (judges c.args.net.now c.in-Ok.patterns) (OfPatterns judges c.args.net.now c.args.text.items) c.args.out.now c.with_patterns.new.out c.with_patterns.result
-    (λ own text says. inr (c.in-Ok.patterns, rw c.circuit-circuit.ensures.same at c.in-Ok.ensures.faultless, rw c.circuit-circuit.ensures.same at c.in-Ok.ensures.value, says)) c.with_patterns.ensures
+    Ends-more g.K.Sink.output g.K.Sink.faults (judges c.args.net.now c.in-Ok.patterns) (OfPatterns judges c.args.net.now c.args.reader.received) c.args.out.now c.with_patterns.new.out c.with_patterns.result
+    (λ own text says. inr (c.in-Ok.patterns, rw c.requires.netlist at c.in-Ok.ensures.faultless, rw c.requires.netlist at c.in-Ok.ensures.value, says)) c.with_patterns.ensures
 
 pub refuse_text-requires : goal.refuse_text-requires
 refuse_text-requires g c =
-    patterns-node c.circuit-circuit.result.now c.args.text.items c.in-Err.fault c.in-Err.ensures.fault
+    rw c.circuit.ensures.same (patterns-node c.args.net.now c.args.reader.received c.in-Err.fault (rw c.requires.netlist at c.in-Err.ensures.fault))
 
 pub returns-in-Err : goal.returns-in-Err
 returns-in-Err g c =
     let judges = g.J.OnPatterns.judges c.args.job.now in
-    Ends-more g.K.Sink.output g.K.Sink.faults (TextPrints (codes "patterns") c.args.net.now c.in-Err.fault) (OfPatterns judges c.args.net.now c.args.text.items) c.args.out.now c.refuse_text.new.out c.refuse_text.result
-    (λ own text says. inl (c.in-Err.fault, text-refused (HasPatternFault c.args.net.now c.args.text.items) c.in-Err.fault (rw c.circuit-circuit.ensures.same at c.in-Err.ensures.fault) says.0, says.1)) (rw c.circuit-circuit.ensures.same at c.refuse_text.ensures)
+    Ends-more g.K.Sink.output g.K.Sink.faults (TextPrints (codes "patterns") c.args.net.now c.in-Err.fault) (OfPatterns judges c.args.net.now c.args.reader.received) c.args.out.now c.refuse_text.new.out c.refuse_text.result
+    (λ own text says. inl (c.in-Err.fault, text-refused (HasPatternFault c.args.net.now c.args.reader.received) c.in-Err.fault (rw c.requires.netlist at c.in-Err.ensures.fault) says.0, says.1)) (rw c.circuit.ensures.same at c.refuse_text.ensures)

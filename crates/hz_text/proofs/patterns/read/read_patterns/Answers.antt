@@ -1,50 +1,39 @@
--- What is read behind the first lines, for the whole text.
-use Rattle.std.proofs.Common.{◌∙◌, ap, arith, sym, subst, List, ℕ}
+-- What a reader makes of the text as its one part.
+use Rattle.std.proofs.Common.{◌≤◌, length, sym, subst}
 use Rattle.std.specs.Prelude.{IfOk, IfErr, OnOk}
-use Rattle.std.proofs.lemmas.List.{length-drop}
+use Rattle.hz_line.specs.Line.{most_text_bytes}
 use Rattle.hz_text.specs.PatternFault.{IsPatternFaultless, IsPatternRefusal, IsLeastPatternFault}
-use Rattle.hz_text.specs.PatternModel.{text_behind}
-use Rattle.hz_text.specs.PatternText.{IsPatternsValue}
-use Rattle.hz_text.proofs.PatternBehindLaws.{rest-whole}
+use Rattle.hz_text.specs.PatternReading.{PatternsReceived}
+use Rattle.hz_text.specs.PatternText.{IsPatternsValue, ArePatternsFor}
+use Rattle.hz_text.proofs.PatternModelLaws.{is_received}
 use Rattle.hz_text.proofs.patterns.read.read_patterns.Goals as goal
 
-pub read_behind-requires-clause-long : goal.read_behind-requires-clause-long
-read_behind-requires-clause-long c = rw (rest-whole c.in_ok-front.front.end c.args.text.now) (omega (arith, c.requires, length-drop c.in_ok-front.front.end c.args.text.now))
-
-pub read_behind-requires-clause-few : goal.read_behind-requires-clause-few
-read_behind-requires-clause-few c = let is = rw c.inputs.ensures.inputs at c.in_ok-front.ensures.front in is.few
-
-pub read_behind-requires-clause-bits : goal.read_behind-requires-clause-bits
-read_behind-requires-clause-bits c = let is = rw c.inputs.ensures.inputs at c.in_ok-front.ensures.front in is.long
+pub finish-requires : goal.finish-requires
+finish-requires c =
+    let is = is_received c.args.circuit.now c.args.text.now c.in_ok-reader.reader c.take_part.new.self c.in_ok-reader.ensures c.in_ok-take_part.ensures.received c.in_ok-take_part.ensures.netlist in
+    subst (λ (all : PatternsReceived). length all.received ≤ most_text_bytes) (sym is) c.requires
 
 pub returns-clause-value : goal.returns-clause-value
 returns-clause-value c =
-    let is = rw c.inputs.ensures.inputs at c.in_ok-front.ensures.front in
-    let front = c.in_ok-front.front in
-    let netlist = c.args.circuit.now in
-    let P : List ℕ → Type 0 = λ text. IfOk c.read_behind.result (IsPatternsValue netlist text) in
-    subst P (ap (text_behind netlist.inputs front.count front.bits.items) (rest-whole front.end c.args.text.now) ∙ is.whole) c.read_behind.ensures.value
+    let is = is_received c.args.circuit.now c.args.text.now c.in_ok-reader.reader c.take_part.new.self c.in_ok-reader.ensures c.in_ok-take_part.ensures.received c.in_ok-take_part.ensures.netlist in
+    subst (λ (all : PatternsReceived). IfOk c.finish.result (IsPatternsValue all.netlist all.received)) is c.finish.ensures.value
+
+pub returns-clause-usable : goal.returns-clause-usable
+returns-clause-usable c =
+    let is = is_received c.args.circuit.now c.args.text.now c.in_ok-reader.reader c.take_part.new.self c.in_ok-reader.ensures c.in_ok-take_part.ensures.received c.in_ok-take_part.ensures.netlist in
+    subst (λ (all : PatternsReceived). IfOk c.finish.result (ArePatternsFor all.netlist)) is c.finish.ensures.usable
 
 pub returns-clause-faultless : goal.returns-clause-faultless
 returns-clause-faultless c =
-    let is = rw c.inputs.ensures.inputs at c.in_ok-front.ensures.front in
-    let front = c.in_ok-front.front in
-    let netlist = c.args.circuit.now in
-    let P : List ℕ → Type 0 = λ text. OnOk c.read_behind.result (IsPatternFaultless netlist text) in
-    subst P (ap (text_behind netlist.inputs front.count front.bits.items) (rest-whole front.end c.args.text.now) ∙ is.whole) c.read_behind.ensures.faultless
+    let is = is_received c.args.circuit.now c.args.text.now c.in_ok-reader.reader c.take_part.new.self c.in_ok-reader.ensures c.in_ok-take_part.ensures.received c.in_ok-take_part.ensures.netlist in
+    subst (λ (all : PatternsReceived). OnOk c.finish.result (IsPatternFaultless all.netlist all.received)) is c.finish.ensures.faultless
 
 pub returns-clause-fault : goal.returns-clause-fault
 returns-clause-fault c =
-    let is = rw c.inputs.ensures.inputs at c.in_ok-front.ensures.front in
-    let front = c.in_ok-front.front in
-    let netlist = c.args.circuit.now in
-    let P : List ℕ → Type 0 = λ text. IfErr c.read_behind.result (IsPatternRefusal netlist text) in
-    subst P (ap (text_behind netlist.inputs front.count front.bits.items) (rest-whole front.end c.args.text.now) ∙ is.whole) c.read_behind.ensures.fault
+    let is = is_received c.args.circuit.now c.args.text.now c.in_ok-reader.reader c.take_part.new.self c.in_ok-reader.ensures c.in_ok-take_part.ensures.received c.in_ok-take_part.ensures.netlist in
+    subst (λ (all : PatternsReceived). IfErr c.finish.result (IsPatternRefusal all.netlist all.received)) is c.finish.ensures.fault
 
 pub returns-clause-exact : goal.returns-clause-exact
 returns-clause-exact c =
-    let is = rw c.inputs.ensures.inputs at c.in_ok-front.ensures.front in
-    let front = c.in_ok-front.front in
-    let netlist = c.args.circuit.now in
-    λ fault h. let P : List ℕ → Type 0 = λ text. IsLeastPatternFault netlist text fault in
-    c.read_behind.ensures.exact fault (subst P (sym (ap (text_behind netlist.inputs front.count front.bits.items) (rest-whole front.end c.args.text.now) ∙ is.whole)) h)
+    let is = is_received c.args.circuit.now c.args.text.now c.in_ok-reader.reader c.take_part.new.self c.in_ok-reader.ensures c.in_ok-take_part.ensures.received c.in_ok-take_part.ensures.netlist in
+    λ fault h. c.finish.ensures.exact fault (subst (λ (all : PatternsReceived). IsLeastPatternFault all.netlist all.received fault) (sym is) h)
