@@ -119,10 +119,8 @@ def refused_memory(program, folder):
                 asked_again.append(number)
                 with open(counted) as file:
                     yield f"{words} asks for less if request {number} of {requests} is refused", file.read().split()[1], "1"
-        # A list of the library that can't grow by half asks once more, for one item: its first request may be refused. A text of patterns of
-        # more than a block is read in two parts, and has one such list more.
-        most = 4 if words[-1] == "many.patterns" else 3
-        yield f"{words} is out of memory at all but {most} requests at most", asked_again[most:], []
+        # A list of the library that can't grow by half asks once more, for one item: its first request may be refused.
+        yield f"{words} is out of memory at all but three requests at most", asked_again[3:], []
         status, text = run(program, words, folder, env={**around, "REFUSED": str(requests + 1)})
         yield f"{words} with no request left to refuse", (status, text), whole
 
