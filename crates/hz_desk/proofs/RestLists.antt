@@ -1,6 +1,6 @@
 -- What lists of values and bits tell that variables rest at, and the rows of variables that do.
-use Rattle.std.proofs.Common.{◌≡◌, ◌≢◌, ◌∙◌, refl, sym, ap, ℕ, ◌<◌, Bool, true, false, Option, Some, None, List, length, map, set, replicate, get_or, get_or-set_same, get_or-set_other, length-set, arith, inl, inr}
-use Rattle.std.specs.List.{slice_get, slice_index_or, range_with_len}
+use Rattle.std.proofs.Common.{◌≡◌, ◌≢◌, ◌∙◌, refl, sym, ap, ℕ, ◌<◌, Bool, true, false, Option, Some, None, List, length, set, replicate, get_or, get_or-set_same, get_or-set_other, length-set, arith, inl, inr}
+use Rattle.std.specs.List.{slice_get, slice_index_or}
 use Rattle.std.proofs.lemmas.Bool.{cases_eq}
 use Rattle.std.proofs.lemmas.List.{get_or-replicate, length-replicate}
 use Rattle.std.proofs.lemmas.List.FromFn.{fill_by_all, get_or-map-range_with_len, length-map-range_with_len}

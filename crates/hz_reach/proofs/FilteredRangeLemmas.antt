@@ -1,5 +1,5 @@
 -- The variables that pass a test: which they are, that none comes twice, and how they are marked one after the other.
-use Rattle.std.proofs.Common.{◌≡◌, ◌≢◌, ℕ, zero, suc, ◌+◌, ◌<◌, Bool, true, false, cond, List, [], ◌∷◌, ◌++◌, length, refl, sym, ap, ◌∙◌, subst, arith, inl, inr, eqb, length-append, append-nil, append_assoc, add-one, filter}
+use Rattle.std.proofs.Common.{◌≡◌, ◌≢◌, ℕ, zero, suc, ◌+◌, ◌<◌, Bool, true, false, cond, List, [], ◌∷◌, ◌++◌, length, refl, sym, ap, ◌∙◌, arith, inl, inr, eqb, length-append, append-nil, append_assoc, add-one, filter}
 use Rattle.hz_reach.proofs.Words.{range_with_len, filter-append, length-range_with_len, or_cases, or_left, false_from_ne_true, differs, is_listed}
 use Rattle.hz_reach.proofs.Words.{IsRepeatFree, Contains-listed, listed-Contains, filtered_range, listed-cases, is_repeat_free-append, is_repeat_free-bound}
 use Rattle.hz_reach.proofs.Words.{Ascends, ascends-lower, ascends-filter, ascends-once, filtered-is, is-filtered, get_or-range_with_len}

@@ -1,5 +1,5 @@
 -- What comes before the block is 0, and so is all of the block.
-use Rattle.std.proofs.Common.{◌≡◌, ◌∙◌, ◌+◌, ◌-◌, ap, sym, arith, inl, inr, ℕ, slice_index}
+use Rattle.std.proofs.Common.{◌≡◌, ◌∙◌, ◌+◌, ◌-◌, ap, arith, inl, inr, slice_index}
 use Rattle.std.proofs.lemmas.Bool.{cases_lt}
 use Rattle.hz_pass.proofs.noted.forget_block.Goals as goal
 

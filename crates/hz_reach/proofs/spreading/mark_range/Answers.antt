@@ -1,5 +1,5 @@
 -- One variable more is marked, or not.
-use Rattle.std.proofs.Common.{◌≡◌, ◌∙◌, ◌≤◌, ◌-◌, ◌+◌, ◌++◌, ℕ, Bool, List, length, sym, ap, arith, append_assoc, append-nil, inl, inr, [], ◌∷◌, cond}
+use Rattle.std.proofs.Common.{◌≡◌, ◌∙◌, ◌-◌, ◌+◌, ◌++◌, ℕ, Bool, List, ap, arith, append_assoc, inl, inr, [], ◌∷◌, cond}
 use Rattle.hz_reach.proofs.Words.{filtered_range, listed-cases}
 use Rattle.hz_reach.specs.Turn.{is_unchanged}
 use Rattle.hz_reach.proofs.FilteredRangeLemmas.{filtered_range-below, filtered_range-next}

@@ -1,10 +1,7 @@
 -- A common row is written over that of its node; before another row the lines so far are given.
-use Rattle.std.proofs.Common.{◌≡◌, ◌∙◌, ◌+◌, ◌<◌, ◌≤◌, length, sym, ap, subst, arith, Option, Some, slice_get}
-use Rattle.std.specs.Prelude.{IfSome}
+use Rattle.std.proofs.Common.{◌≡◌, ◌∙◌, ◌+◌, ◌<◌, ◌≤◌, length, sym, subst, arith}
 use Rattle.hz_net.proofs.Places.{length-network_of}
 use Rattle.hz_write.proofs.Writers.{writes_nothing, writes_same, writes_then}
-use Rattle.hz_desk.specs.declared.finding.Rest.{Rest}
-use Rattle.hz_desk.specs.RowsOf.{row_at_rest}
 use Rattle.hz_report.specs.Kept.{AreLines}
 use Rattle.hz_report.proofs.ShownLemmas.{put-begin, put-skip, put-set, put-stay-many, put-under}
 use Rattle.hz_report.proofs.KeptLemmas.{kept-lines, lines-joined}

@@ -1,5 +1,5 @@
 -- What is seen in the lists of both.
-use Rattle.std.proofs.Common.{◌≡◌, ◌∙◌, ◌+◌, ◌<◌, ◌≤◌, ℕ, Bool, Option, None, Some, List, sym, ap, subst, length, get_or, arith}
+use Rattle.std.proofs.Common.{◌≡◌, ◌∙◌, ◌+◌, ℕ, Bool, Option, None, Some, List, sym, ap, subst, length, get_or, arith}
 use Rattle.std.specs.List.{slice_get, slice_index_or}
 use Rattle.hz_core.specs.declared.tri.Tri.{Tri}
 use Rattle.hz_core.specs.Ternary.{tri_of}

@@ -1,7 +1,7 @@
 -- What is told of one variable is written into both lists.
-use Rattle.std.proofs.Common.{◌≡◌, ◌∙◌, ap, length, set, Bool, List, Option, arith}
+use Rattle.std.proofs.Common.{◌∙◌, ap, length, set, Bool, List, Option, arith}
 use Rattle.hz_desk.specs.declared.finding.Rest.{Rest}
-use Rattle.hz_desk.specs.RestsOf.{value_told, counted_told, rests_of}
+use Rattle.hz_desk.specs.RestsOf.{value_told, rests_of}
 use Rattle.hz_core.specs.declared.tri.Tri.{Tri}
 use Rattle.hz_desk.proofs.RestLists.{length-rests, rests-set}
 use Rattle.hz_desk.proofs.rests.Rests.set.Goals as goal

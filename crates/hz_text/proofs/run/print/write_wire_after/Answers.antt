@@ -1,5 +1,5 @@
 -- The name of the gate, and the pin in parentheses.
-use Rattle.std.proofs.Common.{◌≡◌, ◌+◌, ◌∷◌, [], ◌++◌, ap, sym, ◌∙◌, refl, append_assoc, decimal, List, ℕ}
+use Rattle.std.proofs.Common.{◌+◌, ◌∷◌, [], ◌++◌, ap, sym, ◌∙◌, refl, append_assoc, decimal, List, ℕ}
 use Rattle.hz_write.proofs.Writers.{writes_same, writes_then}
 use Rattle.hz_text.proofs.RunPrintLemmas.{pin_of_digit}
 use Rattle.hz_text.proofs.run.print.write_wire_after.Goals as goal
