@@ -113,7 +113,10 @@ impl<'r, R: rt::Files> Files for DiskFiles<'r, R> {
             (λ fault. self.new ≡ disk_after_fault self.old place fault) }
     {
         let loaded = match fs::open(self.rt, name) {
-            Ok(mut file) => pass_on_by_parts(alloc, &mut file, most, receiver),
+            Ok(mut file) => {
+                let told = told_size(&file).min(most);
+                pass_on_by_parts(alloc, &mut file, told, most, receiver)
+            }
             Err(_) => Err(LoadFault::Failed),
         };
         if let Err(fault) = &loaded {
@@ -163,10 +166,12 @@ fn read_up_to<R: Read>(
     Err(LoadFault::TooLong)
 }
 
-/// Gives a receiver what each read gives, until a read gives nothing or more than `most` bytes came. One buffer is used again for each part.
+/// Gives a receiver what each read gives, until a read gives nothing or more than `most` bytes came. It hears before how many bytes are
+/// told. One buffer is used again for each part.
 fn pass_on_by_parts<R: Read, T: Receive>(
     alloc: Global,
     reader: &mut R,
+    told: usize,
     most: usize,
     receiver: &mut T,
 ) -> Result<(), LoadFault>
@@ -179,6 +184,9 @@ fn pass_on_by_parts<R: Read, T: Receive>(
     ensures over { result ≡ Err LoadFault.TooLong →
         IfSome (R.remaining reader.old) (λ left. most < length left) }
 {
+    let Ok(()) = receiver.expect(told) else {
+        return Err(LoadFault::Memory);
+    };
     let Ok(mut buffer) = vec![in alloc; 0; READ_SIZE] else {
         return Err(LoadFault::Memory);
     };

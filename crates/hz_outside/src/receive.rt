@@ -13,6 +13,14 @@ pub trait Receive {
 
     ghost fixed: { Self → Fixed };
 
+    /// Hears how many bytes are likely to come, and may take room for them. By default it takes none.
+    fn expect(&mut self, _bytes: usize) -> Result<(), Memory>
+        ensures received { OnOk result (received self.new ≡ received self.old) }
+        ensures fixed { fixed self.new ≡ fixed self.old }
+    {
+        Ok(())
+    }
+
     /// Takes the bytes that follow those taken so far. After a refusal nothing is said of what was received.
     fn receive(&mut self, part: &[u8]) -> Result<(), Memory>
         ensures received { OnOk result (received self.new ≡ received self.old ++ part.now) }

@@ -8,7 +8,7 @@ ghost use Rattle.hz_text.specs.PatternText.{IsPatternsValue, ArePatternsFor};
 use crate::fault::TextFault;
 use crate::patterns::printed::{Front, ZeroLines, take_lines, zero_lines};
 use crate::patterns::read::read_behind;
-use crate::patterns::value::Patterns;
+use crate::patterns::value::{MAX_PATTERNS, Patterns};
 use hz_core::{Circuit, Memory};
 use hz_outside::Receive;
 use std::alloc::Global;
@@ -92,6 +92,17 @@ impl<'c> PatternReader<'c> {
         self.take_behind(rest)
     }
 
+    // Takes room for the bits of a text of so many bytes, if its lines are as they are printed.
+    fn make_room(&mut self, bytes: usize) -> Result<(), Memory>
+        ensures received { OnOk result (self.new.received ≡ self.old.received) }
+        ensures netlist { self.new.netlist ≡ self.old.netlist }
+    {
+        let inputs = self.circuit.inputs() as usize;
+        let lines = (bytes / (10 + 2 * inputs)).min(MAX_PATTERNS);
+        self.front.bits.reserve(lines * (2 * inputs))?;
+        Ok(())
+    }
+
     // How many bytes the line that waits lacks.
     fn lacks(&self) -> usize {
         if !self.printed || self.waiting.is_empty() {
@@ -145,6 +156,13 @@ impl<'c> Receive for PatternReader<'c> {
     ghost Fixed = { Netlist };
 
     ghost fixed = { λ reader. reader.netlist };
+
+    fn expect(&mut self, bytes: usize) -> Result<(), hz_outside::Memory> {
+        match self.make_room(bytes) {
+            Ok(()) => Ok(()),
+            Err(_) => Err(hz_outside::Memory),
+        }
+    }
 
     fn receive(&mut self, part: &[u8]) -> Result<(), hz_outside::Memory> {
         match self.take_part(part) {
