@@ -22,7 +22,13 @@ fn main(rt: HostRuntime) -> ExitCode {
     let mut out = Heard::new(Gathered::new(StdSink::new(&rt)));
     let status = run(rt.alloc(), words.as_slice(), &mut files, &mut out);
     if let Some(refused) = refusal_of(status) {
-        tell(&rt, words.as_slice(), out.first(), refused);
+        tell(
+            &rt,
+            words.as_slice(),
+            out.first(),
+            files.first_lines(),
+            refused,
+        );
     }
     ExitCode::from(status.code())
 }

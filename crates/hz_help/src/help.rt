@@ -1,10 +1,10 @@
 //! What a person needs next after a refusal, on standard error. No contract speaks of it.
 
-use hz_outside::Place;
+use hz_outside::{FirstLines, Place};
 use hz_words::Job;
 use std::alloc::{AllocError, Global};
 use std::fs;
-use std::io::Read;
+use std::io::{Read, Seek, SeekFrom};
 
 /// The version of the program.
 const VERSION: &str = "1.0.0";
@@ -63,11 +63,18 @@ pub enum Refusal {
     Memory,
 }
 
-/// Says on standard error what a person needs next. `first` is the beginning of what was written.
-pub fn tell(rt: &HostRuntime, words: &[String], first: &[u8], refused: Refusal) {
+/// Says on standard error what a person needs next. `first` is the beginning of what was written, and `read` are the lines of the second
+/// file that were read before its end was.
+pub fn tell(
+    rt: &HostRuntime,
+    words: &[String],
+    first: &[u8],
+    read: FirstLines,
+    refused: Refusal,
+) {
     match refused {
         Refusal::Words => tell_usage(rt),
-        Refusal::Text { place } => tell_line(rt, words, first, place),
+        Refusal::Text { place } => tell_line(rt, words, first, read, place),
         Refusal::File => tell_unread(rt, words, first),
         Refusal::TooLong => tell_long(rt, words, first),
         Refusal::Sink => tell_unwritten(rt),
@@ -99,7 +106,7 @@ fn tell_usage(rt: &HostRuntime) {
 }
 
 // The line of the text that has the fault, if it has one.
-fn tell_line(rt: &HostRuntime, words: &[String], first: &[u8], place: Place) {
+fn tell_line(rt: &HostRuntime, words: &[String], first: &[u8], read: FirstLines, place: Place) {
     let Some(number) = line_number(first) else {
         return;
     };
@@ -113,7 +120,7 @@ fn tell_line(rt: &HostRuntime, words: &[String], first: &[u8], place: Place) {
         let _ = eprintln!(rt; "{shown}:{number}: (no plain file, so its line can't be shown)");
         return;
     }
-    let Some(line) = read_line(rt, name, number) else {
+    let Some(line) = read_line(rt, name, number, read) else {
         return;
     };
     let Ok(line) = visible(rt.alloc(), shown_of(line.as_slice())) else {
@@ -187,11 +194,20 @@ fn line_number(first: &[u8]) -> Option<usize> {
 }
 
 // The first bytes of the line with a number, which is counted from 1. The file is read part by part, since only that line is
-// wanted of it.
-fn read_line(rt: &HostRuntime, name: &str, number: usize) -> Option<Vec<u8>> {
+// wanted of it, and from behind its first lines if the line stands there.
+fn read_line(
+    rt: &HostRuntime,
+    name: &str,
+    number: usize,
+    first: FirstLines,
+) -> Option<Vec<u8>> {
     let mut file = fs::open(rt, name).ok()?;
     let mut part = [0; READ_SIZE];
     let mut before = number.checked_sub(1)?;
+    if let Some(behind) = before.checked_sub(first.lines) {
+        file.seek(SeekFrom::Start(first.bytes as u64)).ok()?;
+        before = behind;
+    }
     let mut line = Vec::new(rt.alloc());
     for _read in 0..MOST {
         let count = file.read(&mut part).ok()?;

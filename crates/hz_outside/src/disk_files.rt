@@ -6,7 +6,7 @@ ghost use Rattle.hz_outside.specs.DiskFiles.{empty_disk, disk_after_fault};
 use super::counts::PlaceCounts;
 use super::fault::{LoadFault, Memory, Place};
 use super::files::Files;
-use super::receive::Receive;
+use super::receive::{FirstLines, Receive};
 use std::alloc::Global;
 use std::fs::OpenFile;
 use std::io::Read;
@@ -22,6 +22,7 @@ pub struct DiskFiles<'r, R: rt::Files> {
     rt: &'r R,
     faults: PlaceCounts,
     longs: PlaceCounts,
+    first_lines: FirstLines,
 }
 
 impl<'r, R: rt::Files> Model for DiskFiles<'r, R> {
@@ -41,7 +42,13 @@ impl<'r, R: rt::Files> DiskFiles<'r, R> {
             rt,
             faults: PlaceCounts::new(),
             longs: PlaceCounts::new(),
+            first_lines: FirstLines { lines: 0, bytes: 0 },
         }
+    }
+
+    /// The first lines of the file that was given to a receiver last, as far as that has read them. They are none if no file was.
+    pub fn first_lines(&self) -> FirstLines {
+        self.first_lines
     }
 
     /// Counts a fault at a place.
@@ -119,6 +126,7 @@ impl<'r, R: rt::Files> Files for DiskFiles<'r, R> {
             }
             Err(_) => Err(LoadFault::Failed),
         };
+        self.first_lines = receiver.first_lines();
         if let Err(fault) = &loaded {
             self.count(place, *fault);
         }

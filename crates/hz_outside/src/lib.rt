@@ -39,6 +39,6 @@ pub use mem_files::MemFiles;
 pub use mem_sink::MemSink;
 pub use plain_files::PlainFiles;
 pub use plain_sink::PlainSink;
-pub use receive::Receive;
+pub use receive::{FirstLines, Receive};
 pub use sink::Sink;
 pub use std_sink::StdSink;

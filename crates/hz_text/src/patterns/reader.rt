@@ -10,7 +10,7 @@ use crate::patterns::printed::{Front, ZeroLines, take_lines, zero_lines};
 use crate::patterns::read::read_behind;
 use crate::patterns::value::{MAX_PATTERNS, Patterns};
 use hz_core::{Circuit, Memory};
-use hz_outside::Receive;
+use hz_outside::{FirstLines, Receive};
 use std::alloc::Global;
 use std::marker::Model;
 
@@ -168,6 +168,15 @@ impl<'c> Receive for PatternReader<'c> {
         match self.take_part(part) {
             Ok(()) => Ok(()),
             Err(_) => Err(hz_outside::Memory),
+        }
+    }
+
+    // The lines whose bits alone are kept.
+    fn first_lines(&self) -> FirstLines {
+        let width = 10 + 2 * self.circuit.inputs() as usize;
+        FirstLines {
+            lines: self.front.count,
+            bytes: self.front.count * width,
         }
     }
 }
