@@ -1,5 +1,5 @@
-//! Whole calls over files and a sink in memory, with ample memory: each put of each job fails in turn. What a job prints on real
-//! files, and how it refuses them, stands in `tests/run`.
+//! Whole calls over files and a sink in memory, with ample memory: each put of each job fails in turn, and so do loads. What a job
+//! prints on real files, and how it refuses them, stands in `tests/run`.
 
 use super::{Status, run};
 use hz_outside::{MemFiles, MemSink};
@@ -48,16 +48,26 @@ fn words_of(alloc: Global, line: &str) -> Result<Vec<String>, Fail> {
     Ok(words)
 }
 
-// Calls the program with words. The put of this number fails, and of number 0 none does; the put that fails takes so many bytes.
-fn call(
-    alloc: Global,
-    words: &[String],
+// What fails: the load and the put of these numbers, of number 0 none. The put takes so many bytes of its piece.
+#[derive(Clone, Copy)]
+struct Failing {
+    load: u64,
     put: u64,
     taken: usize,
-) -> Result<(Status, MemSink), Fail> {
+}
+
+const NOTHING: Failing = Failing {
+    load: 0,
+    put: 0,
+    taken: 0,
+};
+
+// Calls the program with words.
+fn call(alloc: Global, words: &[String], failing: Failing) -> Result<(Status, MemSink), Fail> {
     let mut files = files_of(alloc)?;
+    files.fail(failing.load)?;
     let mut out = MemSink::new(alloc);
-    out.fail(put, taken)?;
+    out.fail(failing.put, failing.taken)?;
     let status = run(alloc, words, &mut files, &mut out);
     Ok((status, out))
 }
@@ -66,7 +76,12 @@ fn call(
 fn fail_puts(alloc: Global, words: &[String], taken: usize, whole: &[u8]) -> Result<(), Fail> {
     let mut before = 0;
     for put in 1..1_000 {
-        let (status, out) = call(alloc, words, put, taken)?;
+        let failing = Failing {
+            load: 0,
+            put,
+            taken,
+        };
+        let (status, out) = call(alloc, words, failing)?;
         match length_of_front(status, out.bytes(), before, taken, whole)? {
             Some(length) => before = length,
             None => return Ok(()),
@@ -110,7 +125,7 @@ fn is_of_one_line(piece: &[u8]) -> Result<(), Fail> {
 // A put that fails takes no byte, one byte, or all that it gets. If none does, the job has this exit code.
 fn try_job(alloc: Global, line: &str, code: u8) -> Result<(), Fail> {
     let words = words_of(alloc, line)?;
-    let (status, whole) = call(alloc, &words, 0, 0)?;
+    let (status, whole) = call(alloc, &words, NOTHING)?;
     if status.code() != code {
         return Err("another status".into());
     }
@@ -139,4 +154,58 @@ fn each_put_fails(rt: HostRuntime) -> Result<(), Fail> {
         try_job(rt.alloc(), line, code)?;
     }
     Ok(())
+}
+
+// With what fails, a job has this exit code, and what was put is this text; or, if a put fails, as many bytes off its front as that took.
+fn try_failing(
+    alloc: Global,
+    line: &str,
+    failing: Failing,
+    code: u8,
+    text: &[u8],
+) -> Result<(), Fail> {
+    let words = words_of(alloc, line)?;
+    let (status, out) = call(alloc, &words, failing)?;
+    if status.code() != code {
+        return Err("another status".into());
+    }
+    let front = if failing.put == 0 {
+        text
+    } else {
+        text.get(..failing.taken).ok_or("a short text")?
+    };
+    if out.bytes() != front {
+        return Err("another text".into());
+    }
+    Ok(())
+}
+
+#[test]
+fn loads_fail(rt: HostRuntime) -> Result<(), Fail> {
+    const FIRST: &[u8] = b"refused: first file not read\n";
+    const SECOND: &[u8] = b"refused: second file not read\n";
+    const NETLIST: &[u8] = b"refused: netlist line 1: form\n";
+    // a job, the number of the load that fails, of the put that fails, and the bytes that it takes; then the exit code and the text
+    let rows = [
+        ("analyse latch race", 1, 0, 0, 6, FIRST),
+        ("analyse latch race", 2, 0, 0, 6, SECOND),
+        ("analyse latch race", 2, 1, 0, 8, SECOND),
+        ("analyse latch race", 2, 1, 3, 8, SECOND),
+        ("replay n r", 2, 0, 0, 6, SECOND),
+        ("batch n p", 2, 0, 0, 6, SECOND),
+        ("reset n p", 1, 0, 0, 6, FIRST),
+        ("analyse bad s", 2, 0, 0, 3, NETLIST),
+        ("analyse bad s", 0, 1, 3, 8, NETLIST),
+    ];
+    for (line, load, put, taken, code, text) in rows {
+        try_failing(rt.alloc(), line, Failing { load, put, taken }, code, text)?;
+    }
+    let words = words_of(rt.alloc(), "demo 1")?;
+    let (_, whole) = call(rt.alloc(), &words, NOTHING)?;
+    let failing = Failing {
+        load: 1,
+        put: 0,
+        taken: 0,
+    };
+    try_failing(rt.alloc(), "demo 1", failing, 0, whole.bytes())
 }
