@@ -31,14 +31,19 @@ MULTIPLEXER = "module top(input s, x, y, output z);\n  assign z = (s & x) | (~s 
 MAPPED = "module top(input s, x, y, output z);\n  MUX2 cell1(.S(s), .A(y), .B(x), .Z(z));\nendmodule\n"
 CELLS = "module MUX2(input S, A, B, output Z);\n  assign Z = (~S & A) | (S & B);\nendmodule\n"
 SCRIPT = "start s=1 x=1 y=1\nchange s=0\n"
+# a pulse generator, whose inverters an optimiser takes away
+PULSE = "module top(input a, output z);\n  wire b = ~a, c = ~b, d = ~c;\n  assign z = a & d;\nendmodule\n"
+# a multiplexer behind a flip-flop, with a row that covers its hazard
+MACHINE = ".model machine\n.inputs ck x y\n.outputs z\n.latch z s re ck 1\n.names s x y z\n11- 1\n0-1 1\n-11 1\n.end\n"
 # a flip-flop with set and reset
 SET_RESET = "module top(input ck, s, r, d, output reg q);\n  always @(posedge ck or posedge s or posedge r) if (r) q <= 0; else if (s) q <= 1; else q <= d;\nendmodule\n"
 # what USING says of gates with a cover that Yosys wrote and ABC reads, and writes as .bench
 PASSES = {"strash": "steady", "strash; fraig": "static", "collapse; strash": "static"}
 # the files that the reader of the page has
-FILES = {"controller.v": MULTIPLEXER, "top.v": MULTIPLEXER, "mapped.v": MAPPED, "cells.v": CELLS, "script.txt": SCRIPT}
+FILES = {"controller.v": MULTIPLEXER, "top.v": MULTIPLEXER, "mapped.v": MAPPED, "cells.v": CELLS, "script.txt": SCRIPT, "pulse.v": PULSE,
+         "machine.blif": MACHINE}
 # what a block leaves: a file, and how it begins or what it has
-LEFT = {"controller.blif": ".names", "controller.bench": "INPUT(s)", "top.bench": "INPUT(s)", "cover.runs": "runs 2\n", "cover.vcd": "$timescale",
+LEFT = {"controller.blif": ".names", "pulse.blif": ".names a d z", "machine.bench": "s = DFF(z)", "controller.bench": "INPUT(s)", "top.bench": "INPUT(s)", "cover.runs": "runs 2\n", "cover.vcd": "$timescale",
         "answers/0000": "patterns 4 open 0 unstable 0 unsettled 0\n", "circuits/one.report": "z start 1 A X B 1 changes 2 static\n"}
 # changes of which some settle, one is static, and the last but one is stopped
 CHANGES = "start r=1 s=0\nchange r=0\nchange s=1\nchange s=0\nchange s=1 r=1\nchange s=0 r=0\nchange r=1\n"
@@ -143,6 +148,30 @@ def synthesis_rows(program, companion, folder):
     for words, status in (("", 3), ("; async2sync", 0)):
         text = f'yosys -q -p "read_verilog set.v; synth -flatten -top top{words}; write_json set.json"\nhazard-look from-yosys set.json'
         yield f"{USING}: {text}", shell(text, folder, env), status
+    yield from _gates_that_stay(page, folder, env)
+
+
+def _gates_that_stay(page, folder, env):
+    """Of the commands that keep each gate of a pulse generator, and each row of a BLIF with a flip-flop: the class of `z`. What the
+    page warns of is so."""
+    blocks = [text for text in re.findall(r"^```sh\n(.*?)^```$", page, re.S | re.M) if "pulse.v" in text or "machine.blif" in text]
+    yield f"{USING}: commands that keep gates", len(blocks), 2
+    keep, rows = blocks
+    write(folder, "p.txt", "start a=0\nchange a=1\n")
+    write(folder, "m.txt", "start ck=0 x=1 y=1 s=1\nchange s=0\n")
+    constants = "start ck=0 x=1 y=1 const0=0 const1=1 s=1\nchange s=0\n"
+    write(folder, "c.txt", constants)
+    bare = MACHINE.replace("-11 1\n", "")
+    optimised = keep.replace("hierarchy -auto-top; flatten; simplemap;", "synth -flatten -noabc;")
+    lookup = rows.replace("-sop ", "")
+    cases = [("pulse.v", PULSE, keep, "pulse.blif p.txt", ["static"]), ("pulse.v", PULSE, optimised, "pulse.blif p.txt", []),
+             ("machine.blif", MACHINE, rows, "machine.bench m.txt", ["steady"]), ("machine.blif", bare, rows, "machine.bench m.txt", ["static"]),
+             ("machine.blif", bare, lookup, "machine.bench c.txt", ["steady"])]
+    for name, source, text, words, kinds in cases:
+        write(folder, name, source)
+        status = shell(text, folder, env)
+        shell(f"hazard analyse {words} > n.report || true", folder, env)
+        yield f"{USING}: {text}", (status, re.findall(r"^z start .* (\S+)$", read(folder, "n.report"), re.M)), (0, kinds)
 
 
 def refused_lines(program, companion, folder):

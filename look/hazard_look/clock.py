@@ -11,6 +11,8 @@ from . import script
 from .circuit import load
 from .errors import DOES_NOT_HOLD, DONE, SCRIPT_FAULT, Failure, read_file
 from .lines import spelt
+from .one_edge import one_edge
+from .summary import is_clean
 
 _CLOCK = re.compile(r"\bclock (\S+) (rising|falling)\b")
 _RESET = re.compile(r"\breset (\S+)=([01]) to ([01])(?!\S)")
@@ -68,10 +70,10 @@ class _Writer:
 
     def _warn_of_pulses(self, rows, number):
         """Warns of clocks and resets that may pulse: a flip-flop may take a pulse for an edge or a reset, and the script does not."""
-        found = {}
+        found, edges = {}, one_edge(self.circuit, rows)
         for cut in self.circuit.cuts:
             clock, reset = _CLOCK.search(cut.comment), _RESET.search(cut.comment)
-            if clock and rows[clock[1]].kind in ("static", "maybe-dynamic"):
+            if clock and not is_clean(rows[clock[1]], edges):
                 found.setdefault(f"the clock {clock[1]} may pulse, and the script has no edge for it", []).append(cut.name)
             if reset and rows[reset[1]].kind == "static" and rows[reset[1]].start != reset[2]:
                 found.setdefault(f"the reset {reset[1]} may pulse, and the script resets nothing", []).append(cut.name)

@@ -4,7 +4,7 @@ from functools import cached_property
 from typing import NamedTuple, Union
 
 from . import runtext, script
-from .circuit import load
+from .circuit import load, no_node
 from .errors import DOES_NOT_HOLD, DONE, WRONG_WORDS, Failure, read_file
 from .lines import assigned
 from .network import Network
@@ -100,14 +100,14 @@ def _read_item(words, circuit):
         strange = [name for name in values or () if name not in circuit.nodes]
         if not values:
             return "after `never` stand assignments, as in `never g1=1 g2=1`"
-        return f"no node is named {strange[0]}" if strange else Never(values)
+        return no_node(circuit, strange[0]) if strange else Never(values)
     if len(words) % 2 or words[2::2] != ["or"] * (len(words) // 2 - 1) or not words:
         return (f"`{' '.join(words)}` is no expectation: `NODE CLASS`, `NODE CLASS or CLASS`, `never NODE=BIT ..`, `settled`; "
                 "a remark begins with another #")
     strange = [word for word in words[1::2] if word not in CLASSES + (CLEAN,)]
     if strange:
         return f"no class is named {strange[0]}; the classes are {', '.join(CLASSES + (CLEAN,))}"
-    return Class(words[0], words[1::2]) if words[0] in circuit.nodes else f"no node is named {words[0]}"
+    return Class(words[0], words[1::2]) if words[0] in circuit.nodes else no_node(circuit, words[0])
 
 
 def _values(words):

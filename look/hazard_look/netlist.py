@@ -2,10 +2,13 @@
 
 Only texts that `hazard` has accepted are read here, so a fault is not looked for.
 """
+import re
 from typing import NamedTuple
 
 from .lines import lines_of
 
+# What `from-yosys` writes behind an output whose node has the name of another port.
+_OTHER_NAME = re.compile(r"#\s*(\S+) of the design$")
 INVERTED = {"NAND": "AND", "NOR": "OR", "XNOR": "XOR", "NOT": "BUFF"}
 
 
@@ -26,13 +29,15 @@ class Cut(NamedTuple):
 
 
 class Netlist:
-    """A circuit. Its nodes are its inputs, its flip-flops and its gates, in this order, as in a report."""
+    """A circuit. Its nodes are its inputs, its flip-flops and its gates, in this order, as in a report. `other_names` are those that
+    a design has for some nodes."""
 
-    def __init__(self, primary, cuts, gates, outputs):
+    def __init__(self, primary, cuts, gates, outputs, other_names=None):
         self.primary, self.cuts, self.gates, self.outputs = primary, cuts, gates, outputs
         self.inputs = primary + [cut.name for cut in cuts]
         self.nodes = self.inputs + [gate.name for gate in gates]
         self.gate_of = {gate.name: gate for gate in gates}
+        self.other_names = other_names or {}
 
     def sources(self, node):
         """The nodes that a node reads: none for an input."""
@@ -111,7 +116,7 @@ def _taken(stack, node, low):
 
 def read(text):
     """The netlist of a text that `hazard` has accepted."""
-    primary, cuts, gates, outputs = [], [], [], []
+    primary, cuts, gates, outputs, other_names = [], [], [], [], {}
     for line in lines_of(text):
         tokens = line.tokens
         if not tokens:
@@ -120,9 +125,12 @@ def read(text):
             primary.append(tokens[2])
         elif tokens[1] != "=":
             outputs.append(tokens[2])
+            found = _OTHER_NAME.match(line.comment)
+            if found:
+                other_names[found[1]] = tokens[2]
         elif tokens[2].upper() == "DFF":
             cuts.append(Cut(tokens[0], tokens[4], line.comment))
         else:
             kind = tokens[2].upper()
             gates.append(Gate(tokens[0], "BUFF" if kind == "BUF" else kind, tokens[4:-1:2]))
-    return Netlist(primary, cuts, gates, outputs)
+    return Netlist(primary, cuts, gates, outputs, other_names)

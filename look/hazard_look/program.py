@@ -12,7 +12,7 @@ from .errors import NAME_NOT_READ, NO_PROGRAM, NOT_ACCEPTED, OUTPUT_FAILED, SCRI
 VARIABLE = "HAZARD"
 # What helps after a refusal: how its line goes on behind `refused: `, and a remark for the same line.
 HINTS = (
-    (r"netlist line \d+: construct", "flip-flops, latches and cells come by way of `write_json` of Yosys and `hazard-look from-yosys`"),
+    (r"netlist line \d+: construct", "flip-flops, latches and cells come by way of Yosys, `read_blif -sop`, and `hazard-look from-yosys`"),
     (r"netlist line \d+: constant", "let it be an input, which the script never changes; `hazard-look from-yosys` does so"),
     (r"netlist line \d+: undefined name", "nothing drives it; an input has a line `INPUT(NAME)`, or stands behind `.inputs`"),
     (r"script line \d+: unknown name", "a start assigns nodes of the netlist, a change inputs and flip-flops alone"),

@@ -1,5 +1,5 @@
 """The job `summary`: a line for each change of a script, and a sentence for each node that may do more than one clean edge."""
-from .circuit import load
+from .circuit import load, no_node
 from .errors import DONE, WRONG_WORDS, Failure
 from .one_edge import one_edge
 from .script import must_be_written_out
@@ -40,7 +40,7 @@ def _chosen(only, circuit):
     names = circuit.nodes if only is None else only.split(",")
     strange = sorted(set(names) - set(circuit.nodes))
     if strange:
-        raise Failure(f"--only: no node is named {', '.join(name or '``' for name in strange)}", WRONG_WORDS)
+        raise Failure(f"--only: {no_node(circuit, *strange)}", WRONG_WORDS)
     return set(names)
 
 

@@ -3,7 +3,7 @@ from typing import List, NamedTuple
 
 from . import runtext
 from .causes import MOST_NAMED, events_of, races, sentence
-from .circuit import load
+from .circuit import load, no_node
 from .errors import DONE, OUTPUT_FAILED, WRONG_WORDS, Failure
 from .network import Network
 from .one_edge import one_edge
@@ -32,7 +32,7 @@ def run(words, out):
     must_be_written_out(words.script)
     circuit = load(words.netlist)
     if words.node not in circuit.nodes:
-        raise Failure(f"no node is named {words.node}", WRONG_WORDS)
+        raise Failure(no_node(circuit, words.node), WRONG_WORDS)
     change = _change(words, report, circuit)
     row = change.rows[words.node]
     edges = one_edge(circuit, change.rows)

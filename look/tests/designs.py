@@ -45,6 +45,8 @@ def rows(folder, call, run, hazard, expected):
     yield from _enumerated(folder, run)
     yield from _joined_at_random()
     yield from _joined(folder, run)
+    yield from _other_names(folder, run)
+    yield from _clock_behind_feedback(folder, run)
 
 
 def _beside_iverilog(folder, name, written, bench, hazard):
@@ -268,3 +270,29 @@ def _joined(folder, run):
     subprocess.run(["yosys", "-q", "-p", words], cwd=folder, stdout=subprocess.DEVNULL, stderr=subprocess.DEVNULL, check=True)
     status, found, _ = run(["from-yosys", "--join", "join.json"], folder)
     yield "joined gates of yosys", (status, dict(line.split(" = ") for line in found.splitlines() if " = " in line)), (0, wanted)
+
+
+def _write(folder, name, text):
+    """A file with a text, by its path."""
+    path = os.path.join(folder, name)
+    with open(path, "w", encoding="utf-8") as file:
+        file.write(text)
+    return path
+
+
+def _other_names(folder, run):
+    """An output that shares its node with another one is asked for by the name that the design has for it."""
+    bench = _write(folder, "other.bench", "INPUT(a)\nOUTPUT(z)  # y[3] of the design\nOUTPUT(z)\nz = NOT(a)\n")
+    text = _write(folder, "other.txt", "start a=0\nchange a=1 #expect y[3] clean\n")
+    for words, front in ((["summary", bench, text, "--only", "y[3]"], "--only: "), (["why", bench, text, "y[3]"], ""),
+                         (["expect", bench, text], "script line 2: ")):
+        yield f"{words[0]} of a node with another name", run(words, folder), (2, "", f"hazard-look: {front}no node is named y[3] (it is z)\n")
+
+
+def _clock_behind_feedback(folder, run):
+    """A clock of class `change` may make more than one edge, unless the rule of one edge covers it, as it covers `q`."""
+    bench = _write(folder, "behind.bench", "INPUT(r)\nINPUT(s)\nq = NOR(r, p)\np = NOR(s, q)\ng = XOR(q, p, s)\n"
+                                           "a = DFF(b)  # clock q rising\nb = DFF(a)  # clock g rising\n")
+    text = "start r=0 s=0 q=0 a=1 b=1\nchange s=1\n"
+    warning = "hazard-look: script line 2: the clock g may pulse, and the script has no edge for it: flip-flop b\n"
+    yield "a clock behind feedback", run(["clock", bench, _write(folder, "behind.txt", text)], folder), (0, text, warning)
