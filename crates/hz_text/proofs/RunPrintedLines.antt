@@ -15,7 +15,7 @@ use Rattle.hz_line.specs.Token.{TokenOf, WordOf, PunctuationOf, tokens_of, with_
 use Rattle.hz_line.specs.Statement.{Means, meaning_of_tokens}
 use Rattle.hz_line.proofs.WrittenLemmas.{is_word_byte-is, word_bytes, tokens_of-open, tokens_of-close, tokens_of-space, is_word_byte-separators, tokens_of-word_before, is_inline}
 use Rattle.hz_write.specs.Writes.{line_of}
-use Rattle.hz_text.specs.declared.run.version.Version.TheVariants.{Two}
+use Rattle.hz_text.specs.declared.run.format.Format.TheVariants.{Two}
 use Rattle.hz_text.specs.RunSize.{size_of}
 use Rattle.hz_text.specs.RunKeyword as keyword
 use Rattle.hz_text.specs.Printed.{assignment_text, statement_text}

@@ -52,7 +52,7 @@ mismatch_with real (Some told) =
     option_map (λ counts. record { line = told.0; told = counts.0; real = counts.1 })
     (difference told.1 real)
 
--- the same in a text, if it is of version 2
+-- the same in a text, if it is in format 2
 abbrev pub first_mismatch : Size → List (Numbered ResolvedRunStatement) → Option Mismatch
 first_mismatch real [] = None
 first_mismatch real (first ∷ later) =
