@@ -11,7 +11,7 @@ use Rattle.hz_batch.specs.BatchText.{IsBatchText, counts_line, is_open, is_unsta
 use Rattle.hz_batch.specs.Blocks.{no_gate}
 use Rattle.hz_batch.specs.ResetText.{IsBroughtAbout, IsResetText, unknown_line}
 
--- what a pattern comes to: by the start that it lists, or from the unknown start, where it always comes to values
+-- what a pattern comes to: by the start that it lists, or from the unknown start, from which it always comes to values
 abbrev pub comes_to : Job → Netlist → List (Option Bool) → PatternOf → PatternEnd → Type 0
 comes_to Batch netlist held pattern ending =
     IsPatternEnd netlist (listing_of held pattern) pattern.to ending
@@ -20,7 +20,7 @@ comes_to Reset netlist held pattern (Unstable gate) = ⊥
 comes_to Reset netlist held pattern (Settled a b) =
     IsBroughtAbout netlist held pattern (record { first = a; second = b })
 
--- the gates that are held where a lane is loaded
+-- the gates that are held when a lane is loaded
 abbrev pub held_by : Job → List (Option Bool) → List (Option Bool)
 held_by Batch held = held
 held_by Reset held = no_gate held

@@ -34,7 +34,7 @@ varying covers = filter (λ cover. not (is_constant cover)) covers
 abbrev pub cover_uses : Cover → List (Numbered (List ℕ))
 cover_uses cover = if is_constant cover then [] else on_line cover.line cover.pins
 
--- the names that lines use, in the order of the lines, where no constant cover is used
+-- the names that lines use, in the order of the lines, if no constant cover is used
 abbrev pub uses_in_order : List (Numbered Line) → List (Numbered (List ℕ))
 uses_in_order [] = []
 uses_in_order (first ∷ rest) =

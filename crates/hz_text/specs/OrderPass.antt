@@ -44,7 +44,7 @@ abbrev pub end_out_of_order : List (Numbered ResolvedRunStatement) → Option �
 end_out_of_order [] = None
 end_out_of_order (first ∷ later) = Some first.line
 
--- the line that breaks the order first, in runs and the end after them; 0 where the end is missing
+-- the line that breaks the order first, in runs and the end after them; 0 if the end is missing
 abbrev pub runs_out_of_order : Place → List (Numbered ResolvedRunStatement) → Option ℕ
 runs_out_of_order here [] = Some 0
 runs_out_of_order here (first ∷ later) =
@@ -52,7 +52,7 @@ runs_out_of_order here (first ∷ later) =
     else option_map_or (λ next. runs_out_of_order next later) (place_after here first.statement)
     (Some first.line)
 
--- the line that breaks the order first, where a statement that passes the test stands before others; 0 where it is missing
+-- the line that breaks the order first, if a statement that passes the test stands before others; 0 if it is missing
 abbrev pub out_of_order_with : (ResolvedRunStatement → Bool) →
     (List (Numbered ResolvedRunStatement) → Option ℕ) → List (Numbered ResolvedRunStatement) →
     Option ℕ

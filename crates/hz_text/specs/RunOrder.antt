@@ -60,7 +60,7 @@ pub record IsOutOfPlace {A V : Type 0} (statements : List (Numbered (StatementOf
   pub went_on : MayGoOn (statements_without_lines before)
   pub stops : ¬ MayGoOn (statements_without_lines (before ++ last ∷ []))
 
--- this line breaks the order; it is 0 where the statements may go on and are not whole
+-- this line breaks the order; it is 0 if the statements may go on and are not whole
 abbrev pub BreaksOrder : {A V : Type 0} → List (Numbered (StatementOf A V)) → ℕ → Type 0
 BreaksOrder statements line =
     IsOutOfPlace statements line

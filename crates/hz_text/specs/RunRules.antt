@@ -34,7 +34,7 @@ least_missing_node netlist statements =
     option_min (least_left_out (first_start statements) (length netlist.names))
     (least_left_out (first_input statements) netlist.inputs)
 
--- the first line up to which there are more than 2,000,000 steps, or more than 2,000,000 variables in steps, where there
+-- the first line up to which there are more than 2,000,000 steps, or more than 2,000,000 variables in steps, if there
 -- were so many before
 abbrev pub beyond_from : ℕ → ℕ → List (Numbered ResolvedRunStatement) → Option ℕ
 beyond_from steps variables [] = None

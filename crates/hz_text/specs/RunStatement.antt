@@ -23,7 +23,7 @@ pub data Variable : Type 0 where
 abbrev pub is_digit : ℕ → Bool
 is_digit byte = nat_le 48 byte && nat_le byte 57
 
--- a decimal number without leading zero: digits, the first of which is 0 only where it stands alone
+-- a decimal number without leading zero: digits, the first of which is 0 only if it stands alone
 abbrev pub is_decimal : List ℕ → Bool
 is_decimal [] = false
 is_decimal (first ∷ later) =
@@ -98,7 +98,7 @@ size_by (WordOf inputs ∷ WordOf gates ∷ WordOf wires ∷ []) =
     size_with (count_of inputs) (count_of gates) (count_of wires)
 size_by _ = None
 
--- the statement, where no token is left
+-- the statement, if no token is left
 abbrev pub if_at_end : RunStatement → List TokenOf → Option RunStatement
 if_at_end statement [] = Some statement
 if_at_end statement (token ∷ tokens) = None
