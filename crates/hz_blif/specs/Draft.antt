@@ -77,8 +77,8 @@ pub record HoldsCovers (covers : List Cover) (draft : Draft) : Type 0 where
       ≡ flat_map (λ cover. cover.pins) (filter is_constant covers)
   pub pin_numbers : AreNumbers draft.names draft.constant_pins.items
 
--- what lines are, as far as they were read: the first line with a long name and the first construct, the names that they define and use, and
--- their covers, of which the last one may still get rows
+-- what lines are, as far as they were read: the first line with a long name and the first construct, the names that they define
+-- and use, and their covers, of which the last one may still get rows
 pub record Read : Type 0 where
   pub long_name : Option ℕ
   pub construct : Option ℕ

@@ -25,8 +25,8 @@ use hz_write::Writer;
 use std::alloc::Global;
 
 /// Prints a run text of a network, in format 2: its number, the size of the network, the start in the order of the nodes,
-/// the input in the order of the inputs, then each run, and the end. Keywords are in small letters, words are separated by one space, and each line ends with a
-/// line feed. The wire into the second pin of a gate `g` is written `g(2)`. If the text has at most 16,777,216 bytes,
+/// the input in the order of the inputs, then each run, and the end. Keywords are in small letters, words are separated by
+/// one space, and each line ends with a line feed. The wire into the second pin of a gate `g` is written `g(2)`. If the text has at most 16,777,216 bytes,
 /// [`crate::read_run`] gives the run text back.
 pub fn print_run(alloc: Global, net: &Net, text: &RunText) -> Result<Vec<u8>, Memory>
     requires { IsRunTextFor net.now text.now }
