@@ -38,7 +38,7 @@ mod variables;
 
 pub use laws::printed_runs_are_read;
 pub use print::{
-    print_run, write_end, write_run, write_run_text, write_states, write_variable, write_version,
+    print_run, write_end, write_format, write_run, write_run_text, write_states, write_variable,
 };
 pub use read::read_run;
 pub use text::RunText;
