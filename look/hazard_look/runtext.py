@@ -14,7 +14,7 @@ class Run(NamedTuple):
 
 
 class RunText(NamedTuple):
-    """The head of a run text (its version, and its sizes in version 2), the start, the new input, the runs."""
+    """The head of a run text (its format, and its sizes in format 2), the start, the new input, the runs."""
 
     head: List[str]
     start: Dict[str, int]

@@ -15,7 +15,7 @@ use Rattle.hz_text.specs.PatternValue.{PatternOf, PatternsOf}
 use Rattle.hz_text.specs.Printed.{listed_from}
 use Rattle.hz_batch.specs.Blocks.{no_gate, without_held}
 use Rattle.hz_batch.specs.Laws.{AreLaws}
-use Rattle.hz_batch.specs.Outcome.{listing_of}
+use Rattle.hz_batch.specs.PatternEnd.{listing_of}
 use Rattle.hz_batch.specs.ResetText.{IsBroughtAbout}
 use Rattle.hz_batch.proofs.HeldLemmas.{listing-loaded, listed-no_gate, without_held-for}
 

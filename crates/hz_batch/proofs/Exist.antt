@@ -1,4 +1,4 @@
--- Every pattern comes to an outcome, also if it is never looked at.
+-- Every pattern comes to an ending, also if it is never looked at.
 use Rattle.std.proofs.Common.{◌≡◌, ◌∙◌, refl, ap, subst, ℕ, ◌+◌, ◌<◌, Bool, true, false, List, [], ◌∷◌, ◌++◌, length, map, take, drop, get_or, Option, Some, None, inl, inr, arith}
 use Rattle.std.specs.Prelude.{◌⊎◌, All}
 use Rattle.std.proofs.lemmas.List.{length-append, length-map, length-drop, get_or_append_left, get_or-map, take-append-drop}
@@ -20,28 +20,28 @@ use Rattle.hz_write.proofs.Writers.{writes_then, writes_failed}
 use Rattle.hz_batch.specs.declared.counts.Counts.{Counts}
 use Rattle.hz_batch.specs.declared.job.Job.{Job}
 use Rattle.hz_batch.specs.declared.job.Job.TheVariants.{Batch, Reset}
-use Rattle.hz_batch.specs.BatchText.{outcome_lines}
+use Rattle.hz_batch.specs.BatchText.{ending_lines}
 use Rattle.hz_batch.specs.Comes.{comes_to, last_of, IsTextOf}
 use Rattle.hz_batch.specs.Each.{AreEach}
 use Rattle.hz_batch.specs.Laws.{AreLaws}
-use Rattle.hz_batch.specs.Outcome.{Outcome, Open, Unstable, Settled, IsOutcome, listing_of}
+use Rattle.hz_batch.specs.PatternEnd.{PatternEnd, Open, Unstable, Settled, IsPatternEnd, listing_of}
 use Rattle.hz_batch.specs.Written.{AreWritten}
 use Rattle.hz_batch.proofs.BroughtAbout.{brought-about}
 use Rattle.hz_batch.proofs.Joined.{each-append, lines-append}
-use Rattle.hz_batch.proofs.TextOf.{text-of-outcomes}
+use Rattle.hz_batch.proofs.TextOf.{text-of-endings}
 
--- a listed start comes to an outcome
-outcome-exists : (netlist : Netlist) (listed : List (Option Bool)) (input : List Bool) → StartsAreDecided → ResultOfAExists → ResultOfBExists → IsCircuit netlist → length listed ≡ length netlist.names → ListsInputs netlist listed →
-    (outcome : Outcome) × IsOutcome netlist listed input outcome
-outcome-exists netlist listed input decided a_exists b_exists circuit long lists = by_start (decided netlist listed circuit long lists).one
+-- a listed start comes to an ending
+ending-exists : (netlist : Netlist) (listed : List (Option Bool)) (input : List Bool) → StartsAreDecided → ResultOfAExists → ResultOfBExists → IsCircuit netlist → length listed ≡ length netlist.names → ListsInputs netlist listed →
+    (ending : PatternEnd) × IsPatternEnd netlist listed input ending
+ending-exists netlist listed input decided a_exists b_exists circuit long lists = by_start (decided netlist listed circuit long lists).one
   where
-    by_b : (start : List Bool) → IsAcceptedStart netlist listed start → (a : List Tri) → IsResult (algorithm_a (network_of netlist) input start) a → ((b : List Tri) × IsResult (algorithm_b (network_of netlist) input a) b) → (outcome : Outcome) × IsOutcome netlist listed input outcome
+    by_b : (start : List Bool) → IsAcceptedStart netlist listed start → (a : List Tri) → IsResult (algorithm_a (network_of netlist) input start) a → ((b : List Tri) × IsResult (algorithm_b (network_of netlist) input a) b) → (ending : PatternEnd) × IsPatternEnd netlist listed input ending
     by_b start accepted a of_a (b, of_b) = (Settled a b, (start, accepted, of_a, of_b))
 
-    by_a : (start : List Bool) → IsAcceptedStart netlist listed start → ((a : List Tri) × IsResult (algorithm_a (network_of netlist) input start) a) → (outcome : Outcome) × IsOutcome netlist listed input outcome
+    by_a : (start : List Bool) → IsAcceptedStart netlist listed start → ((a : List Tri) × IsResult (algorithm_a (network_of netlist) input start) a) → (ending : PatternEnd) × IsPatternEnd netlist listed input ending
     by_a start accepted (a, of_a) = by_b start accepted a of_a (b_exists (network_of netlist) input start a accepted.completed.long of_a)
 
-    by_start : HasOpenNode netlist listed ⊎ (HasUnstableGate netlist listed ⊎ GivesStart netlist listed) → (outcome : Outcome) × IsOutcome netlist listed input outcome
+    by_start : HasOpenNode netlist listed ⊎ (HasUnstableGate netlist listed ⊎ GivesStart netlist listed) → (ending : PatternEnd) × IsPatternEnd netlist listed input ending
     by_start (inl (node, least)) = (Open node, least)
     by_start (inr (inl (gate, least))) = (Unstable gate, least)
     by_start (inr (inr (start, accepted))) = by_a start accepted (a_exists (network_of netlist) input start accepted.completed.long)
@@ -63,38 +63,38 @@ listing-inputs netlist held pattern circuit nodes long = λ input primary.
           ∙ ap (λ (entry : Option Bool). Some entry) (get_or_append_left (map some pattern.from) (drop (length pattern.from) held) none input within ∙ get_or-map some pattern.from input false none inside),
     )
 
--- a pattern comes to an outcome, by the job
+-- a pattern comes to an ending, by the job
 comes-exists : (job : Job) (netlist : Netlist) (value : PatternsOf) (pattern : PatternOf) → AreLaws → IsCircuit netlist → IsWhole netlist → ArePatternsFor netlist value → IsPatternOf netlist.inputs pattern →
-    (outcome : Outcome) × comes_to job netlist value.held pattern outcome
+    (ending : PatternEnd) × comes_to job netlist value.held pattern ending
 comes-exists Batch netlist value pattern laws circuit whole for right =
-    outcome-exists netlist (listing_of value.held pattern) pattern.to laws.decided laws.a_exists laws.b_exists circuit (listing-long netlist value.held pattern circuit for.nodes right.from) (listing-inputs netlist value.held pattern circuit for.nodes right.from)
+    ending-exists netlist (listing_of value.held pattern) pattern.to laws.decided laws.a_exists laws.b_exists circuit (listing-long netlist value.held pattern circuit for.nodes right.from) (listing-inputs netlist value.held pattern circuit for.nodes right.from)
 comes-exists Reset netlist value pattern laws circuit whole for right =
     let found = brought-about netlist value pattern laws circuit whole for right in
     (Settled found.first found.second, found.is)
 
--- patterns come to outcomes
-pub outcomes-exist : (job : Job) (netlist : Netlist) (value : PatternsOf) (patterns : List PatternOf) → AreLaws → IsCircuit netlist → IsWhole netlist → ArePatternsFor netlist value → All (IsPatternOf netlist.inputs) patterns →
-    (outcomes : List Outcome) × AreEach (comes_to job netlist value.held) patterns outcomes
-outcomes-exist job netlist value [] laws circuit whole for all = ([], tt)
-outcomes-exist job netlist value (pattern ∷ patterns) laws circuit whole for all =
+-- patterns come to endings
+pub endings-exist : (job : Job) (netlist : Netlist) (value : PatternsOf) (patterns : List PatternOf) → AreLaws → IsCircuit netlist → IsWhole netlist → ArePatternsFor netlist value → All (IsPatternOf netlist.inputs) patterns →
+    (endings : List PatternEnd) × AreEach (comes_to job netlist value.held) patterns endings
+endings-exist job netlist value [] laws circuit whole for all = ([], tt)
+endings-exist job netlist value (pattern ∷ patterns) laws circuit whole for all =
     by_both (comes-exists job netlist value pattern laws circuit whole for (All-head (IsPatternOf netlist.inputs) pattern patterns all))
-    (outcomes-exist job netlist value patterns laws circuit whole for (All-tail (IsPatternOf netlist.inputs) pattern patterns all))
+    (endings-exist job netlist value patterns laws circuit whole for (All-tail (IsPatternOf netlist.inputs) pattern patterns all))
   where
-    by_both : ((outcome : Outcome) × comes_to job netlist value.held pattern outcome) → ((outcomes : List Outcome) × AreEach (comes_to job netlist value.held) patterns outcomes) → (outcomes : List Outcome) × AreEach (comes_to job netlist value.held) (pattern ∷ patterns) outcomes
-    by_both (outcome, is) (outcomes, are) = (outcome ∷ outcomes, (is, are))
+    by_both : ((ending : PatternEnd) × comes_to job netlist value.held pattern ending) → ((endings : List PatternEnd) × AreEach (comes_to job netlist value.held) patterns endings) → (endings : List PatternEnd) × AreEach (comes_to job netlist value.held) (pattern ∷ patterns) endings
+    by_both (ending, is) (endings, are) = (ending ∷ endings, (is, are))
 
 -- so there is always a text
 pub text-exists : (job : Job) (netlist : Netlist) (value : PatternsOf) → AreLaws → IsCircuit netlist → IsWhole netlist → ArePatternsFor netlist value → (text : List ℕ) × IsTextOf job netlist value text
-text-exists job netlist value laws circuit whole for = by_outcomes (outcomes-exist job netlist value value.patterns laws circuit whole for for.patterns)
+text-exists job netlist value laws circuit whole for = by_endings (endings-exist job netlist value value.patterns laws circuit whole for for.patterns)
   where
-    by_outcomes : ((outcomes : List Outcome) × AreEach (comes_to job netlist value.held) value.patterns outcomes) → (text : List ℕ) × IsTextOf job netlist value text
-    by_outcomes (outcomes, are) = (outcome_lines netlist 1 outcomes ++ last_of job outcomes, text-of-outcomes job netlist value outcomes are)
+    by_endings : ((endings : List PatternEnd) × AreEach (comes_to job netlist value.held) value.patterns endings) → (text : List ℕ) × IsTextOf job netlist value text
+    by_endings (endings, are) = (ending_lines netlist 1 endings ++ last_of job endings, text-of-endings job netlist value endings are)
 
 -- after a fault the lines of the patterns that are left count as given
-pub record AreLines {S : Type 0} (output : S → Output) (faults : S → ℕ) (netlist : Netlist) (comes : PatternOf → Outcome → Type 0) (patterns : List PatternOf) (was now : Writer S) : Type 0 where
-  pub outcomes : List Outcome
-  pub are_outcomes : AreEach comes patterns outcomes
-  pub lines : Writes output faults (outcome_lines netlist 1 outcomes) was now
+pub record AreLines {S : Type 0} (output : S → Output) (faults : S → ℕ) (netlist : Netlist) (comes : PatternOf → PatternEnd → Type 0) (patterns : List PatternOf) (was now : Writer S) : Type 0 where
+  pub endings : List PatternEnd
+  pub are_endings : AreEach comes patterns endings
+  pub lines : Writes output faults (ending_lines netlist 1 endings) was now
 
 pub not-both : {failed : Bool} → failed ≡ true → failed ≡ false → ⊥
 not-both is not = cc
@@ -103,12 +103,12 @@ module _ {S : Type 0} (output : S → Output) (faults : S → ℕ) where
   pub written-cut : (job : Job) (netlist : Netlist) (value : PatternsOf) (n : ℕ) (a b : Writer S) (was now : Counts) → AreLaws → IsCircuit netlist → IsWhole netlist → ArePatternsFor netlist value → has_failed b ≡ true →
       AreWritten output faults netlist (comes_to job netlist value.held) (take n value.patterns) 1 a b was now → AreLines output faults netlist (comes_to job netlist value.held) value.patterns a b
   written-cut job netlist value n a b was now laws circuit whole for failed first =
-      by_rest (outcomes-exist job netlist value (drop n value.patterns) laws circuit whole for (All-drop (IsPatternOf netlist.inputs) n value.patterns for.patterns))
+      by_rest (endings-exist job netlist value (drop n value.patterns) laws circuit whole for (All-drop (IsPatternOf netlist.inputs) n value.patterns for.patterns))
     where
-      by_rest : ((outcomes : List Outcome) × AreEach (comes_to job netlist value.held) (drop n value.patterns) outcomes) → AreLines output faults netlist (comes_to job netlist value.held) value.patterns a b
+      by_rest : ((endings : List PatternEnd) × AreEach (comes_to job netlist value.held) (drop n value.patterns) endings) → AreLines output faults netlist (comes_to job netlist value.held) value.patterns a b
       by_rest (others, are) = record {
-        outcomes = first.outcomes ++ others;
-        are_outcomes = subst (λ (patterns : List PatternOf). AreEach (comes_to job netlist value.held) patterns (first.outcomes ++ others)) (take-append-drop n value.patterns)
-            (each-append (comes_to job netlist value.held) (take n value.patterns) (drop n value.patterns) first.outcomes others first.are_outcomes are);
-        lines = writes_then first.lines (writes_failed (outcome_lines netlist (1 + length first.outcomes) others) failed) (lines-append netlist 1 (1 + length first.outcomes) first.outcomes others refl);
+        endings = first.endings ++ others;
+        are_endings = subst (λ (patterns : List PatternOf). AreEach (comes_to job netlist value.held) patterns (first.endings ++ others)) (take-append-drop n value.patterns)
+            (each-append (comes_to job netlist value.held) (take n value.patterns) (drop n value.patterns) first.endings others first.are_endings are);
+        lines = writes_then first.lines (writes_failed (ending_lines netlist (1 + length first.endings) others) failed) (lines-append netlist 1 (1 + length first.endings) first.endings others refl);
       }

@@ -13,7 +13,7 @@ use Rattle.hz_batch.specs.declared.job.Job.TheVariants.{Batch, Reset}
 use Rattle.hz_batch.specs.Blocks.{no_gate, without_held}
 use Rattle.hz_batch.specs.Comes.{loaded_by}
 use Rattle.hz_batch.specs.Held.{held_at_node}
-use Rattle.hz_batch.specs.Outcome.{listing_of}
+use Rattle.hz_batch.specs.PatternEnd.{listing_of}
 
 -- one node more
 listed-push : (node : ℕ) (held : List (Option Bool)) (bit : Option Bool) → listed_from node (held ++ bit ∷ []) ≡ listed_from node held ++ held_at_node (node + length held) bit

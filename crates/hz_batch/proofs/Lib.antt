@@ -7,7 +7,7 @@ pub mod KeyLemmas
 -- The line of a lane, output by output
 pub mod LineLemmas
 -- What a lane comes to
-pub mod OutcomeLemmas
+pub mod EndLemmas
 -- Lanes that are loaded with patterns, one after the other
 pub mod LaneLoads
 -- What a pattern brings about where nothing is known of a start but the held gates
@@ -16,9 +16,9 @@ pub mod BroughtAbout
 pub mod Joined
 -- Blocks one after the other: their patterns, and the planes
 pub mod BlockLaws
--- The text of patterns, by their outcomes
+-- The text of patterns, by their endings
 pub mod TextOf
--- Every pattern comes to an outcome, also if it is never looked at
+-- Every pattern comes to an ending, also if it is never looked at
 pub mod Exist
 -- The text of patterns, by what was given and counted
 pub mod Texts

@@ -12,20 +12,20 @@ use Rattle.hz_write.specs.Writes.{Stops}
 use Rattle.hz_write.proofs.Writers.{writes_then, writes_failed}
 use Rattle.hz_batch.specs.declared.counts.Counts.{Counts}
 use Rattle.hz_batch.specs.declared.job.Job.{Job}
-use Rattle.hz_batch.specs.BatchText.{outcome_lines, is_open, is_unstable, is_unsettled}
+use Rattle.hz_batch.specs.BatchText.{ending_lines, is_open, is_unstable, is_unsettled}
 use Rattle.hz_batch.specs.Comes.{comes_to, last_line, last_of, IsTextOf}
 use Rattle.hz_batch.specs.Counts.{AddsCounts, no_counts}
 use Rattle.hz_batch.specs.Each.{AreEach}
-use Rattle.hz_batch.specs.Outcome.{Outcome}
+use Rattle.hz_batch.specs.PatternEnd.{PatternEnd}
 use Rattle.hz_batch.proofs.Joined.{each-length}
-use Rattle.hz_batch.proofs.TextOf.{text-of-outcomes}
+use Rattle.hz_batch.proofs.TextOf.{text-of-endings}
 
 -- the last line
-counts-told : (job : Job) (outcomes : List Outcome) (counts : Counts) (n : ℕ) → n ≡ length outcomes → AddsCounts outcomes no_counts counts → last_line job n counts.open_starts counts.unstable_starts counts.unsettled ≡ last_of job outcomes
-counts-told job outcomes counts n count adds =
-    let opened : counts.open_starts ≡ count_by is_open outcomes = omega (arith, adds.open_starts) in
-    let unstable : counts.unstable_starts ≡ count_by is_unstable outcomes = omega (arith, adds.unstable_starts) in
-    let unsettled : counts.unsettled ≡ count_by is_unsettled outcomes = omega (arith, adds.unsettled) in
+counts-told : (job : Job) (endings : List PatternEnd) (counts : Counts) (n : ℕ) → n ≡ length endings → AddsCounts endings no_counts counts → last_line job n counts.open_starts counts.unstable_starts counts.unsettled ≡ last_of job endings
+counts-told job endings counts n count adds =
+    let opened : counts.open_starts ≡ count_by is_open endings = omega (arith, adds.open_starts) in
+    let unstable : counts.unstable_starts ≡ count_by is_unstable endings = omega (arith, adds.unstable_starts) in
+    let unsettled : counts.unsettled ≡ count_by is_unsettled endings = omega (arith, adds.unsettled) in
     rw (count, opened, unstable, unsettled) refl
 
 -- numbers of nodes are few
@@ -34,23 +34,23 @@ few-nodes netlist n circuit is = omega (arith, circuit.variables, is)
 
 module _ {S : Type 0} {output : S → Output} {faults : S → ℕ} where
   -- the lines of all patterns were given, and then that of the counts
-  pub text-given : (job : Job) (netlist : Netlist) (value : PatternsOf) (outcomes : List Outcome) (counts : Counts) (n : ℕ) (a b c : Writer S) → AreEach (comes_to job netlist value.held) value.patterns outcomes → n ≡ length value.patterns → AddsCounts outcomes no_counts counts →
-      Writes output faults (outcome_lines netlist 1 outcomes) a b → Writes output faults (last_line job n counts.open_starts counts.unstable_starts counts.unsettled) b c →
+  pub text-given : (job : Job) (netlist : Netlist) (value : PatternsOf) (endings : List PatternEnd) (counts : Counts) (n : ℕ) (a b c : Writer S) → AreEach (comes_to job netlist value.held) value.patterns endings → n ≡ length value.patterns → AddsCounts endings no_counts counts →
+      Writes output faults (ending_lines netlist 1 endings) a b → Writes output faults (last_line job n counts.open_starts counts.unstable_starts counts.unsettled) b c →
       (text : List ℕ) × IsTextOf job netlist value text × Writes output faults text a c
-  text-given job netlist value outcomes counts n a b c are count adds lines last =
-      let long = each-length (comes_to job netlist value.held) value.patterns outcomes are in (
-        outcome_lines netlist 1 outcomes ++ last_of job outcomes,
-        text-of-outcomes job netlist value outcomes are,
-        writes_then lines last (ap (λ (line : List ℕ). outcome_lines netlist 1 outcomes ++ line) (counts-told job outcomes counts n (count ∙ sym long) adds)),
+  text-given job netlist value endings counts n a b c are count adds lines last =
+      let long = each-length (comes_to job netlist value.held) value.patterns endings are in (
+        ending_lines netlist 1 endings ++ last_of job endings,
+        text-of-endings job netlist value endings are,
+        writes_then lines last (ap (λ (line : List ℕ). ending_lines netlist 1 endings ++ line) (counts-told job endings counts n (count ∙ sym long) adds)),
       )
 
   -- or a put failed, and nothing more is put
-  pub text-cut : (job : Job) (netlist : Netlist) (value : PatternsOf) (outcomes : List Outcome) (a b : Writer S) → AreEach (comes_to job netlist value.held) value.patterns outcomes → Writes output faults (outcome_lines netlist 1 outcomes) a b → has_failed b ≡ true →
+  pub text-cut : (job : Job) (netlist : Netlist) (value : PatternsOf) (endings : List PatternEnd) (a b : Writer S) → AreEach (comes_to job netlist value.held) value.patterns endings → Writes output faults (ending_lines netlist 1 endings) a b → has_failed b ≡ true →
       (text : List ℕ) × IsTextOf job netlist value text × Writes output faults text a b
-  text-cut job netlist value outcomes a b are lines failed = (
-    outcome_lines netlist 1 outcomes ++ last_of job outcomes,
-    text-of-outcomes job netlist value outcomes are,
-    writes_then lines (writes_failed (last_of job outcomes) failed) refl,
+  text-cut job netlist value endings a b are lines failed = (
+    ending_lines netlist 1 endings ++ last_of job endings,
+    text-of-endings job netlist value endings are,
+    writes_then lines (writes_failed (last_of job endings) failed) refl,
   )
 
 -- nothing was written, since memory ran out

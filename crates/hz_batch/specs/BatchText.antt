@@ -6,44 +6,44 @@ use Rattle.hz_core.specs.Netlist.{Netlist, node_name}
 use Rattle.hz_write.specs.Writes.{line_of}
 use Rattle.hz_text.specs.PatternValue.{PatternsOf}
 use Rattle.hz_report.specs.Outputs.{outputs_line, output_values}
-use Rattle.hz_batch.specs.Outcome.{Outcome, Open, Unstable, Settled, AreOutcomes}
+use Rattle.hz_batch.specs.PatternEnd.{PatternEnd, Open, Unstable, Settled, ArePatternEnds}
 
--- the start of the pattern with a number is refused for a gate
+-- the start of the pattern with a number is refused for a node
 unfoldable pub refused_line : Netlist → ℕ → (word : List ℕ) → ℕ → List ℕ
-refused_line netlist number word gate =
-    line_of (decimal number ∷ word ∷ node_name netlist.names gate ∷ [])
+refused_line netlist number word node =
+    line_of (decimal number ∷ word ∷ node_name netlist.names node ∷ [])
 
 -- the line of the pattern with a number: why its start is refused, or each output with its values in A and in B
-abbrev pub outcome_line : Netlist → ℕ → Outcome → List ℕ
-outcome_line netlist number (Open gate) = refused_line netlist number (codes " open ") gate
-outcome_line netlist number (Unstable gate) = refused_line netlist number (codes " unstable ") gate
-outcome_line netlist number (Settled a b) = outputs_line netlist number (output_values netlist a b)
+abbrev pub ending_line : Netlist → ℕ → PatternEnd → List ℕ
+ending_line netlist number (Open node) = refused_line netlist number (codes " open ") node
+ending_line netlist number (Unstable gate) = refused_line netlist number (codes " unstable ") gate
+ending_line netlist number (Settled a b) = outputs_line netlist number (output_values netlist a b)
 
 -- the lines of patterns, the first of which has a number
-abbrev pub outcome_lines : Netlist → ℕ → List Outcome → List ℕ
-outcome_lines netlist number [] = []
-outcome_lines netlist number (outcome ∷ outcomes) =
-    outcome_line netlist number outcome ++ outcome_lines netlist (number + 1) outcomes
+abbrev pub ending_lines : Netlist → ℕ → List PatternEnd → List ℕ
+ending_lines netlist number [] = []
+ending_lines netlist number (ending ∷ endings) =
+    ending_line netlist number ending ++ ending_lines netlist (number + 1) endings
 
--- a gate is open at the start
-abbrev pub is_open : Outcome → Bool
-is_open (Open gate) = true
+-- a node is open at the start
+abbrev pub is_open : PatternEnd → Bool
+is_open (Open node) = true
 is_open (Unstable gate) = false
 is_open (Settled a b) = false
 
--- no gate is open at the start, but one is unstable
-abbrev pub is_unstable : Outcome → Bool
-is_unstable (Open gate) = false
+-- no node is open at the start, but a gate is unstable
+abbrev pub is_unstable : PatternEnd → Bool
+is_unstable (Open node) = false
 is_unstable (Unstable gate) = true
 is_unstable (Settled a b) = false
 
 -- the start is accepted, and some variable, perhaps a wire or a gate inside, is X in B
-abbrev pub is_unsettled : Outcome → Bool
-is_unsettled (Open gate) = false
+abbrev pub is_unsettled : PatternEnd → Bool
+is_unsettled (Open node) = false
 is_unsettled (Unstable gate) = false
 is_unsettled (Settled a b) = list_any is_unknown b
 
--- how many patterns there are, and how many of them have an open gate, an unstable one, and an X that stays
+-- how many patterns there are, and how many of them have an open node, an unstable gate, and an X that stays
 unfoldable pub counts_line : ℕ → ℕ → ℕ → ℕ → List ℕ
 counts_line patterns open_ones unstable_ones unsettled_ones =
     line_of
@@ -51,14 +51,14 @@ counts_line patterns open_ones unstable_ones unsettled_ones =
     ∷ codes " unstable " ∷ decimal unstable_ones
     ∷ codes " unsettled " ∷ decimal unsettled_ones ∷ [])
 
--- the line of counts of outcomes
-abbrev pub counts_of : List Outcome → List ℕ
-counts_of outcomes =
-    counts_line (length outcomes) (count_by is_open outcomes) (count_by is_unstable outcomes)
-    (count_by is_unsettled outcomes)
+-- the line of counts of endings
+abbrev pub counts_of : List PatternEnd → List ℕ
+counts_of endings =
+    counts_line (length endings) (count_by is_open endings) (count_by is_unstable endings)
+    (count_by is_unsettled endings)
 
 -- The text of patterns: the line of each, counted from 1, and then the line of counts.
 pub record IsBatchText (netlist : Netlist) (patterns : PatternsOf) (text : List ℕ) : Type 0 where
-  pub outcomes : List Outcome
-  pub are_outcomes : AreOutcomes netlist patterns.held patterns.patterns outcomes
-  pub lines : text ≡ outcome_lines netlist 1 outcomes ++ counts_of outcomes
+  pub endings : List PatternEnd
+  pub are_endings : ArePatternEnds netlist patterns.held patterns.patterns endings
+  pub lines : text ≡ ending_lines netlist 1 endings ++ counts_of endings

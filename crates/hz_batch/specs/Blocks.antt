@@ -4,7 +4,7 @@ use Rattle.hz_text.specs.PatternValue.{PatternOf, PatternsOf}
 use Rattle.hz_plane.specs.declared.stage.Stage.TheVariants.{Settled as AllSettled}
 use Rattle.hz_plane.specs.Loads.{Loaded}
 use Rattle.hz_plane.specs.View.{Seen}
-use Rattle.hz_batch.specs.Outcome.{listing_of}
+use Rattle.hz_batch.specs.PatternEnd.{listing_of}
 
 -- what a lane is loaded with for a pattern: its second bits as the new input, and the start that it lists
 abbrev pub load_of : List (Option Bool) → PatternOf → Option Loaded

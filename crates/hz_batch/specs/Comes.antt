@@ -6,21 +6,21 @@ use Rattle.hz_plane.specs.declared.stage.Stage.{Stage}
 use Rattle.hz_plane.specs.declared.stage.Stage.TheVariants.{Completed, Spread}
 use Rattle.hz_batch.specs.declared.job.Job.{Job}
 use Rattle.hz_batch.specs.declared.job.Job.TheVariants.{Batch, Reset}
-use Rattle.hz_batch.specs.Outcome.{Outcome, Open, Unstable, Settled, IsOutcome, listing_of}
+use Rattle.hz_batch.specs.PatternEnd.{PatternEnd, Open, Unstable, Settled, IsPatternEnd, listing_of}
 use Rattle.hz_batch.specs.BatchText.{IsBatchText, counts_line, is_open, is_unstable, is_unsettled}
 use Rattle.hz_batch.specs.Blocks.{no_gate}
 use Rattle.hz_batch.specs.ResetText.{IsBroughtAbout, IsResetText, unknown_line}
 
--- what a pattern comes to: by the start that it lists, or from the unknown start, where it always comes to values
-abbrev pub comes_to : Job → Netlist → List (Option Bool) → PatternOf → Outcome → Type 0
-comes_to Batch netlist held pattern outcome =
-    IsOutcome netlist (listing_of held pattern) pattern.to outcome
-comes_to Reset netlist held pattern (Open gate) = ⊥
+-- what a pattern comes to: by the start that it lists, or from the unknown start, from which it always comes to values
+abbrev pub comes_to : Job → Netlist → List (Option Bool) → PatternOf → PatternEnd → Type 0
+comes_to Batch netlist held pattern ending =
+    IsPatternEnd netlist (listing_of held pattern) pattern.to ending
+comes_to Reset netlist held pattern (Open node) = ⊥
 comes_to Reset netlist held pattern (Unstable gate) = ⊥
 comes_to Reset netlist held pattern (Settled a b) =
     IsBroughtAbout netlist held pattern (record { first = a; second = b })
 
--- the gates that are held where a lane is loaded
+-- the gates that are held when a lane is loaded
 abbrev pub held_by : Job → List (Option Bool) → List (Option Bool)
 held_by Batch held = held
 held_by Reset held = no_gate held
@@ -41,11 +41,11 @@ last_line Batch patterns open_ones unstable_ones unsettled_ones =
 last_line Reset patterns open_ones unstable_ones unsettled_ones =
     unknown_line patterns unsettled_ones
 
--- the last line of outcomes
-abbrev pub last_of : Job → List Outcome → List ℕ
-last_of job outcomes =
-    last_line job (length outcomes) (count_by is_open outcomes) (count_by is_unstable outcomes)
-    (count_by is_unsettled outcomes)
+-- the last line of endings
+abbrev pub last_of : Job → List PatternEnd → List ℕ
+last_of job endings =
+    last_line job (length endings) (count_by is_open endings) (count_by is_unstable endings)
+    (count_by is_unsettled endings)
 
 -- the text
 abbrev pub IsTextOf : Job → Netlist → PatternsOf → List ℕ → Type 0

@@ -5,7 +5,7 @@ use Rattle.hz_core.specs.Ternary.{is_unknown}
 use Rattle.hz_batch.specs.declared.counts.Counts.{Counts}
 use Rattle.hz_batch.specs.declared.counts.Mark.{Mark}
 use Rattle.hz_batch.specs.declared.counts.Mark.TheVariants as mark
-use Rattle.hz_batch.specs.Outcome.{Outcome, Open, Unstable, Settled}
+use Rattle.hz_batch.specs.PatternEnd.{PatternEnd, Open, Unstable, Settled}
 use Rattle.hz_batch.specs.BatchText.{is_open, is_unstable, is_unsettled}
 
 -- nothing is counted
@@ -24,17 +24,17 @@ abbrev pub settled_mark : Bool → Mark
 settled_mark true = mark.Unsettled
 settled_mark false = mark.Steady
 
--- a mark tells what is counted of an outcome
-abbrev pub IsMarkOf : Outcome → Mark → Type 0
-IsMarkOf (Open gate) told = told ≡ mark.Open
+-- a mark tells what is counted of an ending
+abbrev pub IsMarkOf : PatternEnd → Mark → Type 0
+IsMarkOf (Open node) told = told ≡ mark.Open
 IsMarkOf (Unstable gate) told = told ≡ mark.Unstable
 IsMarkOf (Settled a b) told = told ≡ settled_mark (list_any is_unknown b)
 
--- the counts of outcomes were added
-pub record AddsCounts (outcomes : List Outcome) (was now : Counts) : Type 0 where
-  pub open_starts : now.open_starts ≡ was.open_starts + count_by is_open outcomes
-  pub unstable_starts : now.unstable_starts ≡ was.unstable_starts + count_by is_unstable outcomes
-  pub unsettled : now.unsettled ≡ was.unsettled + count_by is_unsettled outcomes
+-- the counts of endings were added
+pub record AddsCounts (endings : List PatternEnd) (was now : Counts) : Type 0 where
+  pub open_starts : now.open_starts ≡ was.open_starts + count_by is_open endings
+  pub unstable_starts : now.unstable_starts ≡ was.unstable_starts + count_by is_unstable endings
+  pub unsettled : now.unsettled ≡ was.unsettled + count_by is_unsettled endings
 
 -- no count is above a number of patterns
 pub record AreWithin (patterns : ℕ) (counts : Counts) : Type 0 where

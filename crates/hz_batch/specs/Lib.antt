@@ -2,10 +2,10 @@
 --
 -- AreEach of patterns things: one thing for each pattern
 -- listing_of held pattern: the start that a pattern lists
--- Outcome, IsOutcome netlist held pattern outcome: what a pattern comes to
--- AreOutcomes netlist held patterns outcomes: each pattern comes to one
--- outcome_line netlist number outcome: the line of a pattern
--- counts_line outcomes: the last line
+-- PatternEnd, IsPatternEnd netlist held pattern ending: what a pattern comes to
+-- ArePatternEnds netlist held patterns endings: each pattern comes to one
+-- ending_line netlist number ending: the line of a pattern
+-- counts_line endings: the last line
 -- IsBatchText netlist patterns text: the text of patterns
 -- IsBroughtAbout netlist held pattern values: what a pattern brings about from the unknown start
 -- unknown_line patterns unknown: the last line of these
@@ -15,7 +15,7 @@
 -- planes_after patterns was blocks: the planes after so many blocks
 
 pub mod Each
-pub mod Outcome
+pub mod PatternEnd
 pub mod BatchText
 pub mod ResetText
 pub mod Blocks

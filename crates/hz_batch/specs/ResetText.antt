@@ -1,4 +1,4 @@
--- The text of what patterns bring about where nothing is known of a start but the held gates.
+-- The text of what patterns bring about if nothing is known of a start but the held gates.
 use Rattle.std.specs.Prelude.{◌≡◌, ℕ, ◌+◌, Bool, Option, List, [], ◌∷◌, ◌++◌, length, codes, decimal, count_by}
 use Rattle.std.specs.List.{list_any}
 use Rattle.hz_core.specs.Ternary.{is_unknown}

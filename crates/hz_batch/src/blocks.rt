@@ -4,7 +4,7 @@ ghost use Rattle.hz_plane.specs.declared.stage.Stage.TheVariants.{Loading, Compl
 ghost use Rattle.hz_plane.specs.View.{AreOf};
 ghost use Rattle.hz_write.specs.Writer.{Writes, NoneWaits, has_failed};
 ghost use Rattle.hz_batch.specs.Blocks.{lanes_with, block_count, planes_after};
-ghost use Rattle.hz_batch.specs.BatchText.{outcome_lines};
+ghost use Rattle.hz_batch.specs.BatchText.{ending_lines};
 ghost use Rattle.hz_batch.specs.Columns.{AreColumns};
 ghost use Rattle.hz_batch.specs.Counts.{AddsCounts, AreWithin, no_counts};
 ghost use Rattle.hz_batch.specs.Comes.{comes_to, held_by, loaded_by, kept_at};
@@ -12,7 +12,7 @@ ghost use Rattle.hz_batch.specs.Each.{AreEach};
 ghost use Rattle.hz_batch.specs.Inside.{IsWork, IsRoomFor};
 ghost use Rattle.hz_batch.specs.Kept.{HoldBoth};
 ghost use Rattle.hz_batch.specs.Laws.{AreLaws};
-ghost use Rattle.hz_batch.specs.Outcome.{Outcome};
+ghost use Rattle.hz_batch.specs.PatternEnd.{PatternEnd};
 ghost use Rattle.hz_batch.specs.Written.{AreWritten};
 
 use crate::columns::{Columns, keep_keys, keep_values};
@@ -59,11 +59,11 @@ pub(crate) fn write_blocks<K: Sink>(
     requires net { AreOf work.now.net.now planes.old }
     requires room { IsRoomFor work.now.net.now room.old }
     requires counts { room.old.counts ≡ no_counts }
-    ensures gave { (outcomes : List Outcome)
+    ensures gave { (endings : List PatternEnd)
         × AreEach (comes_to work.now.job work.now.net.now work.now.patterns.now.held)
-        work.now.patterns.now.patterns outcomes
-        × Writes K.output K.faults (outcome_lines work.now.net.now 1 outcomes) writer.old writer.new
-        × (has_failed writer.new ≡ false → AddsCounts outcomes no_counts room.new.counts) }
+        work.now.patterns.now.patterns endings
+        × Writes K.output K.faults (ending_lines work.now.net.now 1 endings) writer.old writer.new
+        × (has_failed writer.new ≡ false → AddsCounts endings no_counts room.new.counts) }
     ensures planes { has_failed writer.new ≡ false
         → planes.new ≡ planes_after (loaded_by work.now.job work.now.patterns.now) planes.old
         (block_count (length work.now.patterns.now.patterns)) }

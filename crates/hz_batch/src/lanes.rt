@@ -14,7 +14,7 @@ ghost use Rattle.hz_report.specs.Outputs.{output_values};
 ghost use Rattle.hz_text.specs.PatternText.{IsPatternOf};
 ghost use Rattle.hz_text.specs.PatternValue.{PatternOf};
 ghost use Rattle.hz_write.specs.Writer.{Writes, NoneWaits};
-ghost use Rattle.hz_batch.specs.BatchText.{outcome_line, refused_line};
+ghost use Rattle.hz_batch.specs.BatchText.{ending_line, refused_line};
 ghost use Rattle.hz_batch.specs.Blocks.{load_of};
 ghost use Rattle.hz_batch.specs.Columns.{HasColumns};
 ghost use Rattle.hz_batch.specs.Comes.{comes_to, held_by, kept_at};
@@ -23,7 +23,7 @@ ghost use Rattle.hz_batch.specs.Inside.{IsWork};
 ghost use Rattle.hz_batch.specs.Keys.{HaveKeys};
 ghost use Rattle.hz_batch.specs.Kept.{AreColumnsFor, HoldBoth};
 ghost use Rattle.hz_batch.specs.Laws.{AreLaws};
-ghost use Rattle.hz_batch.specs.Outcome.{Outcome, IsOutcome};
+ghost use Rattle.hz_batch.specs.PatternEnd.{PatternEnd, IsPatternEnd};
 ghost use Rattle.hz_batch.specs.Lines.{IsLineFor};
 
 use crate::blocks::Work;
@@ -62,23 +62,23 @@ pub(crate) fn write_lane<K: Sink>(
     ensures gave { (pattern : PatternOf) → IsPatternOf work.now.net.now.inputs pattern
         → slice_get planes.now.lanes at.lane
         ≡ Some (load_of (held_by work.now.job work.now.patterns.now.held) pattern)
-        → (outcome : Outcome)
-        × comes_to work.now.job work.now.net.now work.now.patterns.now.held pattern outcome
-        × IsMarkOf outcome result
-        × Writes K.output K.faults (outcome_line work.now.net.now at.number outcome)
+        → (ending : PatternEnd)
+        × comes_to work.now.job work.now.net.now work.now.patterns.now.held pattern ending
+        × IsMarkOf ending result
+        × Writes K.output K.faults (ending_line work.now.net.now at.number ending)
         writer.old writer.new }
     ensures none_waits { NoneWaits writer.new }
 {
     let _variables = work.net.len();
     match work.job {
-        Job::Batch => write_outcome(writer, work.net, planes, at, columns, line),
+        Job::Batch => write_ending(writer, work.net, planes, at, columns, line),
         Job::Reset => write_values(writer, work.net, planes, at, columns, line),
     }
 }
 
 // Gives the line of a lane that lists a start: the gate for which the start is refused, or what
 // both algorithms come to.
-fn write_outcome<K: Sink>(
+fn write_ending<K: Sink>(
     writer: &mut Writer<'_, K>,
     net: &Net,
     planes: &Planes,
@@ -97,9 +97,9 @@ fn write_outcome<K: Sink>(
     requires line { IsLineFor net.now line.old }
     ensures line { IsLineFor net.now line.new }
     ensures gave { (loaded : Loaded) → slice_get planes.now.lanes at.lane ≡ Some (Some loaded)
-        → (outcome : Outcome) × IsOutcome net.now loaded.listed loaded.input outcome
-        × IsMarkOf outcome result
-        × Writes K.output K.faults (outcome_line net.now at.number outcome) writer.old writer.new }
+        → (ending : PatternEnd) × IsPatternEnd net.now loaded.listed loaded.input ending
+        × IsMarkOf ending result
+        × Writes K.output K.faults (ending_line net.now at.number ending) writer.old writer.new }
     ensures none_waits { NoneWaits writer.new }
 {
     let _variables = net.len();
@@ -140,9 +140,9 @@ fn write_values<K: Sink>(
         → slice_get planes.now.lanes at.lane ≡ Some (Some loaded)
         → IsFilledStart net.now loaded.listed first
         → SettlesTo (network_of net.now) loaded.input first settled
-        → IsMarkOf (Outcome.Settled first settled) result
-        × Writes K.output K.faults (outcome_line net.now at.number (Outcome.Settled first settled))
-        writer.old writer.new }
+        → IsMarkOf (PatternEnd.Settled first settled) result
+        × Writes K.output K.faults
+        (ending_line net.now at.number (PatternEnd.Settled first settled)) writer.old writer.new }
     ensures none_waits { NoneWaits writer.new }
 {
     let _variables = net.len();

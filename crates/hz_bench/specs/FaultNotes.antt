@@ -46,12 +46,12 @@ no_notes =
       variables = 0;
     }
 
--- the line that was noted first, or this one where it is the first to be noted
+-- the line that was noted first, or this one if it is the first to be noted
 abbrev pub first_of : Option ℕ → Bool → ℕ → Option ℕ
 first_of (Some first) here line = Some first
 first_of None here line = if here then Some line else None
 
--- the wrong pins that were noted first, or this statement where it is the first
+-- the wrong pins that were noted first, or this statement if it is the first
 abbrev pub wrong_or : Option WrongPins → Numbered Statement → Option WrongPins
 wrong_or (Some first) numbered = Some first
 wrong_or None numbered =

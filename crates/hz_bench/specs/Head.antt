@@ -34,7 +34,7 @@ abbrev pub statement_by : Option (List TokenOf) → Option Statement
 statement_by None = None
 statement_by (Some tokens) = statement_of tokens
 
--- what is read of a line: its statement, or nothing where it has none
+-- what is read of a line: its statement, or nothing if it has none
 abbrev pub IsStatementOfLine : ℕ → List ℕ → Option Line → Type 0
 IsStatementOfLine line text None = statement_by (tokens_of text) ≡ None
 IsStatementOfLine line text (Some found) =

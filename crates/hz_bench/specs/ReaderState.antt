@@ -48,7 +48,7 @@ pub record KeepsNode (old : Statements) (entry : Entry) (number : ℕ)
   pub again : new.again ≡ old.again
 
 -- the next statement was added to those before it: its names; what it defines, reads or puts out, by the numbers of the names; and notes.
--- Of nodes nothing is kept where there are too many variables
+-- Of nodes nothing is kept if there are too many variables
 pub record AddsStatement (old : Statements) (next : Numbered Statement)
     (new : Statements) : Type 0 where
   pub names : new.names ≡ with_statement old.names next

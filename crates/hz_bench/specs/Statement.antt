@@ -143,12 +143,12 @@ words_of [] = []
 words_of (WordOf word ∷ tokens) = word ∷ words_of tokens
 words_of (PunctuationOf punctuation ∷ tokens) = words_of tokens
 
--- the words among tokens; none where there are no tokens
+-- the words among tokens; none if there are no tokens
 abbrev pub words_by : Option (List TokenOf) → List (List ℕ)
 words_by None = []
 words_by (Some tokens) = words_of tokens
 
--- the words of a part of a line; none where it has no tokens
+-- the words of a part of a line; none if it has no tokens
 abbrev pub words_in : List ℕ → List (List ℕ)
 words_in part = words_by (tokens_of part)
 

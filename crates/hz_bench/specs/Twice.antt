@@ -17,7 +17,7 @@ abbrev pub earlier_line : List (Numbered Statement) → Option (List ℕ) → Op
 earlier_line seen None = None
 earlier_line seen (Some name) = definer seen name
 
--- the first statement that defines a name which an earlier one defines, where these came before
+-- the first statement that defines a name which an earlier one defines, if these came before
 abbrev pub twice_after : List (Numbered Statement) → List (Numbered Statement) → Option BenchFault
 twice_after seen [] = None
 twice_after seen (first ∷ rest) =

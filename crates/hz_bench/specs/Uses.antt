@@ -18,7 +18,7 @@ use Rattle.hz_bench.specs.Names.{places, read_names, told}
 use Rattle.hz_bench.specs.Netlist.{elements_of}
 use Rattle.hz_bench.specs.Statement.{Statement, sources_of}
 
--- the nodes that the pins of statements read, gate by gate, where the nodes have these names
+-- the nodes that the pins of statements read, gate by gate, if the nodes have these names
 abbrev pub pins_in : List (List ℕ) → List Statement → List ℕ
 pins_in names [] = []
 pins_in names (statement ∷ rest) =

@@ -39,7 +39,7 @@ with_input_numbered name netlist number = with_input netlist (name number)
 abbrev pub MayAddInputNumbered : (ℕ → List ℕ) → Netlist → ℕ → Type 0
 MayAddInputNumbered name netlist number = MayAddInput netlist (Input (name number))
 
--- the circuit with a gate, without pins, where the names of the text are these by their numbers
+-- the circuit with a gate, without pins, if the names of the text are these by their numbers
 abbrev pub with_gate_entry : (ℕ → List ℕ) → Netlist → GateEntry → Netlist
 with_gate_entry name netlist gate = with_gate netlist (gate_name name gate) gate.kind
 
@@ -70,7 +70,7 @@ MayAddPinsBy netlist number (gate ∷ gates) nodes =
     × MayAddPinsBy (fold (with_pin_from number) netlist (take gate.pins nodes)) (suc number) gates
     (drop gate.pins nodes)
 
--- the nodes of names by their numbers, where these names are the nodes from this one on
+-- the nodes of names by their numbers, if these names are the nodes from this one on
 abbrev pub with_input_nodes : ℕ → List ℕ → List ℕ → List ℕ
 with_input_nodes node nodes [] = nodes
 with_input_nodes node nodes (number ∷ rest) =
@@ -82,13 +82,13 @@ with_role_node (role.Inverter pin) node nodes output = nodes
 with_role_node (role.Row row) node nodes output = nodes
 with_role_node role.Output node nodes output = slice_set nodes output node
 
--- the nodes of names, where these gates are the nodes from this one on
+-- the nodes of names, if these gates are the nodes from this one on
 abbrev pub with_gate_nodes : ℕ → List ℕ → List GateEntry → List ℕ
 with_gate_nodes node nodes [] = nodes
 with_gate_nodes node nodes (gate ∷ rest) =
     with_gate_nodes (suc node) (with_role_node gate.role node nodes gate.output) rest
 
--- the node that a pin reads, where names have these nodes and so many inputs come before the gates
+-- the node that a pin reads, if names have these nodes and so many inputs come before the gates
 abbrev pub source_node : List ℕ → ℕ → Source → ℕ
 source_node nodes inputs (source.Name number) = slice_index_or nodes number 0
 source_node nodes inputs (source.Gate gate) = inputs + gate

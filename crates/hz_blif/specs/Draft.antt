@@ -34,7 +34,7 @@ varying covers = filter (λ cover. not (is_constant cover)) covers
 abbrev pub cover_uses : Cover → List (Numbered (List ℕ))
 cover_uses cover = if is_constant cover then [] else on_line cover.line cover.pins
 
--- the names that lines use, in the order of the lines, where no constant cover is used
+-- the names that lines use, in the order of the lines, if no constant cover is used
 abbrev pub uses_in_order : List (Numbered Line) → List (Numbered (List ℕ))
 uses_in_order [] = []
 uses_in_order (first ∷ rest) =
@@ -77,8 +77,8 @@ pub record HoldsCovers (covers : List Cover) (draft : Draft) : Type 0 where
       ≡ flat_map (λ cover. cover.pins) (filter is_constant covers)
   pub pin_numbers : AreNumbers draft.names draft.constant_pins.items
 
--- what lines are, as far as they were read: the first line with a long name and the first construct, the names that they define and use, and
--- their covers, of which the last one may still get rows
+-- what lines are, as far as they were read: the first line with a long name and the first construct, the names that they define
+-- and use, and their covers, of which the last one may still get rows
 pub record Read : Type 0 where
   pub long_name : Option ℕ
   pub construct : Option ℕ

@@ -1,4 +1,4 @@
--- What the entries of gates stand for: their elements, where names are known by their numbers.
+-- What the entries of gates stand for: their elements, with names that are known by their numbers.
 use Rattle.std.specs.Prelude.{◌≡◌, ◌≢◌, ℕ, suc, ◌+◌, ◌<◌, ◌≤◌, ◌==◌, Bool, true, List, [], ◌∷◌, ◌++◌, length, map, take, drop, Contains, Option, Some, None, if◌then◌else◌}
 use Rattle.std.specs.List.{All, list_all, slice_index_or, sum_by}
 use Rattle.std.specs.Str.{bytes_eq}
@@ -22,16 +22,16 @@ role_name (Inverter pin) output = inverter_name output pin
 role_name (Row row) output = row_name output row
 role_name Output output = output
 
--- the name of a gate, where the names of the text are these by their numbers
+-- the name of a gate, if the names of the text are these by their numbers
 abbrev pub gate_name : (ℕ → List ℕ) → GateEntry → List ℕ
 gate_name name gate = role_name gate.role (name gate.output)
 
--- the node that a pin reads, where the gates have these names
+-- the node that a pin reads, if the gates have these names
 abbrev pub source_name : (ℕ → List ℕ) → List (List ℕ) → Source → List ℕ
 source_name name made (source.Name number) = name number
 source_name name made (source.Gate number) = slice_index_or made number []
 
--- the elements of gates that read these sources, gate after gate, where all gates have these names
+-- the elements of gates that read these sources, gate after gate, if all gates have these names
 abbrev pub elements_from : (ℕ → List ℕ) → List (List ℕ) → List GateEntry → List Source →
     List Element
 elements_from name made [] sources = []
@@ -39,7 +39,7 @@ elements_from name made (gate ∷ gates) sources =
     Gate (gate_name name gate) gate.kind (map (source_name name made) (take gate.pins sources))
     ∷ elements_from name made gates (drop gate.pins sources)
 
--- the elements for which gates stand, where the names of the text are these by their numbers
+-- the elements for which gates stand, if the names of the text are these by their numbers
 abbrev pub elements_by : (ℕ → List ℕ) → Gates → List Element
 elements_by name gates =
     elements_from name (map (gate_name name) gates.gates.items) gates.gates.items
@@ -92,7 +92,7 @@ planes_by cover = bytes_of cover.rows.planes.items
 abbrev pub column_by : Cover → Bool
 column_by cover = bytes_eq cover.rows.column.now (49 ∷ [])
 
--- the literals of a plane of a cover, where the names of the text are these by their numbers
+-- the literals of a plane of a cover, if the names of the text are these by their numbers
 abbrev pub literals_by : (ℕ → List ℕ) → Cover → List ℕ → List Literal
 literals_by name cover plane = literals_of (map name cover.pins.items) plane
 
@@ -108,7 +108,7 @@ abbrev pub inverters_by : (ℕ → List ℕ) → Cover → List Element
 inverters_by name cover =
     inverters_from (name cover.output) (planes_by cover) 0 (map name cover.pins.items)
 
--- the node that stands for the 0 of each pin: its inverter; the pin itself where no plane has a 0
+-- the node that stands for the 0 of each pin: its inverter; the pin itself if no plane has a 0
 abbrev pub inverted_from : List ℕ → List (List ℕ) → ℕ → List (List ℕ) → List (List ℕ)
 inverted_from output planes before [] = []
 inverted_from output planes before (pin ∷ pins) =
@@ -145,7 +145,7 @@ pub record IsPlane (cover : Cover) (plane : List ℕ) : Type 0 where
 abbrev pub IsPrefix : {A : Type 0} → List A → List A → Type 0
 IsPrefix {A} front items = (rest : List A) × (items ≡ front ++ rest)
 
--- sources of a cover's gates read the nodes with these names, where the gates so far are these
+-- sources of a cover's gates read the nodes with these names, if the gates so far are these
 pub record ReadAs (cover : Cover) (gates : List GateEntry) (sources : List Source)
     (names : (ℕ → List ℕ) → List (List ℕ)) : Type 0 where
   pub below : All (ReadsGateBelow (length gates)) sources

@@ -17,7 +17,7 @@ literal_with place pin byte rest =
     if byte == 45 then rest
     else record { place = place; pin = pin; plain = not (byte == 48) } ∷ rest
 
--- the literals of a plane, where its first pin has this number
+-- the literals of a plane, if its first pin has this number
 abbrev pub literals_from : ℕ → List (List ℕ) → List ℕ → List Literal
 literals_from place [] plane = []
 literals_from place (pin ∷ pins) [] = []
@@ -49,7 +49,7 @@ literal_names output literals = map (literal_name output) literals
 abbrev pub has_zero : List (List ℕ) → ℕ → Bool
 has_zero planes pin = list_any (λ plane. slice_index_or plane pin 45 == 48) planes
 
--- the inverters of pins, where so many pins come before them
+-- the inverters of pins, if so many pins come before them
 abbrev pub inverters_from : List ℕ → List (List ℕ) → ℕ → List (List ℕ) → List Element
 inverters_from output planes before [] = []
 inverters_from output planes before (pin ∷ pins) =
@@ -58,7 +58,7 @@ inverters_from output planes before (pin ∷ pins) =
     ∷ inverters_from output planes (suc before) pins
     else inverters_from output planes (suc before) pins
 
--- the gate of a row, which has this number, before others: where the row has two or more literals
+-- the gate of a row, which has this number, before others, if the row has two or more literals
 abbrev pub row_gate_with : List ℕ → ℕ → List Literal → List Element → List Element
 row_gate_with output row [] rest = rest
 row_gate_with output row (one ∷ []) rest = rest
@@ -71,7 +71,7 @@ row_gates_from output row [] = []
 row_gates_from output row (literals ∷ rows) =
     row_gate_with output row literals (row_gates_from output (suc row) rows)
 
--- the node for which a row stands: its gate, or its literal where it has only one
+-- the node for which a row stands: its gate, or its literal if it has only one
 abbrev pub term : List ℕ → ℕ → List Literal → List ℕ
 term output row [] = row_name output row
 term output row (one ∷ []) = literal_name output one
@@ -83,7 +83,7 @@ terms_from output row [] = []
 terms_from output row (literals ∷ rows) =
     term output row literals ∷ terms_from output (suc row) rows
 
--- the gate of a cover of one row with one literal: a buffer where the literal equals the output column, else an inverter
+-- the gate of a cover of one row with one literal: a buffer if the literal equals the output column, else an inverter
 abbrev pub literal_gate : List ℕ → Bool → Literal → Element
 literal_gate output column literal =
     if literal.plain then Gate output (if column then Buff else Not) (literal.pin ∷ [])

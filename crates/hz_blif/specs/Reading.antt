@@ -21,7 +21,7 @@ abbrev pub begins_blank : List ℕ → Bool
 begins_blank [] = false
 begins_blank (byte ∷ rest) = is_blank byte
 
--- the first word of a line, with the line after it; none where the line has no token
+-- the first word of a line, with the line after it; none if the line has no token
 abbrev pub IsFirstWord : List ℕ → Option (Bor (List ℕ) × Bor (List ℕ)) → Type 0
 IsFirstWord line None = tokens_of line ≡ []
 IsFirstWord line (Some found) =

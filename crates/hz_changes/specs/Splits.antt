@@ -58,7 +58,8 @@ abbrev pub found_in : Netlist → FindingOf → List (List (List ℕ))
 found_in netlist finding =
     runs_found (network_of netlist) (map (λ row. row.start) finding.rows) finding
 
--- the text of changes, the first of which has a number: that of the first one which leaves a variable unsettled
+-- The text of changes, the first of which has a number: that of the first one which leaves a variable unsettled. A change that
+-- is stopped stands only behind such a one (`AreAnalyses`), so its case doesn't come.
 abbrev pub changes_text : Netlist → ℕ → List Analysis → List ℕ
 changes_text netlist number [] = line_of (codes "split settled" ∷ [])
 changes_text netlist number (Stopped var ∷ analyses) = []
@@ -78,7 +79,7 @@ pub record IsSplitOf (netlist : Netlist) (finding : FindingOf) : Type 0 where
       (run_text_printed netlist (runs_of_split netlist finding (found_in netlist finding)))
       (map closed (found_in netlist finding))
 
--- so it is of the first change that leaves a variable unsettled
+-- So it is of the first change that leaves a variable unsettled, and a change that is stopped doesn't come here either.
 abbrev pub AreSplits : Netlist → List Analysis → Type 0
 AreSplits netlist [] = Unit {0}
 AreSplits netlist (Stopped var ∷ analyses) = Unit {0}

@@ -9,7 +9,7 @@ abbrev pub HasOneBit : Kind → Bool → Bool → Type 0
 HasOneBit kind value bit =
     (list : List Bool) → gate_value kind list ≡ value → list ≡ replicate (length list) bit
 
--- where the gate has the other value, each pin alone gives it this one
+-- if the gate has the other value, each pin alone gives it this one
 abbrev pub IsSwitchedByAnyPin : Kind → Bool → Type 0
 IsSwitchedByAnyPin kind value =
     (list : List Bool) → IsTrue (takes kind (length list)) → gate_value kind list ≡ not value →

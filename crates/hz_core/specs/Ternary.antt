@@ -8,7 +8,7 @@ abbrev pub tri_of : Bool → Tri
 tri_of false = Zero
 tri_of true = One
 
--- the bit of a value, where it is known
+-- the bit of a value, if it is known
 abbrev pub known_bit : Tri → Option Bool
 known_bit Zero = Some false
 known_bit One = Some true
@@ -33,7 +33,7 @@ admits One true = true
 admits Unknown false = true
 admits Unknown true = true
 
--- the least value above both, where 0 and 1 lie below X
+-- the least value above both: 0 and 1 lie below X
 abbrev pub join_of : Tri → Tri → Tri
 join_of Zero Zero = Zero
 join_of Zero One = Unknown
@@ -57,7 +57,7 @@ is_below Unknown Zero = false
 is_below Unknown One = false
 is_below Unknown Unknown = true
 
--- two lists of values where each value of the first lies below the value at its place or is equal to it
+-- two lists of values in which each value of the first lies below the value at its place or is equal to it
 abbrev pub AllBelow : List Tri → List Tri → Type 0
 AllBelow [] [] = Unit {0}
 AllBelow [] (large ∷ larger) = ⊥
@@ -65,14 +65,14 @@ AllBelow (small ∷ smaller) [] = ⊥
 AllBelow (small ∷ smaller) (large ∷ larger) =
     IsTrue (is_below small large) × AllBelow smaller larger
 
--- a list of bits refines a list of values where each bit refines the value at its place
+-- a list of bits refines a list of values if each bit refines the value at its place
 abbrev pub Refines : List Bool → List Tri → Type 0
 Refines [] [] = Unit {0}
 Refines [] (value ∷ values) = ⊥
 Refines (bit ∷ bits) [] = ⊥
 Refines (bit ∷ bits) (value ∷ values) = IsTrue (admits value bit) × Refines bits values
 
--- the join of a nonempty set of bits: the bit where the set has one member, else X
+-- the join of a nonempty set of bits: the bit if the set has one member, else X
 abbrev pub IsJoinOf : (Bool → Type 0) → Tri → Type 0
 IsJoinOf set Zero = set false × (set true → ⊥)
 IsJoinOf set One = set true × (set false → ⊥)

@@ -9,8 +9,8 @@ use Rattle.hz_gmw.specs.Runs.{end_of, JoinsTo}
 use Rattle.hz_gmw.specs.Cycles.{IsOutcome}
 use Rattle.hz_cycle.specs.Cycles.{IsSettleRun, IsCycleOf}
 
--- Algorithm B is exact where a change has a settle run and a cycle that begins at its end: the value of its result at a
--- variable is the join of the values that the variable has in the outcome states. So there are outcome states, and where
+-- Algorithm B is exact if a change has a settle run and a cycle that begins at its end: the value of its result at a
+-- variable is the join of the values that the variable has in the outcome states. So there are outcome states, and if
 -- the result is X, one of them has 0 there and another has 1.
 abbrev pub RunsShowB : Type 0
 RunsShowB =

@@ -15,7 +15,7 @@
 -- IsOneRound when order place next: the variables that settle in one round
 -- IsSettlingRun net input when b start steps state: a run that settles them round by round
 -- HasSettleRunAndCycle net input start a b: both runs exist for a change
--- SettleRunsExist, RunsShowB: they always do, and where they do Algorithm B is exact
+-- SettleRunsExist, RunsShowB: they always do, and if they do Algorithm B is exact
 -- BIsExact: the value of Algorithm B is the join over the outcome states
 -- OutcomesExist: there is an outcome state
 

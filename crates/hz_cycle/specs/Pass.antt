@@ -22,7 +22,7 @@ pub record IsFixed (net : List Driver) (input : List Bool) (b : List Tri) : Type
   pub same : (i : ℕ) → i < length net → value_at b i ≡ driver_value3 input b (driver_at net i)
 
 -- What a pass is given of a change: values that one round of Algorithm B leaves as they are, under some input, and ranks of
--- which none is 0 where the value is X.
+-- which none is 0 if the value is X.
 pub record AreFixedAndRanked (net : List Driver) (ranks : List ℕ) (b : List Tri) : Type 0 where
   pub input : List Bool
   pub fixed : IsFixed net input b

@@ -28,7 +28,7 @@ pub record IsShown (net : List Driver) (ranks : List ℕ) (b : List Tri) (state 
       (IsEarlier ranks source gate → ⊥) → bit_at shown pin ≡ bit_at state source
 
 -- An unsettled gate's wires from earlier sources have their bits in the canonical pattern which gives the gate its bit, of
--- what its pins show, where the unsettled pins are free.
+-- what its pins show, if the unsettled pins are free.
 pub record HasPattern (net : List Driver) (ranks : List ℕ) (b : List Tri) (state : List Bool)
     (gate : ℕ) (kind : Kind) (first pins : ℕ) : Type 0 where
   pub shown : List Bool

@@ -32,16 +32,17 @@ pub(crate) fn count_races(
 ) -> Races
     requires input { IsInput follower.old.circuit change.now.input.now }
     requires start { IsState follower.old.circuit change.now.start.now }
-    requires spread { IsShortRun (network_of follower.old.circuit) change.now.input.now change.now.start.now
-        spread.now.steps }
-    requires settle { IsShortRun (network_of follower.old.circuit) change.now.input.now change.now.start.now
-        settle.now.steps }
+    requires spread { IsShortRun (network_of follower.old.circuit)
+        change.now.input.now change.now.start.now spread.now.steps }
+    requires settle { IsShortRun (network_of follower.old.circuit)
+        change.now.input.now change.now.start.now settle.now.steps }
     requires cycle { IsShortRun (network_of follower.old.circuit) change.now.input.now
         (end_of change.now.start.now settle.now.steps) cycle.now.steps }
     requires common { BeginAlike spread.now.steps settle.now.steps common }
-    ensures races { AreRacesOf (network_of follower.old.circuit) change.now.input.now change.now.start.now
-        spread.now.steps settle.now.steps cycle.now.steps result.spread
-        result.settle result.cycle }
+    ensures races { AreRacesOf (network_of follower.old.circuit)
+        change.now.input.now change.now.start.now
+        spread.now.steps settle.now.steps cycle.now.steps
+        result.spread result.settle result.cycle }
     ensures circuit { follower.new.circuit ≡ follower.old.circuit }
 {
     follower.begin(change.input, change.start);

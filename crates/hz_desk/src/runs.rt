@@ -33,8 +33,9 @@ pub(crate) fn make_runs(
     requires spread { HasRunRoom (length (network_of change.now.net.now)) spread.old }
     requires settle { HasRunRoom (2 * length (network_of change.now.net.now)) settle.old }
     requires cycle { HasRunRoom (4 * length (network_of change.now.net.now)) cycle.old }
-    ensures runs { AreRuns (network_of change.now.net.now) change.now.input.now change.now.start.now results.now.a.now
-        results.now.b.now spread.new.steps settle.new.steps cycle.new.steps }
+    ensures runs { AreRuns (network_of change.now.net.now)
+        change.now.input.now change.now.start.now results.now.a.now results.now.b.now
+        spread.new.steps settle.new.steps cycle.new.steps }
     ensures common { BeginAlike spread.new.steps settle.new.steps result }
     ensures scratch { IsScratchFor change.now.net.now scratch.new }
     ensures spread_room { HasRunRoom (length (network_of change.now.net.now)) spread.new }
@@ -70,13 +71,15 @@ fn make_spread(
     spread: &mut Run,
     settle: &mut Run,
 )
-    requires change { AreResultsOfA change.now.net.now change.now.start.now change.now.input.now a.now ranks.now }
+    requires change { AreResultsOfA change.now.net.now
+        change.now.start.now change.now.input.now a.now ranks.now }
     requires scratch { IsScratchFor change.now.net.now scratch.old }
     requires spread_room { HasRunRoom (length (network_of change.now.net.now)) spread.old }
     requires settle_room { HasRunRoom (2 * length (network_of change.now.net.now)) settle.old }
-    ensures spread { IsSpreadRun (network_of change.now.net.now) change.now.input.now change.now.start.now a.now spread.new.steps }
-    ensures begun { IsSparingRun (network_of change.now.net.now) change.now.input.now change.now.start.now a.now ranks.now
-        settle.new.steps }
+    ensures spread { IsSpreadRun (network_of change.now.net.now)
+        change.now.input.now change.now.start.now a.now spread.new.steps }
+    ensures begun { IsSparingRun (network_of change.now.net.now)
+        change.now.input.now change.now.start.now a.now ranks.now settle.new.steps }
     ensures beginning { BeginAlike spread.new.steps settle.new.steps (length settle.new.steps) }
     ensures state { scratch.new.state ≡ end_of change.now.start.now settle.new.steps }
     ensures marked { scratch.new.marked ≡ [] }

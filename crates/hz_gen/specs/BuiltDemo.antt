@@ -1,4 +1,4 @@
--- The circuit as it is built, gate by gate, where pins read nodes by their numbers.
+-- The circuit as it is built, gate by gate, in which pins read nodes by their numbers.
 use Rattle.std.specs.Prelude.{◌≡◌, ℕ, zero, suc, ◌+◌, ◌-◌, ◌*◌, ◌<◌, ◌≤◌, List, [], ◌∷◌, ◌++◌, length, map, All, None, codes}
 use Rattle.std.specs.List.{range_with_len, flat_map}
 use Rattle.hz_core.specs.declared.kind.Kind.{Kind}
@@ -58,7 +58,7 @@ ring_netlist first buffers =
 abbrev pub multiplexer_names : ℕ → List (List ℕ)
 multiplexer_names i = a_name i ∷ b_name i ∷ m_name i ∷ []
 
--- the number of the last gate of a multiplexer, where the ring has n gates; the input x stands before the first one
+-- the number of the last gate of a multiplexer, if the ring has n gates; the input x stands before the first one
 abbrev pub last_gate : ℕ → ℕ → ℕ
 last_gate n zero = 1
 last_gate n (suc i) = n + 3 * suc i + 3

@@ -19,7 +19,7 @@ pub record Replayer : Type 0 where
   pub stepped : Bool
   pub watched : List Bool
 
--- A replayer stands for a run from its marked state to its current one, which has a step exactly where one was made since
+-- A replayer stands for a run from its marked state to its current one, which has a step exactly if one was made since
 -- the mark, and all along which exactly the watched variables wait.
 pub record StandsFor (now : Replayer) (steps : List (List ℕ)) : Type 0 where
   pub run : IsRun (network_of now.circuit) now.input now.marked steps

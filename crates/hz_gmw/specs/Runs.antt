@@ -43,6 +43,6 @@ abbrev pub IsReachable : List Driver → List Bool → List Bool → List Bool �
 IsReachable net input start state =
     (steps : List (List ℕ)) × IsRun net input start steps × (end_of start steps ≡ state)
 
--- the join, over a set of states, of the values of variable i: that value where all agree, else X
+-- the join, over a set of states, of the values of variable i: that value if all agree, else X
 abbrev pub JoinsTo : (List Bool → Type 0) → ℕ → Tri → Type 0
 JoinsTo states i = IsJoinOf (λ bit. (state : List Bool) × states state × (bit_at state i ≡ bit))

@@ -1,4 +1,4 @@
--- What a fault says, where one fault says nothing.
+-- What a fault says, if there is one fault that says nothing.
 use Rattle.std.specs.Prelude.{◌≡◌, ◌⊎◌}
 
 -- the fault is that one, or this holds of it; so is a refusal told for which memory may always run out

@@ -20,7 +20,7 @@ abbrev pub meaning_read : {H S : Type 0} → (H → S) → Option H → Meaning 
 meaning_read stated None = Nothing
 meaning_read stated (Some held) = Means (stated held)
 
--- what a grammar makes of the tokens of a line: nothing, where the line has no list of tokens
+-- what a grammar makes of the tokens of a line: nothing, if the line has no list of tokens
 abbrev pub by_tokens : {A : Type 0} → (List TokenOf → Option A) → Option (List TokenOf) → Option A
 by_tokens grammar None = None
 by_tokens grammar (Some tokens) = grammar tokens

@@ -66,7 +66,7 @@ abbrev pub first_passing_line : {S : Type 0} → (S → Bool) → List (Numbered
 first_passing_line test statements =
     option_map (λ numbered. numbered.line) (find (λ numbered. test numbered.statement) statements)
 
--- the first malformed line, where the line with this number means this, and later ones have this first one
+-- the first malformed line, if the line with this number means this, and later ones have this first one
 abbrev pub malformed_before : {S : Type 0} → ℕ → Meaning S → Option ℕ → Option ℕ
 malformed_before line Nothing later = later
 malformed_before line Malformed later = Some line

@@ -53,7 +53,7 @@ tokens_with byte WordByte rest tokens =
     else with_token (WordOf (byte ∷ [])) tokens
 tokens_with byte Forbidden rest tokens = None
 
--- the tokens of a line, or none where a forbidden byte stands before its comment
+-- the tokens of a line, or none if a forbidden byte stands before its comment
 abbrev pub tokens_of : List ℕ → Option (List TokenOf)
 tokens_of [] = Some []
 tokens_of (byte ∷ rest) = tokens_with byte (class_of byte) rest (tokens_of rest)

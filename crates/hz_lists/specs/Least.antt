@@ -6,7 +6,7 @@ pub record IsLeast (holds : ℕ → Type 0) (i : ℕ) : Type 0 where
   pub here : holds i
   pub least : (j : ℕ) → holds j → i ≤ j
 
--- the least number for which it holds, or none where there is none
+-- the least number for which it holds, or none if there is none
 abbrev pub IsLeastOf : (ℕ → Type 0) → Option ℕ → Type 0
 IsLeastOf holds None = (i : ℕ) → holds i → ⊥
 IsLeastOf holds (Some i) = IsLeast holds i

@@ -101,10 +101,10 @@ excitation net input state i = driver_value input state (driver_at net i)
 abbrev pub excitation3 : List Driver → List Bool → List Tri → ℕ → Tri
 excitation3 net input state i = driver_value3 input state (driver_at net i)
 
--- a variable is unstable where its value differs from its excitation
+-- a variable is unstable if its value differs from its excitation
 abbrev pub IsUnstable : List Driver → List Bool → List Bool → ℕ → Type 0
 IsUnstable net input state i = bit_at state i ≢ excitation net input state i
 
--- a state is stable where each variable has the value of its excitation
+-- a state is stable if each variable has the value of its excitation
 abbrev pub IsStable : List Driver → List Bool → List Bool → Type 0
 IsStable net input state = (i : ℕ) → i < length net → bit_at state i ≡ excitation net input state i

@@ -42,12 +42,12 @@ IsDerivation netlist listed [] = Unit {0}
 IsDerivation netlist listed (pair ∷ earlier) =
     IsGiven netlist listed earlier pair.0 pair.1 × IsDerivation netlist listed earlier
 
--- a node is forced to a bit where some derivation ends with this pair
+-- a node is forced to a bit if some derivation ends with this pair
 abbrev pub IsForced : Netlist → List (Option Bool) → ℕ → Bool → Type 0
 IsForced netlist listed node bit =
     (earlier : List (ℕ × Bool)) × IsDerivation netlist listed ((node, bit) ∷ earlier)
 
--- a node is open where it is forced to no bit
+-- a node is open if it is forced to no bit
 abbrev pub IsOpen : Netlist → List (Option Bool) → ℕ → Type 0
 IsOpen netlist listed node = (bit : Bool) → IsForced netlist listed node bit → ⊥
 
@@ -57,7 +57,7 @@ ListsInputs netlist listed =
     (input : ℕ) → IsPrimaryInput netlist input →
     (bit : Bool) × (slice_get listed input ≡ Some (Some bit))
 
--- The completed start, which is there where no node is open: each node has the bit to which it is forced, each wire its
+-- The completed start, which is there if no node is open: each node has the bit to which it is forced, each wire its
 -- source's.
 pub record IsCompletedStart (netlist : Netlist) (listed : List (Option Bool))
     (state : List Bool) : Type 0 where

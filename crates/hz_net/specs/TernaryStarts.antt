@@ -22,7 +22,7 @@ pub record SettlesTo (net : List Driver) (input : List Bool)
   pub is_spread : IsResult (algorithm_a_from net input first) spread
   pub is_settled : IsResult (algorithm_b net input spread) settled
 
--- the value of a variable at a start where nothing is known but what is held
+-- the value of a variable at a start of which nothing is known but what is held
 abbrev pub held_value : Option Bool → Tri
 held_value None = Unknown
 held_value (Some bit) = tri_of bit

@@ -20,12 +20,12 @@ pub record SinkState : Type 0 where
 abbrev pub empty_sink : SinkState
 empty_sink = record { bytes = []; failing = []; calls = 0; faults = 0 }
 
--- how many bytes the call of this number takes, where it is one that fails: of a number that is listed twice the first counts
+-- how many bytes the call of this number takes, if it is one that fails: of a number that is listed twice the first counts
 abbrev pub taken_at : List FailingPut → ℕ → Option ℕ
 taken_at [] call = None
 taken_at (put ∷ puts) call = if put.call == call then Some put.taken else taken_at puts call
 
--- what the next call takes, where it is one that fails
+-- what the next call takes, if it is one that fails
 abbrev pub taken_next : SinkState → Option ℕ
 taken_next state = taken_at state.failing (count_after state.calls)
 

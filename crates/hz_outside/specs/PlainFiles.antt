@@ -1,4 +1,4 @@
--- What files in memory answer where no load fails.
+-- What files in memory answer if no load fails.
 use Rattle.std.specs.Prelude.{◌≡◌, ℕ, ◌<◌, ◌≤◌, List, [], length}
 use Rattle.hz_outside.specs.Places.{Counts, no_counts, counts_after}
 use Rattle.hz_outside.specs.Shelf.{NamedBytes, contents_of}

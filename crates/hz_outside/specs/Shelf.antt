@@ -6,7 +6,7 @@ pub record NamedBytes : Type 0 where
   pub name : List ℕ
   pub bytes : List ℕ
 
--- the bytes held under a name: those of the first file of this name, and none where there is no such file
+-- the bytes held under a name: those of the first file of this name, and none if there is no such file
 abbrev pub contents_of : List NamedBytes → List ℕ → List ℕ
 contents_of [] name = []
 contents_of (file ∷ files) name =

@@ -1,7 +1,7 @@
 -- What became of the bytes that were put into a sink: they are written, or they wait.
 use Rattle.std.specs.Prelude.{◌≡◌, ℕ, List, [], ◌++◌, Option, Some, None}
 
--- the text with more bytes after it, where it is told
+-- the text with more bytes after it, if it is told
 unfoldable pub extended_text : Option (List ℕ) → List ℕ → Option (List ℕ)
 extended_text None more = None
 extended_text (Some text) more = Some (text ++ more)
@@ -14,7 +14,7 @@ pub record GrewByPrefix (was : Option (List ℕ)) (piece : List ℕ)
   pub parts : front ++ rest ≡ piece
   pub grew : now ≡ extended_text was front
 
--- what is written, where it is told, and the bytes that were taken and are not yet written
+-- what is written, if it is told, and the bytes that were taken and are not yet written
 pub record Output : Type 0 where
   pub written : Option (List ℕ)
   pub waiting : List ℕ

@@ -15,7 +15,7 @@ IsStartFault netlist listed (Open gate) = IsLeastOpen netlist listed gate
 IsStartFault netlist listed (Unstable gate) = IsLeastUnstable netlist listed gate
 IsStartFault netlist listed Memory = Unit {0}
 
--- the bit of a value, 0 where it is X
+-- the bit of a value, 0 if it is X
 abbrev pub bit_or_zero : Tri → Bool
 bit_or_zero value = unwrap_or (known_bit value) false
 

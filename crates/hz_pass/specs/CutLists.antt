@@ -3,7 +3,7 @@ use Rattle.std.specs.Prelude.{◌≡◌, ℕ, ◌<◌, Bool, Option, Some, None,
 use Rattle.std.specs.List.{slice_index_or}
 use Rattle.hz_core.specs.Netlist.{Netlist, IsCutNumber, data_of}
 
--- the list of a node, empty where there is none
+-- the list of a node, empty if there is none
 abbrev pub cuts_at : List (List ℕ) → ℕ → List ℕ
 cuts_at lists node = slice_index_or lists node []
 

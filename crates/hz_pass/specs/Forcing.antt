@@ -10,7 +10,7 @@ use Rattle.hz_net.specs.Variables.{at_wires}
 use Rattle.hz_net.specs.Starts.{IsForced, IsOpen}
 use Rattle.hz_pass.specs.CutLists.{IsDataOf}
 
--- the value of a node that listed values give it, X where they give none
+-- the value of a node that listed values give it, X if they give none
 abbrev pub listed_value : Option (Option Bool) → Tri
 listed_value None = Unknown
 listed_value (Some None) = Unknown
@@ -84,7 +84,7 @@ pub record ForcedSoFar (netlist : Netlist) (listed : List (Option Bool)) (values
   pub waits : All (λ node. (node < length netlist.names) × (value_at values node ≢ Unknown))
       work.waiting
 
--- a node has the bit to which it is forced, and is X where it is open
+-- a node has the bit to which it is forced, and is X if it is open
 pub record AreForcedValues (netlist : Netlist) (listed : List (Option Bool))
     (values : List Tri) : Type 0 where
   pub long : IsState netlist values

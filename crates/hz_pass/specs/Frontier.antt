@@ -33,7 +33,7 @@ pub record AreFirstRounds (sequence : ℕ → List Tri) (state : List Tri)
   pub each : (i : ℕ) → i < length state →
       IsFirstRound sequence i (λ value. value ≡ value_at state i) (slice_index rounds i)
 
--- where excitations take the place of the state, they lie below it
+-- if excitations take the place of the state, they lie below it
 abbrev pub Falls : Rule → List Driver → List Bool → List Tri → Type 0
 Falls Join net input state = Unit {0}
 Falls Replace net input state = AllBelow (excitations net input state) state

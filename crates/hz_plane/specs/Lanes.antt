@@ -12,13 +12,13 @@ use Rattle.hz_plane.specs.declared.listing.Listing.{Listing}
 use Rattle.hz_plane.specs.Loads.{lane_listed}
 use Rattle.hz_plane.specs.Steps.{all_values}
 
--- the value of a node that listed values give it, X where they give none
+-- the value of a node that listed values give it, X if they give none
 abbrev pub listed_value : Option (Option Bool) → Tri
 listed_value None = Unknown
 listed_value (Some None) = Unknown
 listed_value (Some (Some bit)) = tri_of bit
 
--- The values with which the steps begin: the listed ones, and X where none is listed.
+-- The values with which the steps begin: the listed ones, and X if none is listed.
 pub record BeginsStart (netlist : Netlist) (listed : List (Option Bool))
     (values : List Tri) : Type 0 where
   pub count : length values ≡ length netlist.names
@@ -75,7 +75,7 @@ abbrev pub ListsNoGate : Netlist → List (Option Bool) → Type 0
 ListsNoGate netlist listed =
     (gate : ℕ) → IsGateNumber netlist gate → slice_get listed gate ≡ Some None
 
--- a node has the bit to which it is forced, and is X where it is open
+-- a node has the bit to which it is forced, and is X if it is open
 pub record AreForcedNodes (netlist : Netlist) (listed : List (Option Bool))
     (values : List Tri) : Type 0 where
   pub count : length values ≡ length netlist.names
@@ -89,11 +89,11 @@ pub record AreAllOf (netlist : Netlist) (state values : List Tri) : Type 0 where
   pub count : length values ≡ length netlist.names
   pub whole : all_values netlist values ≡ state
 
--- the values that a lane lists for all nodes, X where it lists none
+-- the values that a lane lists for all nodes, X if it lists none
 abbrev pub listed_values : List Listing → ℕ → List Tri
 listed_values listings lane = map (λ listed. listed_value (Some listed)) (lane_listed listings lane)
 
--- The filled start of listed values: each node has the bit to which it is forced, or is X where it is open, and each wire has
+-- The filled start of listed values: each node has the bit to which it is forced, or is X if it is open, and each wire has
 -- its source's value. Where no node is open, this is the completed start.
 pub record IsFilledStart (netlist : Netlist) (listed : List (Option Bool))
     (state : List Tri) : Type 0 where

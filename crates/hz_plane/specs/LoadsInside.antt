@@ -12,7 +12,7 @@ loads_of fields = record {
   lanes = lane_loads fields.loaded fields.inputs.items fields.listings.items;
 }
 
--- a lane that was not loaded lists nothing, and no lane lists a gate where this is said
+-- a lane that was not loaded lists nothing, and no lane lists a gate if this is said
 pub record HoldsLoads (fields : Inside) : Type 0 where
   pub fresh : (lane : ℕ) → lane < 512 → has_lane fields.loaded lane ≡ false →
       lane_listed fields.listings.items lane ≡ replicate (length fields.listings.items) None

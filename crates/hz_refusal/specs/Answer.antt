@@ -19,7 +19,7 @@ WrotePrefix written comes was now =
     ⊎ ((status : Status) × (text : List ℕ) × comes status text
     × GrewByPrefix (written was) text (written now))
 
--- The status is one whose text was written, where `comes` says which text comes with which status. Otherwise a prefix of
+-- The status is one whose text was written: `comes` says which text comes with which status. Otherwise a prefix of
 -- such a text was written, and the output was not taken, which its count shows, or memory ran out.
 abbrev pub Answers : {S : Type 0} → (S → Option (List ℕ)) → (S → ℕ) → (Status → List ℕ → Type 0) →
     S → S → Status → Type 0

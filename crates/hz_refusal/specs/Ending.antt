@@ -5,13 +5,13 @@ use Rattle.hz_outside.specs.declared.fault.PutFault.TheVariants as fault
 use Rattle.hz_refusal.specs.declared.status.Status.{Status}
 use Rattle.hz_refusal.specs.declared.status.Status.TheVariants as status
 
--- the job's own status, where the whole text was put
+-- the job's own status, if the whole text was put
 abbrev pub status_after : Result (Unit {0}) PutFault → Status → Status
 status_after (Ok done) own = own
 status_after (Err fault.Failed) own = status.Sink
 status_after (Err fault.Memory) own = status.Memory
 
--- the status after the last flush: where the output had failed before, that is told also if the flush lacks memory
+-- the status after the last flush: if the output had failed before, that is told even if the flush lacks memory
 abbrev pub status_flushed : Result (Unit {0}) PutFault → Status → Status
 status_flushed (Err fault.Memory) status.Sink = status.Sink
 status_flushed flush own = status_after flush own

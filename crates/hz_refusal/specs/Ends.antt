@@ -5,7 +5,7 @@ use Rattle.hz_outside.specs.WrittenText.{Output, Took, TookPrefix}
 use Rattle.hz_refusal.specs.declared.status.Status.{Status}
 use Rattle.hz_refusal.specs.declared.status.Status.TheVariants.{Done, No, Words, Netlist, Text, Start, File, TooLong, Sink, Memory}
 
--- what is written of an output, where it is told
+-- what is written of an output, if it is told
 abbrev pub written_of : {S : Type 0} → (S → Output) → S → Option (List ℕ)
 written_of output now = (output now).written
 
@@ -24,7 +24,7 @@ TookFront output faults comes was now =
     ⊎ ((status : Status) × (text : List ℕ) × comes status text
     × TookPrefix (output was) text (output now) × (faults was ≤ faults now))
 
--- The status is one whose text was put, where `comes` says which text comes with which status. Otherwise a prefix of such a text
+-- The status is one whose text was put: `comes` says which text comes with which status. Otherwise a prefix of such a text
 -- was put, and a put failed, which the sink's count shows, or memory ran out, and then the count is as it was.
 abbrev pub Ends : {S : Type 0} → (S → Output) → (S → ℕ) → (Status → List ℕ → Type 0) → S → S →
     Status → Type 0

@@ -36,7 +36,7 @@ IsNetlistRefusal name bytes (Bench fault) =
 IsNetlistRefusal name bytes (Blif fault) =
     (has_blif_name name ≡ true) × blif.IsBlifRefusal bytes fault
 
--- a text is that of this circuit, where it is read as BLIF or else in the .bench format
+-- a text is that of this circuit, if it is read as BLIF or else in the .bench format
 abbrev pub IsTextIn : (is_blif : Bool) → (bytes : List ℕ) → Netlist → Type 0
 IsTextIn true bytes netlist = blif.IsFaultless bytes × (netlist ≡ blif_circuit bytes)
 IsTextIn false bytes netlist =

@@ -106,9 +106,9 @@ text_fault_line called netlist (fault.TooMany line) = fault_line called line (co
 text_fault_line called netlist fault.Memory = []
 text_fault_line called netlist (fault.Mismatch line told real) = mismatch_line called line told real
 
--- a gate that the start leaves open
+-- a node that the start leaves open: a cut or a gate
 unfoldable pub open_line : Netlist → ℕ → List ℕ
-open_line netlist gate = line_of (codes "refused: start: open " ∷ node_name netlist.names gate ∷ [])
+open_line netlist node = line_of (codes "refused: start: open " ∷ node_name netlist.names node ∷ [])
 
 -- a gate that is unstable at the start
 unfoldable pub unstable_line : Netlist → ℕ → List ℕ

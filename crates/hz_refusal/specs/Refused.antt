@@ -47,8 +47,8 @@ TextPrints called netlist fault own written =
 
 -- what is written of a start that can't be completed: nothing if memory ran out
 abbrev pub StartPrints : Netlist → StartFault → Status → List ℕ → Type 0
-StartPrints netlist (start.Open gate) own written =
-    Prints status.Start (open_line netlist gate) own written
+StartPrints netlist (start.Open node) own written =
+    Prints status.Start (open_line netlist node) own written
 StartPrints netlist (start.Unstable gate) own written =
     Prints status.Start (unstable_line netlist gate) own written
 StartPrints netlist start.Memory own written = ⊥
@@ -65,9 +65,9 @@ named_node (text.TooMany line) = None
 named_node text.Memory = None
 named_node (text.Mismatch line told real) = None
 
--- the gate that a fault of a start names, if it names one
+-- the node that a fault of a start names, if it names one: an open one may be a cut
 abbrev pub named_gate : StartFault → Option ℕ
-named_gate (start.Open gate) = Some gate
+named_gate (start.Open node) = Some node
 named_gate (start.Unstable gate) = Some gate
 named_gate start.Memory = None
 

@@ -48,7 +48,7 @@ OfPatterns = IsTextOutcome (codes "patterns") HasPatternFault IsPatternsValue
 -- the start that a script lists is refused
 abbrev pub StartRefused : Netlist → List (Option Bool) → List ℕ → Type 0
 StartRefused netlist listed text =
-    ((gate : ℕ) × IsLeastOpen netlist listed gate × (text ≡ open_line netlist gate))
+    ((node : ℕ) × IsLeastOpen netlist listed node × (text ≡ open_line netlist node))
     ⊎ ((gate : ℕ) × IsLeastUnstable netlist listed gate × (text ≡ unstable_line netlist gate))
 
 -- what a script comes to by its start: it is refused, or the judge says what comes of the changes from it

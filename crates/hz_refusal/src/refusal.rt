@@ -229,15 +229,15 @@ fn put_text_fault<K: Sink>(
     }
 }
 
-// A gate that the start leaves open.
+// A node that the start leaves open: a cut or a gate.
 #[tactic(auto, unfolding(crate::specs::Refusal::open_line))]
-fn put_open<K: Sink>(out: &mut K, circuit: &Circuit, gate: u32) -> Result<(), PutFault>
-    requires { gate < length circuit.now.names }
-    ensures { Wrote K.output K.faults (open_line circuit.now gate) out.old out.new result }
+fn put_open<K: Sink>(out: &mut K, circuit: &Circuit, node: u32) -> Result<(), PutFault>
+    requires { node < length circuit.now.names }
+    ensures { Wrote K.output K.faults (open_line circuit.now node) out.old out.new result }
 {
     put_line(
         out,
-        &[Text(b"refused: start: open "), Text(circuit.name(gate))],
+        &[Text(b"refused: start: open "), Text(circuit.name(node))],
     )
 }
 

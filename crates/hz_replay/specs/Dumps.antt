@@ -29,6 +29,6 @@ abbrev pub IsLastWritten : Netlist → RunTextOf → Status → List ℕ → Typ
 IsLastWritten netlist runs own text =
     (own ≡ status.Done) × (text ≡ last_dump netlist runs) × MeansLast netlist runs (words_of text)
 
--- what runs come to: all are replayed, and where none is refused the last one is written
+-- what runs come to: all are replayed, and if none is refused the last one is written
 abbrev pub IsVcdOutcome : Netlist → RunTextOf → Status → List ℕ → Type 0
 IsVcdOutcome = Replayed IsLastWritten

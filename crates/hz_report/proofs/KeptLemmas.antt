@@ -11,11 +11,9 @@ use Rattle.hz_text.specs.Printed.{letter_of, assignment_text, listed_from}
 use Rattle.hz_text.specs.RunPrinted.{variable_word}
 use Rattle.hz_text.proofs.VariableWords.{variable_word-node}
 use Rattle.hz_desk.specs.declared.finding.Row.{Row}
-use Rattle.hz_report.specs.Report.{row_line, row_lines, row_text, changes_word, class_word}
-use Rattle.hz_report.specs.Words.{tri_letter}
+use Rattle.hz_report.specs.Report.{row_line, row_lines, row_text}
 use Rattle.hz_report.specs.Kept.{parts_text, AreRowParts, AreBitParts, bit_stem, AreLines}
 use Rattle.hz_report.proofs.PartLemmas.{IsUnder, parts-none, parts-more, under-parts, under-more, under-text, middle-within, begin-within}
-use Rattle.hz_report.proofs.RowLemmas.{row-line}
 
 -- the line of one node more, which stays 0
 pub row-more : (netlist : Netlist) (node : ℕ) (name text begins text' begins' : List ℕ) → AreRowParts netlist node text begins → slice_get netlist.names node ≡ Some name
@@ -47,8 +45,7 @@ none-kept netlist rows begins bits places no_row first no_bit place = (
 row-part : (netlist : Netlist) (node : ℕ) (row : Row) → node < length netlist.names → row_line netlist node row ≡ node_name netlist.names node ++ (row_text row ++ newline)
 unfolding row_line
 row-part netlist node row within =
-    sym (row-line (variable_word netlist node) (letter_of row.start) (tri_letter row.a) (tri_letter row.b) (changes_word row.changes) (class_word row.class))
-    ∙ append_assoc (variable_word netlist node) (row_text row) newline
+    append_assoc (variable_word netlist node) (row_text row) newline
     ∙ ap (λ (word : List ℕ). word ++ (row_text row ++ newline)) (variable_word-node netlist node within)
 
 -- rows' lines are parts

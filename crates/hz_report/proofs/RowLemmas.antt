@@ -3,7 +3,6 @@ use Rattle.std.proofs.Common.{◌≡◌, ◌∙◌, refl, sym, ap, ℕ, ◌+◌,
 use Rattle.std.proofs.lemmas.List.{append-nil, take_more, length-take-le}
 use Rattle.std.proofs.lemmas.Option.{get_or_from_slice_get, slice_get_within}
 use Rattle.std.proofs.Math.Seq.{take-length}
-use Rattle.hz_write.specs.Writes.{newline}
 use Rattle.hz_core.specs.Netlist.{Netlist, IsCircuit}
 use Rattle.hz_net.specs.Network.{network_of}
 use Rattle.hz_net.proofs.Places.{length-network_of}
@@ -11,12 +10,6 @@ use Rattle.hz_desk.specs.declared.finding.Row.{Row}
 use Rattle.hz_options.specs.declared.show.Show.{Show}
 use Rattle.hz_options.specs.declared.show.Show.TheVariants.{Nodes, All}
 use Rattle.hz_report.specs.Report.{row_line, row_lines, shown_count, shown_rows}
-
--- a row's line by its parts
-pub row-line : (variable : List ℕ) (start : ℕ) (a b changes class : List ℕ)
-    → (variable ++ (codes " start " ++ (start ∷ []) ++ codes " A " ++ a ++ codes " B " ++ b ++ codes " changes " ++ changes ++ 32 ∷ class)) ++ newline
-    ≡ variable ++ codes " start " ++ (start ∷ []) ++ codes " A " ++ a ++ codes " B " ++ b ++ codes " changes " ++ changes ++ 32 ∷ class ++ newline
-row-line variable start a b changes class = simp append_assoc
 
 -- the pieces of what stands after the variable
 pub row-pieces : (start : ℕ) (a b changes class : List ℕ)

@@ -1,4 +1,5 @@
--- Texts of parts, one a node, that are kept as bytes: in each part only the middle changes, and not its length. Words about the inside of hz_report.
+-- Texts of parts, one a node, that are kept as bytes: in each part only the middle changes, and not its length. Words about the
+-- inside of hz_report.
 use Rattle.std.specs.Prelude.{◌≡◌, ℕ, zero, suc, ◌+◌, ◌<◌, ◌⊎◌, Bool, Option, Some, None, List, [], ◌∷◌, ◌++◌, length, map}
 use Rattle.std.specs.List.{range_with_len, slice_index_or}
 use Rattle.hz_core.specs.Netlist.{Netlist, node_name}

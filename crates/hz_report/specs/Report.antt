@@ -67,18 +67,7 @@ class_word MaybeDynamic = codes "maybe-dynamic"
 class_word Change = codes "change"
 class_word Unsettled = codes "unsettled"
 
--- a variable and its row: its values at the start, in A and in B, its number of changes and its class
-unfoldable pub row_line : Netlist → ℕ → Row → List ℕ
-row_line netlist var row =
-    variable_word netlist var
-    ++ codes " start " ++ (letter_of row.start ∷ [])
-    ++ codes " A " ++ tri_letter row.a
-    ++ codes " B " ++ tri_letter row.b
-    ++ codes " changes " ++ changes_word row.changes
-    ++ 32 ∷ class_word row.class
-    ++ newline
-
--- what stands after the variable in the line of a row
+-- what stands after the variable in the line of a row: its values at the start, in A and in B, its number of changes and its class
 abbrev pub row_text : Row → List ℕ
 row_text row =
     codes " start " ++ (letter_of row.start ∷ [])
@@ -86,6 +75,10 @@ row_text row =
     ++ codes " B " ++ tri_letter row.b
     ++ codes " changes " ++ changes_word row.changes
     ++ 32 ∷ class_word row.class
+
+-- a variable and its row
+unfoldable pub row_line : Netlist → ℕ → Row → List ℕ
+row_line netlist var row = variable_word netlist var ++ row_text row ++ newline
 
 -- rows of variables, the first of which has a number
 abbrev pub row_lines : Netlist → ℕ → List Row → List ℕ

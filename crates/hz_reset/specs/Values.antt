@@ -35,7 +35,7 @@ OutcomesExistAlong =
     length start ≡ length net →
     (state : List Bool) × IsOutcomeAlong net start inputs state
 
--- where a value is 0 or 1, every state has it in which the circuit may be, whatever state it came up in
+-- if a value is 0 or 1, every state has it in which the circuit may be, whatever state it came up in
 abbrev pub ValuesCover : Type 0
 ValuesCover =
     (net : List Driver) (held : List (Option Bool)) (inputs : List (List Bool)) (values : List Tri)

@@ -109,8 +109,8 @@ FindsMismatch netlist statements None = (line told real : ℕ) → ¬ IsMismatch
 FindsMismatch netlist statements (Some wrong) = IsMismatch netlist statements wrong.line wrong.told wrong.real
 
 pub answers_mismatch : (netlist : Netlist) (statements : List (Numbered ResolvedRunStatement)) → FindsMismatch netlist statements (first_mismatch (size_of netlist) statements)
-answers_mismatch netlist [] = λ line told real h. h.version
-answers_mismatch netlist (first ∷ later) = by_version (is_second first.statement) refl
+answers_mismatch netlist [] = λ line told real h. h.format
+answers_mismatch netlist (first ∷ later) = by_format (is_second first.statement) refl
   where
     by_difference :
         (line : ℕ) (size : Size) (counts : Option (ℕ × ℕ)) → is_second first.statement ≡ true → first_size (first ∷ later) ≡ Some (line, size) →
@@ -119,7 +119,7 @@ answers_mismatch netlist (first ∷ later) = by_version (is_second first.stateme
     by_difference line size None t e c = λ line' told real h.
         let once = some_pair_parts line line' size h.size (sym e ∙ h.tells) in
         no-difference (counts_of h.size) (counts_of (size_of netlist)) told real (ap counts_of (sym once.1) ∙ c) h.counts
-    by_difference line size (Some counts) t e c = record { version = t; size = size; tells = e; counts = c }
+    by_difference line size (Some counts) t e c = record { format = t; size = size; tells = e; counts = c }
 
     by_size :
         (tells : Option (ℕ × Size)) → is_second first.statement ≡ true → first_size (first ∷ later) ≡ tells →
@@ -127,8 +127,8 @@ answers_mismatch netlist (first ∷ later) = by_version (is_second first.stateme
     by_size None t e = λ line told real h. none-some (line, h.size) (sym e ∙ h.tells)
     by_size (Some (line, size)) t e = by_difference line size (difference size (size_of netlist)) t e (compared size (size_of netlist))
 
-    by_version :
+    by_format :
         (b : Bool) → is_second first.statement ≡ b →
         FindsMismatch netlist (first ∷ later) (cond b (mismatch_with (size_of netlist) (first_size (first ∷ later))) None)
-    by_version true t = by_size (first_size (first ∷ later)) t refl
-    by_version false t = λ line told real h. true-false (sym h.version ∙ t)
+    by_format true t = by_size (first_size (first ∷ later)) t refl
+    by_format false t = λ line told real h. true-false (sym h.format ∙ t)

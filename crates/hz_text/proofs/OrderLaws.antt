@@ -9,13 +9,13 @@ use Rattle.hz_line.specs.Statement.{Numbered}
 use Rattle.hz_text.specs.declared.run.order.Place.{Place}
 use Rattle.hz_text.specs.declared.run.order.Place.TheVariants as place
 use Rattle.hz_text.specs.declared.run.size.Size.{Size}
-use Rattle.hz_text.specs.declared.run.version.Version.{Version}
-use Rattle.hz_text.specs.declared.run.version.Version.TheVariants.{One, Two}
+use Rattle.hz_text.specs.declared.run.format.Format.{Format}
+use Rattle.hz_text.specs.declared.run.format.Format.TheVariants.{One, Two}
 use Rattle.hz_text.specs.Assignment.{Assigned}
 use Rattle.hz_text.specs.RunStatement.{Header, Net, Start, Input, Run, Step, Cycle, End}
 use Rattle.hz_text.specs.RunResolution.{ResolvedRunStatement}
-use Rattle.hz_text.specs.RunFault.{assignments_in, version_in, is_start_line, is_input_line}
-use Rattle.hz_text.specs.OrderPass.{is_net_line, is_end, place_after, end_out_of_order, runs_out_of_order, out_of_order_with, input_out_of_order, start_out_of_order, version_out_of_order, first_misplaced}
+use Rattle.hz_text.specs.RunFault.{assignments_in, format_in, is_start_line, is_input_line}
+use Rattle.hz_text.specs.OrderPass.{is_net_line, is_end, place_after, end_out_of_order, runs_out_of_order, out_of_order_with, input_out_of_order, start_out_of_order, format_out_of_order, first_misplaced}
 use Rattle.hz_text.specs.RunOrder.{header_lines, cycle_lines, RunShape, shape_lines, IsOrdered, MayGoOn, statements_without_lines, IsOutOfPlace, BreaksOrder}
 
 -- what statements are: they may not go on, they may and are not whole, or they are whole
@@ -42,13 +42,13 @@ input_verdict statements = verdict_with is_input_line (runs_verdict place.Betwee
 abbrev start_verdict : List ResolvedRunStatement → Verdict
 start_verdict statements = verdict_with is_start_line input_verdict statements
 
-abbrev version_verdict : Version → List ResolvedRunStatement → Verdict
-version_verdict One statements = start_verdict statements
-version_verdict Two statements = verdict_with is_net_line start_verdict statements
+abbrev format_verdict : Format → List ResolvedRunStatement → Verdict
+format_verdict One statements = start_verdict statements
+format_verdict Two statements = verdict_with is_net_line start_verdict statements
 
 abbrev verdict : List ResolvedRunStatement → Verdict
 verdict [] = Open
-verdict (first ∷ later) = option_map_or (λ version. version_verdict version later) (version_in first) Broken
+verdict (first ∷ later) = option_map_or (λ format. format_verdict format later) (format_in first) Broken
 
 broken-open : Broken ≡ Open → ⊥
 broken-open e = cc
@@ -204,40 +204,40 @@ judged_start =
     judged_with is_start_line input_out_of_order input_verdict (Start []) refl
     (judged_with is_input_line (runs_out_of_order place.Between) (runs_verdict place.Between) (Input []) refl judged_runs)
 
-judged_version : (version : Version) → Judges (version_out_of_order version) (version_verdict version)
-judged_version One = judged_start
-judged_version Two = judged_with is_net_line start_out_of_order start_verdict (Net (record { inputs = 0; gates = 0; wires = 0 })) refl judged_start
+judged_format : (format : Format) → Judges (format_out_of_order format) (format_verdict format)
+judged_format One = judged_start
+judged_format Two = judged_with is_net_line start_out_of_order start_verdict (Net (record { inputs = 0; gates = 0; wires = 0 })) refl judged_start
 
 judged : Judges first_misplaced verdict
 judged = record { starts = λ e. broken-open (sym e); finds = finds; can_end = can_end; stays = stays }
   where
     finds : (statements : List (Numbered ResolvedRunStatement)) → Found verdict statements (first_misplaced statements)
     finds [] = inr (refl, refl)
-    finds (first ∷ later) = by_version (version_in first.statement) refl
+    finds (first ∷ later) = by_format (format_in first.statement) refl
       where
-        by_version :
-            (v : Option Version) → version_in first.statement ≡ v →
-            Found verdict (first ∷ later) (option_map_or (λ version. version_out_of_order version later) v (Some first.line))
-        by_version None t = found-broken verdict first later (λ e. broken-open (sym e)) (rw t refl)
-        by_version (Some version) t =
-            found-cons verdict (version_verdict version) first later (version_out_of_order version later) (λ rest. rw t refl) ((judged_version version).finds later)
+        by_format :
+            (v : Option Format) → format_in first.statement ≡ v →
+            Found verdict (first ∷ later) (option_map_or (λ format. format_out_of_order format later) v (Some first.line))
+        by_format None t = found-broken verdict first later (λ e. broken-open (sym e)) (rw t refl)
+        by_format (Some format) t =
+            found-cons verdict (format_verdict format) first later (format_out_of_order format later) (λ rest. rw t refl) ((judged_format format).finds later)
 
     can_end : (statements : List ResolvedRunStatement) → (verdict statements ≡ Broken → ⊥) → (more : List ResolvedRunStatement) × (verdict (statements ++ more) ≡ Whole)
     can_end [] h = let rest = judged_start.can_end [] judged_start.starts in (Header One ∷ rest.0, rest.1)
-    can_end (first ∷ later) h = by_version (version_in first) refl
+    can_end (first ∷ later) h = by_format (format_in first) refl
       where
-        by_version : (v : Option Version) → version_in first ≡ v → (more : List ResolvedRunStatement) × (verdict (first ∷ later ++ more) ≡ Whole)
-        by_version None t = absurd (h (rw t refl))
-        by_version (Some version) t =
-            let rest = (judged_version version).can_end later (λ e. h (rw t e)) in (rest.0, rw t rest.1)
+        by_format : (v : Option Format) → format_in first ≡ v → (more : List ResolvedRunStatement) × (verdict (first ∷ later ++ more) ≡ Whole)
+        by_format None t = absurd (h (rw t refl))
+        by_format (Some format) t =
+            let rest = (judged_format format).can_end later (λ e. h (rw t e)) in (rest.0, rw t rest.1)
 
     stays : (statements more : List ResolvedRunStatement) → verdict statements ≡ Broken → verdict (statements ++ more) ≡ Broken
     stays [] more e = absurd (broken-open (sym e))
-    stays (first ∷ later) more e = by_version (version_in first) refl
+    stays (first ∷ later) more e = by_format (format_in first) refl
       where
-        by_version : (v : Option Version) → version_in first ≡ v → verdict (first ∷ later ++ more) ≡ Broken
-        by_version None t = rw t refl
-        by_version (Some version) t = rw t ((judged_version version).stays later more (rw t at e))
+        by_format : (v : Option Format) → format_in first ≡ v → verdict (first ∷ later ++ more) ≡ Broken
+        by_format None t = rw t refl
+        by_format (Some format) t = rw t ((judged_format format).stays later more (rw t at e))
 
 -- statements in order are whole
 steps-lead : (lead : List (List (Option ℕ))) (rest : List ResolvedRunStatement) → runs_verdict place.Lead (map Step lead ++ rest) ≡ runs_verdict place.Lead rest
@@ -299,7 +299,7 @@ rest-end (first ∷ later) e = absurd (broken-whole e)
 
 rest-whole : (here : Place) (statements : List ResolvedRunStatement) → runs_verdict here statements ≡ Whole → Rest here statements
 rest-whole here [] e = cc
-rest-whole here (Header version ∷ later) e = absurd (broken-whole e)
+rest-whole here (Header format ∷ later) e = absurd (broken-whole e)
 rest-whole here (Net size ∷ later) e = absurd (broken-whole e)
 rest-whole here (Start assignments ∷ later) e = absurd (broken-whole e)
 rest-whole here (Input assignments ∷ later) e = absurd (broken-whole e)
@@ -315,18 +315,18 @@ rest-whole place.Lead (Cycle ∷ later) e =
 rest-whole place.Cycle (Cycle ∷ later) e = absurd (broken-whole e)
 rest-whole here (End ∷ later) e = rest-runs here (End ∷ later) (rest-end later e)
 
-pub is_Header : (statement : ResolvedRunStatement) (version : Version) → version_in statement ≡ Some version → statement ≡ Header version
-is_Header (Header own) version e = let same : own ≡ version = cc in ap Header same
-is_Header (Net size) version e = cc
-is_Header (Start assignments) version e = cc
-is_Header (Input assignments) version e = cc
-is_Header Run version e = cc
-is_Header (Step variables) version e = cc
-is_Header Cycle version e = cc
-is_Header End version e = cc
+pub is_Header : (statement : ResolvedRunStatement) (format : Format) → format_in statement ≡ Some format → statement ≡ Header format
+is_Header (Header own) format e = let same : own ≡ format = cc in ap Header same
+is_Header (Net size) format e = cc
+is_Header (Start assignments) format e = cc
+is_Header (Input assignments) format e = cc
+is_Header Run format e = cc
+is_Header (Step variables) format e = cc
+is_Header Cycle format e = cc
+is_Header End format e = cc
 
 pub is_Net : (statement : ResolvedRunStatement) → is_net_line statement ≡ true → (size : Size) × (statement ≡ Net size)
-is_Net (Header version) e = cc
+is_Net (Header format) e = cc
 is_Net (Net size) e = (size, refl)
 is_Net (Start assignments) e = cc
 is_Net (Input assignments) e = cc
@@ -336,7 +336,7 @@ is_Net Cycle e = cc
 is_Net End e = cc
 
 pub is_Start : (statement : ResolvedRunStatement) → is_start_line statement ≡ true → statement ≡ Start (assignments_in statement)
-is_Start (Header version) e = cc
+is_Start (Header format) e = cc
 is_Start (Net size) e = cc
 is_Start (Start assignments) e = refl
 is_Start (Input assignments) e = cc
@@ -346,7 +346,7 @@ is_Start Cycle e = cc
 is_Start End e = cc
 
 pub is_Input : (statement : ResolvedRunStatement) → is_input_line statement ≡ true → statement ≡ Input (assignments_in statement)
-is_Input (Header version) e = cc
+is_Input (Header format) e = cc
 is_Input (Net size) e = cc
 is_Input (Start assignments) e = cc
 is_Input (Input assignments) e = refl
@@ -400,12 +400,12 @@ states-whole statements e =
 -- whole statements are in order
 whole-ordered : (statements : List ResolvedRunStatement) → verdict statements ≡ Whole → IsOrdered statements
 whole-ordered [] e = cc
-whole-ordered (first ∷ later) e = by_version (version_in first) refl e
+whole-ordered (first ∷ later) e = by_format (format_in first) refl e
   where
-    by_version :
-        (v : Option Version) → version_in first ≡ v → option_map_or (λ version. version_verdict version later) v Broken ≡ Whole → IsOrdered (first ∷ later)
-    by_version None t w = absurd (broken-whole w)
-    by_version (Some One) t w =
+    by_format :
+        (v : Option Format) → format_in first ≡ v → option_map_or (λ format. format_verdict format later) v Broken ≡ Whole → IsOrdered (first ∷ later)
+    by_format None t w = absurd (broken-whole w)
+    by_format (Some One) t w =
         let states = states-whole later w in
         record {
           size = None;
@@ -414,7 +414,7 @@ whole-ordered (first ∷ later) e = by_version (version_in first) refl e
           runs = states.runs;
           are = ap (λ one. one ∷ later) (is_Header first One t) ∙ ap (λ rest. Header One ∷ rest) states.are;
         }
-    by_version (Some Two) t w =
+    by_format (Some Two) t w =
         let net = passed is_net_line start_verdict later w in
         let tells = is_Net net.first net.passes in
         let states = states-whole net.later net.rest in

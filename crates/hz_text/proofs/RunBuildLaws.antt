@@ -13,20 +13,20 @@ use Rattle.hz_line.specs.Statement.{Numbered, first_passing_line}
 use Rattle.hz_text.specs.declared.run.order.Place.{Place}
 use Rattle.hz_text.specs.declared.run.order.Place.TheVariants as place
 use Rattle.hz_text.specs.declared.run.size.Size.{Size}
-use Rattle.hz_text.specs.declared.run.version.Version.{Version}
-use Rattle.hz_text.specs.declared.run.version.Version.TheVariants.{One, Two}
+use Rattle.hz_text.specs.declared.run.format.Format.{Format}
+use Rattle.hz_text.specs.declared.run.format.Format.TheVariants.{One, Two}
 use Rattle.hz_text.specs.Assignment.{Assigned, Nodes, Inputs, is_not_allowed, assigned_bit}
 use Rattle.hz_text.specs.Rules.{AreBelow, least_unassigned}
 use Rattle.hz_text.specs.Bits.{IsWholeStart}
 use Rattle.hz_text.specs.RunStatement.{Header, Net, Start, Input, Run, Step, Cycle, End}
 use Rattle.hz_text.specs.RunResolution.{RunEntry, ResolvedRunStatement, numbered_run_resolution, numbered_run_resolutions, run_resolution_of}
 use Rattle.hz_text.specs.RunValue.{RunOf, with_step_in, with_step}
-use Rattle.hz_text.specs.RunFault.{version_in, assignments_in, variables_in, names_unknown, lacks_bit, is_start_line, is_input_line, first_start, first_input}
-use Rattle.hz_text.specs.OrderPass.{is_net_line, is_end, place_after, end_out_of_order, runs_out_of_order, out_of_order_with, start_out_of_order, input_out_of_order, net_out_of_order, version_out_of_order, first_misplaced}
+use Rattle.hz_text.specs.RunFault.{format_in, assignments_in, variables_in, names_unknown, lacks_bit, is_start_line, is_input_line, first_start, first_input}
+use Rattle.hz_text.specs.OrderPass.{is_net_line, is_end, place_after, end_out_of_order, runs_out_of_order, out_of_order_with, start_out_of_order, input_out_of_order, net_out_of_order, format_out_of_order, first_misplaced}
 use Rattle.hz_text.specs.RunRules.{beyond_from, AssignsBelow, names_node_twice, least_left_out, least_missing_node, first_run_fault}
 use Rattle.hz_text.specs.RunText.{step_of, run_statements}
 use Rattle.hz_text.specs.RunOrder.{header_lines, statements_without_lines}
-use Rattle.hz_text.specs.RunBuilt.{after_version, after_header, place_in, last_place, IsRunAdded}
+use Rattle.hz_text.specs.RunBuilt.{after_format, after_header, place_in, last_place, IsRunAdded}
 use Rattle.hz_text.proofs.FaultLaws.{unassigned-None}
 use Rattle.hz_text.proofs.TextLaws.{first_passing_line-cons}
 use Rattle.hz_text.proofs.BuildLemmas.{or_parts}
@@ -118,7 +118,7 @@ next_in_order here first later on e = by_place (place_after here first.statement
     by_place (Some next) p w = record { next = next; place = p; ordered = w }
 
 is_End : (statement : ResolvedRunStatement) → is_end statement ≡ true → statement ≡ End
-is_End (Header version) e = cc
+is_End (Header format) e = cc
 is_End (Net size) e = cc
 is_End (Start assignments) e = cc
 is_End (Input assignments) e = cc
@@ -220,7 +220,7 @@ whole_input inputs all statement is unknown bits twice whole =
 
 -- the variables of a statement that names nothing unknown are there
 pub known_variables : (inputs : ℕ) (statement : ResolvedRunStatement) → names_unknown inputs statement ≡ false → list_any is_none (variables_in statement) ≡ false
-known_variables inputs (Header version) e = refl
+known_variables inputs (Header format) e = refl
 known_variables inputs (Net size) e = refl
 known_variables inputs (Start assignments) e = refl
 known_variables inputs (Input assignments) e = refl
@@ -288,7 +288,7 @@ pub record IsFromStart (netlist : Netlist) (entries states : List RunEntry) : Ty
   pub names : AreNamesClear netlist (numbered_run_resolutions states)
   pub order : start_out_of_order (numbered_run_resolutions states) ≡ None
 
--- behind the header of version 2
+-- behind the header of format 2
 from_net :
     (netlist : Netlist) (header : RunEntry) (later : List RunEntry) → All (AssignsBelow (length netlist.names)) later → AreNamesClear netlist (numbered_run_resolutions later) →
     run_resolution_of header.held ≡ Header Two → net_out_of_order (numbered_run_resolutions later) ≡ None → IsFromStart netlist (header ∷ later) (drop 1 later)
@@ -310,22 +310,22 @@ from_start :
     (netlist : Netlist) (entries : List RunEntry) → All (AssignsBelow (length netlist.names)) entries → AreNamesClear netlist (numbered_run_resolutions entries) →
     first_misplaced (numbered_run_resolutions entries) ≡ None → IsFromStart netlist entries (after_header entries)
 from_start netlist [] below names e = let wrong : ◌≡◌ {A = Option ℕ} (Some 0) None = e in cc
-from_start netlist (header ∷ later) below names e = by_version (version_in (run_resolution_of header.held)) refl e
+from_start netlist (header ∷ later) below names e = by_format (format_in (run_resolution_of header.held)) refl e
   where
     low : All (AssignsBelow (length netlist.names)) later
     low = All-tail (AssignsBelow (length netlist.names)) header later below
 
-    rest : (version : Version) → run_resolution_of header.held ≡ Header version → AreNamesClear netlist (numbered_run_resolutions later)
-    rest version is = names-tail netlist (numbered_run_resolution header) (numbered_run_resolutions later) (ap is_start_line is) (ap is_input_line is) names
+    rest : (format : Format) → run_resolution_of header.held ≡ Header format → AreNamesClear netlist (numbered_run_resolutions later)
+    rest format is = names-tail netlist (numbered_run_resolution header) (numbered_run_resolutions later) (ap is_start_line is) (ap is_input_line is) names
 
-    by_version :
-        (v : Option Version) → version_in (run_resolution_of header.held) ≡ v → option_map_or (λ version. version_out_of_order version (numbered_run_resolutions later)) v (Some header.line) ≡ None →
-        IsFromStart netlist (header ∷ later) (after_version v later)
-    by_version None t w = cc
-    by_version (Some One) t w =
+    by_format :
+        (v : Option Format) → format_in (run_resolution_of header.held) ≡ v → option_map_or (λ format. format_out_of_order format (numbered_run_resolutions later)) v (Some header.line) ≡ None →
+        IsFromStart netlist (header ∷ later) (after_format v later)
+    by_format None t w = cc
+    by_format (Some One) t w =
         let is = is_Header (run_resolution_of header.held) One t in
         record { size = None; front = ap (λ one. one ∷ statements_without_lines (numbered_run_resolutions later)) is; below = low; names = rest One is; order = w }
-    by_version (Some Two) t w =
+    by_format (Some Two) t w =
         let is = is_Header (run_resolution_of header.held) Two t in
         from_net netlist header later low (rest Two is) is w
 

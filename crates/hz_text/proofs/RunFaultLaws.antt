@@ -41,7 +41,7 @@ answers_left_out (Some all) nodes = answers_unassigned all nodes (least_unassign
 
 -- names of a statement in which none is unknown are equal where their nodes are
 twice_in : (netlist : Netlist) (statement : RunStatement) → names_unknown netlist.inputs (resolve_run_statement netlist statement) ≡ false → names_node_twice (resolve_run_statement netlist statement) ≡ names_twice statement
-twice_in netlist (Header version) u = refl
+twice_in netlist (Header format) u = refl
 twice_in netlist (Net size) u = refl
 twice_in netlist (Start assignments) u = twice-names netlist Nodes assignments u
 twice_in netlist (Input assignments) u = twice-names netlist Inputs assignments u

@@ -16,7 +16,7 @@ use Rattle.hz_text.specs.declared.run.order.Place.TheVariants as place
 use Rattle.hz_text.specs.Assignment.{has_repeat, assignment_to}
 use Rattle.hz_text.specs.Rules.{assigned_nodes}
 use Rattle.hz_text.specs.RunStatement.{Header, Net, Start, Input, Run, Cycle, End}
-use Rattle.hz_text.specs.declared.run.version.Version.TheVariants.{Two}
+use Rattle.hz_text.specs.declared.run.format.Format.TheVariants.{Two}
 use Rattle.std.specs.Option.{option_map}
 use Rattle.hz_text.specs.RunSize.{size_of}
 use Rattle.hz_text.proofs.MismatchLaws.{same_size}

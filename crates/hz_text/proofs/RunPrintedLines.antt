@@ -15,7 +15,7 @@ use Rattle.hz_line.specs.Token.{TokenOf, WordOf, PunctuationOf, tokens_of, with_
 use Rattle.hz_line.specs.Statement.{Means, meaning_of_tokens}
 use Rattle.hz_line.proofs.WrittenLemmas.{is_word_byte-is, word_bytes, tokens_of-open, tokens_of-close, tokens_of-space, is_word_byte-separators, tokens_of-word_before, is_inline}
 use Rattle.hz_write.specs.Writes.{line_of}
-use Rattle.hz_text.specs.declared.run.version.Version.TheVariants.{Two}
+use Rattle.hz_text.specs.declared.run.format.Format.TheVariants.{Two}
 use Rattle.hz_text.specs.RunSize.{size_of}
 use Rattle.hz_text.specs.RunKeyword as keyword
 use Rattle.hz_text.specs.Printed.{assignment_text, statement_text}
@@ -24,7 +24,7 @@ use Rattle.hz_text.specs.RunStatement.{Variable, Node, Pin, Header, Net, Start, 
 use Rattle.hz_text.specs.RunResolution.{ResolvedRunStatement, variable_named, resolve_run_tokens}
 use Rattle.hz_text.specs.RunValue.{RunOf, RunTextOf, cycle_steps, all_steps}
 use Rattle.hz_text.specs.RunText.{step_of, cycle_statements, run_statements}
-use Rattle.hz_text.specs.RunPrinted.{wire_word, variable_word, spaced_word, step_text, cycle_text, run_text, all_listed, net_line, version_text, states_text, run_text_printed}
+use Rattle.hz_text.specs.RunPrinted.{wire_word, variable_word, spaced_word, step_text, cycle_text, run_text, all_listed, net_line, format_text, states_text, run_text_printed}
 use Rattle.hz_text.proofs.WordLaws.{AreNodes, no_word, IsName-node, pair_tokens, pairs_read, pairs_inline, assignments_read}
 use Rattle.hz_text.proofs.PrintLaws.{node_at, assigned_back}
 use Rattle.hz_text.proofs.PrintedLines.{Reads, Reads-append, Reads-each, Reads-line}
@@ -296,7 +296,7 @@ sent netlist value =
 
 -- a printed run text is read so
 pub printed-ReadsAs : (netlist : Netlist) (value : RunTextOf) → IsCircuit netlist → AreNodes netlist (all_listed value.nodes) → AreNodes netlist (all_listed value.input) → All (AreThere netlist) (all_steps value.runs) → ReadsAs netlist (run_text_printed netlist value) (sent netlist value)
-unfolding run_text_printed states_text version_text
+unfolding run_text_printed states_text format_text
 printed-ReadsAs netlist value circuit nodes inputs there =
     let nodes_listed = all_listed value.nodes in
     let inputs_listed = all_listed value.input in

@@ -16,8 +16,8 @@ use Rattle.hz_gmw.specs.RunRecord.{flip_count}
 use Rattle.hz_line.specs.Statement.{Numbered}
 use Rattle.hz_line.proofs.WrittenLemmas.{both}
 use Rattle.hz_text.specs.declared.run.size.Size.{Size}
-use Rattle.hz_text.specs.declared.run.version.Version.{Version}
-use Rattle.hz_text.specs.declared.run.version.Version.TheVariants.{One, Two}
+use Rattle.hz_text.specs.declared.run.format.Format.{Format}
+use Rattle.hz_text.specs.declared.run.format.Format.TheVariants.{One, Two}
 use Rattle.hz_text.specs.Assignment.{assigned_bit}
 use Rattle.hz_text.specs.RunStatement.{Variable, Node, Pin, Header, Net, Start, Input, Run, Step, Cycle, End, RunStatement, run_statements_of, number_by}
 use Rattle.hz_text.specs.RunResolution.{RunEntry, ResolvedRunStatement, wire_into, variable_named, resolve_run_statement, resolve_numbered_run, numbered_run_resolutions}
@@ -63,7 +63,7 @@ found-below netlist variable None circuit e = tt
 found-below netlist variable (Some var) circuit e = variable-below netlist variable var circuit e
 
 statement-below : (netlist : Netlist) (statement : RunStatement) → IsCircuit netlist → NamesBelow (length (network_of netlist)) (resolve_run_statement netlist statement)
-statement-below netlist (Header version) circuit = All-nil _
+statement-below netlist (Header format) circuit = All-nil _
 statement-below netlist (Net size) circuit = All-nil _
 statement-below netlist (Start assignments) circuit = All-nil _
 statement-below netlist (Input assignments) circuit = All-nil _
@@ -198,7 +198,7 @@ counted_runs (run ∷ later) =
 
 -- the first statements count nothing
 header_counts :
-    (count : ResolvedRunStatement → ℕ) (size : Option Size) (rest : List ResolvedRunStatement) → ((version : Version) → count (Header version) ≡ 0) → ((size : Size) → count (Net size) ≡ 0) →
+    (count : ResolvedRunStatement → ℕ) (size : Option Size) (rest : List ResolvedRunStatement) → ((format : Format) → count (Header format) ≡ 0) → ((size : Size) → count (Net size) ≡ 0) →
     sum_by count (header_lines size ++ rest) ≡ sum_by count rest
 header_counts count None rest header net = omega (arith, sum_by-cons count (Header One) rest, header One)
 header_counts count (Some size) rest header net =
@@ -226,7 +226,7 @@ usable_run netlist text entries value circuit accepted is =
     let steps : sum_by steps_of (statements_without_lines statements) ≡ length (all_steps value.runs) =
     ap (sum_by steps_of) is.are ∙ omega (
       arith,
-      header_counts steps_of is.size states (λ version. refl) (λ size. refl),
+      header_counts steps_of is.size states (λ format. refl) (λ size. refl),
       sum_by-cons steps_of (Start is.start) (Input is.input ∷ runs ++ End ∷ []),
       sum_by-cons steps_of (Input is.input) (runs ++ End ∷ []),
       sum_by-append steps_of runs (End ∷ []),
@@ -236,7 +236,7 @@ usable_run netlist text entries value circuit accepted is =
     let variables : sum_by names_in (statements_without_lines statements) ≡ flip_count (all_steps value.runs) =
     ap (sum_by names_in) is.are ∙ omega (
       arith,
-      header_counts names_in is.size states (λ version. refl) (λ size. refl),
+      header_counts names_in is.size states (λ format. refl) (λ size. refl),
       sum_by-cons names_in (Start is.start) (Input is.input ∷ runs ++ End ∷ []),
       sum_by-cons names_in (Input is.input) (runs ++ End ∷ []),
       sum_by-append names_in runs (End ∷ []),

@@ -30,7 +30,7 @@ pub record IsWholeStart (nodes : ℕ) (all : List Assigned) : Type 0 where
   pub fresh : repeats_node all ≡ false
   pub whole : least_unassigned nodes all ≡ None
 
--- the node and the bit, where there are both
+-- the node and the bit, if there are both
 abbrev pub pair_of : Assigned → Option (ℕ × Bool)
 pair_of assigned = option_zip assigned.node assigned.bit
 

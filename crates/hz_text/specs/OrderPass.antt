@@ -6,9 +6,9 @@ use Rattle.hz_text.specs.declared.run.order.Place.{Place}
 use Rattle.hz_text.specs.declared.run.order.Place.TheVariants as place
 use Rattle.hz_text.specs.RunStatement.{StatementOf, Net, Run, Step, Cycle, End}
 use Rattle.hz_text.specs.RunResolution.{ResolvedRunStatement}
-use Rattle.hz_text.specs.declared.run.version.Version.{Version}
-use Rattle.hz_text.specs.declared.run.version.Version.TheVariants.{One, Two}
-use Rattle.hz_text.specs.RunFault.{version_in, is_start_line, is_input_line}
+use Rattle.hz_text.specs.declared.run.format.Format.{Format}
+use Rattle.hz_text.specs.declared.run.format.Format.TheVariants.{One, Two}
+use Rattle.hz_text.specs.RunFault.{format_in, is_start_line, is_input_line}
 
 -- the statement tells the size of the network
 abbrev pub is_net_line : {A V : Type 0} → StatementOf A V → Bool
@@ -44,7 +44,7 @@ abbrev pub end_out_of_order : List (Numbered ResolvedRunStatement) → Option �
 end_out_of_order [] = None
 end_out_of_order (first ∷ later) = Some first.line
 
--- the line that breaks the order first, in runs and the end after them; 0 where the end is missing
+-- the line that breaks the order first, in runs and the end after them; 0 if the end is missing
 abbrev pub runs_out_of_order : Place → List (Numbered ResolvedRunStatement) → Option ℕ
 runs_out_of_order here [] = Some 0
 runs_out_of_order here (first ∷ later) =
@@ -52,7 +52,7 @@ runs_out_of_order here (first ∷ later) =
     else option_map_or (λ next. runs_out_of_order next later) (place_after here first.statement)
     (Some first.line)
 
--- the line that breaks the order first, where a statement that passes the test stands before others; 0 where it is missing
+-- the line that breaks the order first, if a statement that passes the test stands before others; 0 if it is missing
 abbrev pub out_of_order_with : (ResolvedRunStatement → Bool) →
     (List (Numbered ResolvedRunStatement) → Option ℕ) → List (Numbered ResolvedRunStatement) →
     Option ℕ
@@ -60,7 +60,7 @@ out_of_order_with test after [] = Some 0
 out_of_order_with test after (first ∷ later) =
     if test first.statement then after later else Some first.line
 
--- the order from the input line on, from the start on, from the size of the network on, and behind the header of a version
+-- the order from the input line on, from the start on, from the size of the network on, and behind the header of a format
 abbrev pub input_out_of_order : List (Numbered ResolvedRunStatement) → Option ℕ
 input_out_of_order statements =
     out_of_order_with is_input_line (runs_out_of_order place.Between) statements
@@ -71,13 +71,13 @@ start_out_of_order statements = out_of_order_with is_start_line input_out_of_ord
 abbrev pub net_out_of_order : List (Numbered ResolvedRunStatement) → Option ℕ
 net_out_of_order statements = out_of_order_with is_net_line start_out_of_order statements
 
-abbrev pub version_out_of_order : Version → List (Numbered ResolvedRunStatement) → Option ℕ
-version_out_of_order One statements = start_out_of_order statements
-version_out_of_order Two statements = net_out_of_order statements
+abbrev pub format_out_of_order : Format → List (Numbered ResolvedRunStatement) → Option ℕ
+format_out_of_order One statements = start_out_of_order statements
+format_out_of_order Two statements = net_out_of_order statements
 
 -- the order of a whole text
 abbrev pub first_misplaced : List (Numbered ResolvedRunStatement) → Option ℕ
 first_misplaced [] = Some 0
 first_misplaced (first ∷ later) =
-    option_map_or (λ version. version_out_of_order version later) (version_in first.statement)
+    option_map_or (λ format. format_out_of_order format later) (format_in first.statement)
     (Some first.line)

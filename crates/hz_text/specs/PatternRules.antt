@@ -46,7 +46,7 @@ first_pattern_fault inputs statements = first_fault_in (pattern_rules inputs) st
 abbrev pub AssignsBelow : ℕ → PatternEntry → Type 0
 AssignsBelow nodes entry = AreBelow nodes (assignments_in (pattern_resolution_of entry.held))
 
--- the line that holds gates behind the first statement of all, where so many patterns stand in front of these statements
+-- the line that holds gates behind the first statement of all, if so many patterns stand in front of these statements
 abbrev pub late_hold_behind : ℕ → List (Numbered ResolvedPatternStatement) → Option ℕ
 late_hold_behind before statements =
     if nat_eq before 0 then first_late_hold statements else first_passing_line is_hold statements
@@ -69,7 +69,7 @@ rules_behind before inputs = record {
   mismatch = λ statements. None;
 }
 
--- the fault, where so many lines stand in front of its text
+-- the fault, if so many lines stand in front of its text
 abbrev pub fault_behind : ℕ → TextFault → TextFault
 fault_behind lines (Form line) = Form (line + lines)
 fault_behind lines (Unknown line) = Unknown (line + lines)

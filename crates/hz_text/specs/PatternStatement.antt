@@ -6,7 +6,7 @@ use Rattle.hz_line.specs.Statement.{Numbered, numbered_statements}
 use Rattle.hz_line.specs.Token.{TokenOf, WordOf}
 use Rattle.hz_text.specs.Assignment.{Assignment, assignments_of}
 
--- A statement, where an assignment is of this type: the gates that are held with their bits, or a pattern by its two words.
+-- A statement, if an assignment is of this type: the gates that are held with their bits, or a pattern by its two words.
 pub data PatternStatementOf (A : Type 0) : Type 0 where
   Hold : (assignments : List A) → PatternStatementOf A
   Pattern : (from : List ℕ) (to : List ℕ) → PatternStatementOf A

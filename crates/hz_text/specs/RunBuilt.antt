@@ -3,24 +3,24 @@ use Rattle.std.specs.Prelude.{◌≡◌, ℕ, List, [], ◌∷◌, ◌++◌, dro
 use Rattle.std.specs.List.{flat_map}
 use Rattle.hz_text.specs.declared.run.order.Place.{Place}
 use Rattle.hz_text.specs.declared.run.order.Place.TheVariants.{Between, Lead, Cycle}
-use Rattle.hz_text.specs.declared.run.version.Version.{Version}
-use Rattle.hz_text.specs.declared.run.version.Version.TheVariants.{One, Two}
+use Rattle.hz_text.specs.declared.run.format.Format.{Format}
+use Rattle.hz_text.specs.declared.run.format.Format.TheVariants.{One, Two}
 use Rattle.hz_text.specs.RunResolution.{ResolvedRunStatement, RunEntry, run_resolution_of}
-use Rattle.hz_text.specs.RunFault.{version_in}
+use Rattle.hz_text.specs.RunFault.{format_in}
 use Rattle.hz_text.specs.OrderPass.{place_after}
 use Rattle.hz_text.specs.RunValue.{RunOf}
 use Rattle.hz_text.specs.RunText.{run_statements}
 
--- what stands behind the header of a version: in version 2 the size of the network is left out
-abbrev pub after_version : Option Version → List RunEntry → List RunEntry
-after_version (Some Two) later = drop 1 later
-after_version (Some One) later = later
-after_version None later = later
+-- what stands behind the header of a format: in format 2 the size of the network is left out
+abbrev pub after_format : Option Format → List RunEntry → List RunEntry
+after_format (Some Two) later = drop 1 later
+after_format (Some One) later = later
+after_format None later = later
 
 -- the statements from the start on
 abbrev pub after_header : List RunEntry → List RunEntry
 after_header [] = []
-after_header (header ∷ later) = after_version (version_in (run_resolution_of header.held)) later
+after_header (header ∷ later) = after_format (format_in (run_resolution_of header.held)) later
 
 -- where one is after a run whose cycle is this
 abbrev pub place_in : Option (List (List ℕ)) → Place

@@ -7,8 +7,8 @@ use Rattle.hz_line.specs.Statement.{Numbered, PassesOn, Malformed, meaning_at}
 use Rattle.hz_text.specs.declared.fault.TextFault.{TextFault}
 use Rattle.hz_text.specs.declared.fault.TextFault.TheVariants as fault
 use Rattle.hz_text.specs.declared.run.size.Size.{Size}
-use Rattle.hz_text.specs.declared.run.version.Version.{Version}
-use Rattle.hz_text.specs.declared.run.version.Version.TheVariants.{Two}
+use Rattle.hz_text.specs.declared.run.format.Format.{Format}
+use Rattle.hz_text.specs.declared.run.format.Format.TheVariants.{Two}
 use Rattle.hz_text.specs.Assignment.{Assigned, Nodes, Inputs, any_unknown, any_twice, any_bitless, assigns}
 use Rattle.hz_text.specs.Fault.{IsLeastFaultOf, IsLeastFaultOrMemory}
 use Rattle.hz_text.specs.RunStatement.{StatementOf, Header, Net, Start, Input, Step, RunStatement, run_statement_of, run_statements_of}
@@ -111,20 +111,20 @@ pub record IsBeyond (statements : List (Numbered ResolvedRunStatement)) (line : 
   pub beyond : AreTooMany (before ++ last ∷ [])
   pub within : ¬ AreTooMany before
 
--- the version of a text whose first statement this is
-abbrev pub version_in : {A V : Type 0} → StatementOf A V → Option Version
-version_in (Header version) = Some version
-version_in _ = None
+-- the format of a text whose first statement this is
+abbrev pub format_in : {A V : Type 0} → StatementOf A V → Option Format
+format_in (Header format) = Some format
+format_in _ = None
 
--- the statement is the header of version 2
+-- the statement is the header of format 2
 abbrev pub is_second : {A V : Type 0} → StatementOf A V → Bool
 is_second (Header Two) = true
 is_second _ = false
 
--- the text is of version 2: its first statement is that header
-abbrev pub IsOfVersionTwo : List (Numbered ResolvedRunStatement) → Type 0
-IsOfVersionTwo [] = ⊥
-IsOfVersionTwo (first ∷ later) = is_second first.statement ≡ true
+-- the text is in format 2: its first statement is that header
+abbrev pub IsInFormatTwo : List (Numbered ResolvedRunStatement) → Type 0
+IsInFormatTwo [] = ⊥
+IsInFormatTwo (first ∷ later) = is_second first.statement ≡ true
 
 -- the size that a statement tells
 abbrev pub size_in : {A V : Type 0} → StatementOf A V → Option Size
@@ -137,10 +137,10 @@ first_size [] = None
 first_size (first ∷ later) =
     option_map_or (λ size. Some (first.line, size)) (size_in first.statement) (first_size later)
 
--- a text of version 2 tells a size, first on this line, in which this count is the first that is not the network's
+-- a text in format 2 tells a size, first on this line, in which this count is the first that is not the network's
 pub record IsMismatch (netlist : Netlist) (statements : List (Numbered ResolvedRunStatement))
     (line told real : ℕ) : Type 0 where
-  pub version : IsOfVersionTwo statements
+  pub format : IsInFormatTwo statements
   pub size : Size
   pub tells : first_size statements ≡ Some (line, size)
   pub counts : DifferFirst (counts_of size) (counts_of (size_of netlist)) told real

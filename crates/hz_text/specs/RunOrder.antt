@@ -3,7 +3,7 @@ use Rattle.std.specs.Prelude.{◌≡◌, ℕ, List, [], ◌∷◌, ◌++◌, map
 use Rattle.std.specs.List.{flat_map}
 use Rattle.hz_line.specs.Statement.{Numbered}
 use Rattle.hz_text.specs.declared.run.size.Size.{Size}
-use Rattle.hz_text.specs.declared.run.version.Version.TheVariants.{One, Two}
+use Rattle.hz_text.specs.declared.run.format.Format.TheVariants.{One, Two}
 use Rattle.hz_text.specs.RunStatement.{StatementOf, Header, Net, Start, Input, Run, Step, Cycle, End}
 
 -- the statements of a cycle, if there is one: its first line and its steps
@@ -26,12 +26,12 @@ pub record RunShape (V : Type 0) : Type 0 where
 abbrev pub shape_lines : {A V : Type 0} → RunShape V → List (StatementOf A V)
 shape_lines run = run_lines Step run.lead run.cycle
 
--- the first statements: the header of version 1, or that of version 2 and the size of the network
+-- the first statements: the header of format 1, or that of format 2 and the size of the network
 abbrev pub header_lines : {A V : Type 0} → Option Size → List (StatementOf A V)
 header_lines None = Header One ∷ []
 header_lines (Some size) = Header Two ∷ Net size ∷ []
 
--- statements in order: the header, in version 2 with the size of the network, the start, the input, the statements of runs,
+-- statements in order: the header, in format 2 with the size of the network, the start, the input, the statements of runs,
 -- and the end
 pub record IsOrdered {A V : Type 0} (statements : List (StatementOf A V)) : Type 0 where
   pub size : Option Size
@@ -60,7 +60,7 @@ pub record IsOutOfPlace {A V : Type 0} (statements : List (Numbered (StatementOf
   pub went_on : MayGoOn (statements_without_lines before)
   pub stops : ¬ MayGoOn (statements_without_lines (before ++ last ∷ []))
 
--- this line breaks the order; it is 0 where the statements may go on and are not whole
+-- this line breaks the order; it is 0 if the statements may go on and are not whole
 abbrev pub BreaksOrder : {A V : Type 0} → List (Numbered (StatementOf A V)) → ℕ → Type 0
 BreaksOrder statements line =
     IsOutOfPlace statements line

@@ -50,17 +50,17 @@ net_line size =
     (codes "net " ∷ decimal size.inputs ∷ codes " " ∷ decimal size.gates ∷ codes " "
     ∷ decimal size.wires ∷ [])
 
--- the first lines: the version, and the size of the network
-unfoldable pub version_text : Netlist → List ℕ
-version_text netlist = codes "runs 2\n" ++ net_line (size_of netlist)
+-- the first lines: the format, and the size of the network
+unfoldable pub format_text : Netlist → List ℕ
+format_text netlist = codes "runs 2\n" ++ net_line (size_of netlist)
 
 -- the lines before the runs: those, the start, which lists all nodes, and the input, which lists all inputs
 unfoldable pub states_text : Netlist → List Bool → List Bool → List ℕ
 states_text netlist nodes input =
-    version_text netlist ++ statement_text netlist (codes "start") (all_listed nodes)
+    format_text netlist ++ statement_text netlist (codes "start") (all_listed nodes)
     ++ statement_text netlist (codes "input") (all_listed input)
 
--- These lines, those of each run, and a line for the end. The version is the second, whichever the value was read from.
+-- These lines, those of each run, and a line for the end. The format is the second, whichever the value was read from.
 unfoldable pub run_text_printed : Netlist → RunTextOf → List ℕ
 run_text_printed netlist value =
     states_text netlist value.nodes value.input

@@ -36,7 +36,7 @@ ResolvedRunStatement = StatementOf Assigned (Option ℕ)
 
 -- a statement, looked up
 abbrev pub resolve_run_statement : Netlist → RunStatement → ResolvedRunStatement
-resolve_run_statement netlist (Header version) = Header version
+resolve_run_statement netlist (Header format) = Header format
 resolve_run_statement netlist (Net size) = Net size
 resolve_run_statement netlist (Start assignments) = Start (map (assigned_of netlist) assignments)
 resolve_run_statement netlist (Input assignments) = Input (map (assigned_of netlist) assignments)
@@ -78,7 +78,7 @@ variables_by netlist tokens = option_map (map (variable_named netlist)) (variabl
 
 -- what a statement that was read holds
 abbrev pub run_resolution_of : RunHeld → ResolvedRunStatement
-run_resolution_of (held.Header version) = Header version
+run_resolution_of (held.Header format) = Header format
 run_resolution_of (held.Net size) = Net size
 run_resolution_of (held.Start assigned) = Start assigned.value.items
 run_resolution_of (held.Input assigned) = Input assigned.value.items

@@ -34,7 +34,7 @@ least_missing_node netlist statements =
     option_min (least_left_out (first_start statements) (length netlist.names))
     (least_left_out (first_input statements) netlist.inputs)
 
--- the first line up to which there are more than 2,000,000 steps, or more than 2,000,000 variables in steps, where there
+-- the first line up to which there are more than 2,000,000 steps, or more than 2,000,000 variables in steps, if there
 -- were so many before
 abbrev pub beyond_from : ℕ → ℕ → List (Numbered ResolvedRunStatement) → Option ℕ
 beyond_from steps variables [] = None
@@ -52,7 +52,7 @@ mismatch_with real (Some told) =
     option_map (λ counts. record { line = told.0; told = counts.0; real = counts.1 })
     (difference told.1 real)
 
--- the same in a text, if it is of version 2
+-- the same in a text, if it is in format 2
 abbrev pub first_mismatch : Size → List (Numbered ResolvedRunStatement) → Option Mismatch
 first_mismatch real [] = None
 first_mismatch real (first ∷ later) =

@@ -9,8 +9,8 @@ use Rattle.hz_line.specs.Statement.{Numbered, numbered_statements}
 use Rattle.hz_line.specs.Token.{TokenOf, WordOf, PunctuationOf}
 use Rattle.hz_text.specs.Assignment.{Assignment, assignments_of}
 use Rattle.hz_text.specs.declared.run.size.Size.{Size}
-use Rattle.hz_text.specs.declared.run.version.Version.{Version}
-use Rattle.hz_text.specs.declared.run.version.Version.TheVariants.{One, Two}
+use Rattle.hz_text.specs.declared.run.format.Format.{Format}
+use Rattle.hz_text.specs.declared.run.format.Format.TheVariants.{One, Two}
 use Rattle.hz_text.specs.RunKeyword.{RunKeyword}
 use Rattle.hz_text.specs.RunKeyword as keyword
 
@@ -23,7 +23,7 @@ pub data Variable : Type 0 where
 abbrev pub is_digit : ℕ → Bool
 is_digit byte = nat_le 48 byte && nat_le byte 57
 
--- a decimal number without leading zero: digits, the first of which is 0 only where it stands alone
+-- a decimal number without leading zero: digits, the first of which is 0 only if it stands alone
 abbrev pub is_decimal : List ℕ → Bool
 is_decimal [] = false
 is_decimal (first ∷ later) =
@@ -46,10 +46,10 @@ variables_of_tokens
 variables_of_tokens (WordOf name ∷ rest) = with_first (Node name) (variables_of_tokens rest)
 variables_of_tokens _ = None
 
--- A statement over what assignments and variables are: the header with its version, the size of the network, the start,
+-- A statement over what assignments and variables are: the header with its format, the size of the network, the start,
 -- the input, the begin of a run, a step, the begin of its cycle, the end.
 pub data StatementOf (A V : Type 0) : Type 0 where
-  Header : (version : Version) → StatementOf A V
+  Header : (format : Format) → StatementOf A V
   Net : (size : Size) → StatementOf A V
   Start : (assignments : List A) → StatementOf A V
   Input : (assignments : List A) → StatementOf A V
@@ -74,12 +74,12 @@ run_keyword_of word =
     else (if is_keyword word (codes "cycle") then Some keyword.Cycle
     else (if is_keyword word (codes "end") then Some keyword.End else None)))))))
 
--- the version that tokens are
-abbrev pub version_of : List TokenOf → Option Version
-version_of (WordOf word ∷ []) =
+-- the format that tokens are
+abbrev pub format_of : List TokenOf → Option Format
+format_of (WordOf word ∷ []) =
     if bytes_eq word (codes "1") then Some One
     else (if bytes_eq word (codes "2") then Some Two else None)
-version_of _ = None
+format_of _ = None
 
 -- the number that a word is: a decimal one without leading zero, at most 4,294,967,295
 abbrev pub count_of : List ℕ → Option ℕ
@@ -98,7 +98,7 @@ size_by (WordOf inputs ∷ WordOf gates ∷ WordOf wires ∷ []) =
     size_with (count_of inputs) (count_of gates) (count_of wires)
 size_by _ = None
 
--- the statement, where no token is left
+-- the statement, if no token is left
 abbrev pub if_at_end : RunStatement → List TokenOf → Option RunStatement
 if_at_end statement [] = Some statement
 if_at_end statement (token ∷ tokens) = None
@@ -106,7 +106,7 @@ if_at_end statement (token ∷ tokens) = None
 -- the statement of a keyword and the tokens after it
 abbrev pub run_statement_with : Option RunKeyword → List TokenOf → Option RunStatement
 run_statement_with None rest = None
-run_statement_with (Some keyword.Runs) rest = option_map Header (version_of rest)
+run_statement_with (Some keyword.Runs) rest = option_map Header (format_of rest)
 run_statement_with (Some keyword.Net) rest = option_map Net (size_by rest)
 run_statement_with (Some keyword.Start) rest = option_map Start (assignments_of rest)
 run_statement_with (Some keyword.Input) rest = option_map Input (assignments_of rest)

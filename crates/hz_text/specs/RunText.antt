@@ -25,7 +25,7 @@ cycle_statements cycle = cycle_lines step_of cycle
 abbrev pub run_statements : RunOf → List ResolvedRunStatement
 run_statements run = run_lines step_of run.lead run.cycle
 
--- The value of statements: the header, in version 2 with the size of the network, a start that gives each node its bit, an
+-- The value of statements: the header, in format 2 with the size of the network, a start that gives each node its bit, an
 -- input line that gives each input its bit, the statements of the runs, one run after the other, and the end.
 pub record IsRunTextBy (netlist : Netlist) (statements : List ResolvedRunStatement)
     (value : RunTextOf) : Type 0 where

@@ -48,7 +48,7 @@ IsMissing primary (first ∷ later) node =
     (is_start first.statement ≡ true) × (node < primary)
     × (assigns first.statement.assigned node ≡ false)
 
--- the first statement, on this line, is no start, or a later one, on this line, is; line 0 where there is no statement
+-- the first statement, on this line, is no start, or a later one, on this line, is; line 0 if there is no statement
 abbrev pub IsOutOfOrder : List (Numbered ResolvedStatement) → ℕ → Type 0
 IsOutOfOrder [] line = line ≡ 0
 IsOutOfOrder (first ∷ later) line =

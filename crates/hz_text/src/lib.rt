@@ -26,7 +26,7 @@ pub use fault::TextFault;
 pub use patterns::{MAX_PATTERNS, PatternReader, Patterns, print_patterns, read_patterns};
 pub use printing::{write_assignments, write_bits};
 pub use run::{
-    RunText, print_run, printed_runs_are_read, read_run, write_end, write_run, write_run_text,
-    write_states, write_variable, write_version,
+    RunText, print_run, printed_runs_are_read, read_run, write_end, write_format, write_run,
+    write_run_text, write_states, write_variable,
 };
 pub use script::{MAX_CHANGES, Script, print_script, read_script};

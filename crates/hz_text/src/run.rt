@@ -8,7 +8,7 @@
 //! | `short` | the commonest line, read without its tokens |
 //! | `variables` | the variables of a step |
 //! | `number` | decimal numbers |
-//! | `version` | the formats, 1 and 2 |
+//! | `format` | the formats, 1 and 2 |
 //! | `size` | the size of a network, as format 2 has it |
 //! | `order` | the order of the statements |
 //! | `rules` | the passes over the statements, one for each fault |
@@ -21,6 +21,7 @@
 
 mod build;
 mod builder;
+mod format;
 mod keyword;
 mod laws;
 mod number;
@@ -34,11 +35,10 @@ mod statement;
 mod text;
 mod told;
 mod variables;
-mod version;
 
 pub use laws::printed_runs_are_read;
 pub use print::{
-    print_run, write_end, write_run, write_run_text, write_states, write_variable, write_version,
+    print_run, write_end, write_format, write_run, write_run_text, write_states, write_variable,
 };
 pub use read::read_run;
 pub use text::RunText;

@@ -150,7 +150,7 @@ fn runs_again(alloc: Global, net: &Net, text: &str) -> Result<Vec<u8>, Fail> {
     Ok(print_run(alloc, net, &told)?)
 }
 
-/// A run text of version 1, in any letter case, is printed in version 2.
+/// A run text in format 1, in any letter case, is printed in format 2.
 #[test]
 fn run_texts(rt: HostRuntime) -> Result<(), Fail> {
     let net = net_of(rt.alloc(), LATCH)?;

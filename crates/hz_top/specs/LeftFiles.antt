@@ -12,7 +12,7 @@ abbrev pub IsRefusedFirst : (name bytes : List ℕ) → Type 0
 IsRefusedFirst name bytes =
     (most_text_bytes < length bytes) ⊎ ((line : List ℕ) × NetlistRefused name bytes line)
 
--- No file is asked for without a job, nor for a demo. The second is not asked for where the first one, which is told, is refused.
+-- No file is asked for without a job, nor for a demo. The second is not asked for if the first one, which is told, is refused.
 abbrev pub LeavesFiles : Observation → Option JobOf → Type 0
 LeavesFiles told None = (place : Place) → CountsStay told place
 LeavesFiles told (Some (OnFiles task options first second)) =

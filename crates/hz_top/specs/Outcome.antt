@@ -14,7 +14,7 @@ use Rattle.hz_refusal.specs.Refusal.{words_line, unread_line, long_line}
 use Rattle.hz_line.specs.Line.{most_text_bytes}
 use Rattle.hz_changes.specs.Demos.{IsDemoOutcome}
 
--- what files tell and count: the bytes under each name where they are told, and the counts of loads that failed and of
+-- what files tell and count: the bytes under each name if they are told, and the counts of loads that failed and of
 -- files that were too long, before the call and after it
 pub record Observation : Type 0 where
   pub held : Option (List ℕ → List ℕ)
@@ -23,7 +23,7 @@ pub record Observation : Type 0 where
   pub longs : Place → ℕ
   pub longs_after : Place → ℕ
 
--- the counts of a place stay, as where its file is not asked for
+-- the counts of a place stay, as when its file is not asked for
 abbrev pub CountsStay : Observation → Place → Type 0
 CountsStay told place =
     (told.faults_after place ≡ told.faults place) × (told.longs_after place ≡ told.longs place)
@@ -49,7 +49,7 @@ observation_of held faults longs was now =
       longs_after = longs now;
     }
 
--- the bytes are those of the file, where they are told, and not too many
+-- the bytes are those of the file, if they are told, and not too many
 abbrev pub IsFileContents : Observation → List ℕ → List ℕ → Type 0
 IsFileContents told name bytes =
     IfSome told.held (λ bytes_of. bytes ≡ bytes_of name) × (length bytes ≤ most_text_bytes)

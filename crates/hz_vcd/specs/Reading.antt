@@ -53,7 +53,7 @@ IsValueRead word (Some found) = (value_word found.1 found.0 ≡ word) × (found.
 -- a word, and then the rest;
 -- the rest of a block, and then the rest;
 -- any number of blocks and this word, and then the rest;
--- the bits of the variables from a place on, where those before it are known, and then the steps;
+-- the bits of the variables from a place on, if those before it are known, and then the steps;
 -- steps from a state;
 -- more changes of a step from a state, which has these so far behind these steps, and then more steps.
 pub data Ending : Type 0 where
@@ -101,7 +101,7 @@ Goes ending front =
     (more : List (List ℕ)) × (state : List Bool) × (steps : List (List ℕ))
     × Comes ending (front ++ more) state steps
 
--- nothing may come behind these words and the first of those after them, or nothing at all where these are all
+-- nothing may come behind these words and the first of those after them, or nothing at all if these are all
 abbrev pub Stops : Ending → List (List ℕ) → List (List ℕ) → Type 0
 Stops ending front [] =
     (state : List Bool) (steps : List (List ℕ)) → Comes ending (front ++ []) state steps → ⊥

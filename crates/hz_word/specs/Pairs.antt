@@ -66,7 +66,7 @@ parity_pair cap left right =
       changes = sum_count cap left.changes right.changes;
     }
 
--- the complement where a flag is set
+-- the complement if a flag is set
 abbrev pub complement_word_if : Bool → Word → Word
 complement_word_if false word = word
 complement_word_if true word = complement word

@@ -44,7 +44,7 @@ abbrev pub IsWalk : List (List Bool) → List (List Bool) → Type 0
 IsWalk words [] = AreAtTheirEnds words
 IsWalk words (move ∷ moves) = IsMove words move × IsWalk (after_move words move) moves
 
--- 1 where two values differ, else 0
+-- 1 if two values differ, else 0
 abbrev pub change_between : Bool → Bool → ℕ
 change_between before after = if beq before after then 0 else 1
 

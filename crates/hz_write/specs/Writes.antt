@@ -21,7 +21,7 @@ pub record Puts {S : Type 0} (output : S → Output) (faults : S → ℕ) (text 
   pub grew : Took (output was) text (output now)
   pub quiet : faults now ≡ faults was
 
--- the sink took a prefix of the text; its count tells whether a put failed: it rose where one did, and else it is as it was
+-- the sink took a prefix of the text; its count tells whether a put failed: it rose if one did, and else it is as it was
 pub record Stops {S : Type 0} (output : S → Output) (faults : S → ℕ) (fault : PutFault)
     (text : List ℕ) (was now : S) : Type 0 where
   pub front : TookPrefix (output was) text (output now)

@@ -142,7 +142,8 @@ impl<'k, K: Sink> Writer<'k, K> {
     /// Gives three texts of one line, which are short as a rule. This costs less than a call for each.
     #[inline(always)]
     pub fn three(&mut self, first: &[u8], second: &[u8], third: &[u8])
-        ensures { Writes K.output K.faults (first.now ++ second.now ++ third.now) self.old self.new }
+        ensures { Writes K.output K.faults
+            (first.now ++ second.now ++ third.now) self.old self.new }
     {
         if (first.len() + third.len()).saturating_add(second.len()) <= self.line.room() {
             self.line.push_three(first, second, third);
@@ -155,7 +156,8 @@ impl<'k, K: Sink> Writer<'k, K> {
     #[cold]
     #[inline(never)]
     fn three_beyond(&mut self, first: &[u8], second: &[u8], third: &[u8])
-        ensures { Writes K.output K.faults (first.now ++ second.now ++ third.now) self.old self.new }
+        ensures { Writes K.output K.faults
+            (first.now ++ second.now ++ third.now) self.old self.new }
     {
         self.text(first);
         self.text(second);

@@ -67,7 +67,8 @@ impl<'c> PatternReader<'c> {
         requires { length self.received ≤ most_text_bytes }
         ensures value { IfOk result (IsPatternsValue self.entry.netlist self.entry.received) }
         ensures usable { IfOk result (ArePatternsFor self.entry.netlist) }
-        ensures faultless { OnOk result (IsPatternFaultless self.entry.netlist self.entry.received) }
+        ensures faultless { OnOk result
+            (IsPatternFaultless self.entry.netlist self.entry.received) }
         ensures fault { IfErr result (IsPatternRefusal self.entry.netlist self.entry.received) }
         ensures exact { (fault : TextFault) →
             IsLeastPatternFault self.entry.netlist self.entry.received fault

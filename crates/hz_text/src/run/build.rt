@@ -17,12 +17,12 @@ ghost use Rattle.hz_text.specs.Bits.{IsWholeStart};
 use crate::assignments::Assigned;
 use crate::bits::bits_of;
 use crate::run::builder::RunBuilder;
-use crate::run::order::{is_end, version_in};
+use crate::run::format::Format;
+use crate::run::order::{format_in, is_end};
 use crate::run::rules::assignments_in;
 use crate::run::statement::{RunEntry, RunHeld};
 use crate::run::text::RunText;
 use crate::run::told::ToldRuns;
-use crate::run::version::Version;
 use hz_core::{Circuit, Memory};
 use std::alloc::Global;
 use std::slice;
@@ -58,9 +58,9 @@ fn after_header<'h, 'a>(entries: &'h [RunEntry<'a>]) -> &'h [RunEntry<'a>]
     let [header, later @ ..] = entries else {
         return entries;
     };
-    match version_in(&header.held) {
-        Some(Version::Two) => after_first(later),
-        Some(Version::One) => later,
+    match format_in(&header.held) {
+        Some(Format::Two) => after_first(later),
+        Some(Format::One) => later,
         None => later,
     }
 }

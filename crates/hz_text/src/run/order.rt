@@ -4,11 +4,11 @@ ghost use Rattle.std.specs.Prelude.{◌≡◌};
 ghost use Rattle.hz_text.specs.declared.run.order.Place.TheVariants.{Between};
 ghost use Rattle.hz_text.specs.RunResolution.{run_resolution_of, numbered_run_resolutions};
 ghost use Rattle.hz_text.specs.OrderPass.{is_net_line, is_end};
-ghost use Rattle.hz_text.specs.RunFault.{version_in, is_start_line, is_input_line};
+ghost use Rattle.hz_text.specs.RunFault.{format_in, is_start_line, is_input_line};
 ghost use Rattle.hz_text.specs.OrderPass.{place_after_step, place_after_cycle, place_after, end_out_of_order, runs_out_of_order, input_out_of_order, start_out_of_order, net_out_of_order, first_misplaced};
 
+use crate::run::format::Format;
 use crate::run::statement::{RunEntry, RunHeld};
-use crate::run::version::Version;
 
 /// Where one is among the runs of a text: before the first run, in a run's lead, in its cycle.
 #[derive(Clone, Copy, Debug)]
@@ -25,12 +25,12 @@ pub(crate) fn first_out_of_order(entries: &[RunEntry]) -> Option<u32>
     let [first, later @ ..] = entries else {
         return Some(0);
     };
-    let Some(version) = version_in(&first.held) else {
+    let Some(format) = format_in(&first.held) else {
         return Some(first.line);
     };
-    match version {
-        Version::One => start_out_of_order(later),
-        Version::Two => net_out_of_order(later),
+    match format {
+        Format::One => start_out_of_order(later),
+        Format::Two => net_out_of_order(later),
     }
 }
 
@@ -143,11 +143,11 @@ fn place_after_cycle(place: Place) -> Option<Place>
 }
 
 // The format of a text whose first statement this is.
-pub(crate) fn version_in(held: &RunHeld) -> Option<Version>
-    ensures { result ≡ version_in (run_resolution_of held.now) }
+pub(crate) fn format_in(held: &RunHeld) -> Option<Format>
+    ensures { result ≡ format_in (run_resolution_of held.now) }
 {
     match held {
-        RunHeld::Header(version) => Some(*version),
+        RunHeld::Header(format) => Some(*format),
         _ => None,
     }
 }

@@ -8,7 +8,7 @@ ghost use Rattle.hz_net.specs.Network.{IsVariable};
 ghost use Rattle.hz_write.specs.Writer.{Writes, NoneWaits};
 ghost use Rattle.hz_write.specs.Writes.{Wrote};
 ghost use Rattle.hz_text.specs.RunFault.{IsRunFaultless};
-ghost use Rattle.hz_text.specs.RunPrinted.{spaced_word, variable_word, step_text, cycle_text, run_text, net_line, version_text, states_text, run_text_printed};
+ghost use Rattle.hz_text.specs.RunPrinted.{spaced_word, variable_word, step_text, cycle_text, run_text, net_line, format_text, states_text, run_text_printed};
 ghost use Rattle.hz_text.specs.RunText.{IsRunTextFor, IsRunValue};
 ghost use Rattle.hz_text.specs.RunValue.{all_steps, cycle_steps};
 ghost use Rattle.hz_core.specs.Limits.{most_gate_pins};
@@ -25,8 +25,8 @@ use hz_write::Writer;
 use std::alloc::Global;
 
 /// Prints a run text of a network, in format 2: its number, the size of the network, the start in the order of the nodes,
-/// the input in the order of the inputs, then each run, and the end. Keywords are in small letters, words are separated by one space, and each line ends with a
-/// line feed. The wire into the second pin of a gate `g` is written `g(2)`. If the text has at most 16,777,216 bytes,
+/// the input in the order of the inputs, then each run, and the end. Keywords are in small letters, words are separated by
+/// one space, and each line ends with a line feed. The wire into the second pin of a gate `g` is written `g(2)`. If the text has at most 16,777,216 bytes,
 /// [`crate::read_run`] gives the run text back.
 pub fn print_run(alloc: Global, net: &Net, text: &RunText) -> Result<Vec<u8>, Memory>
     requires { IsRunTextFor net.now text.now }
@@ -73,16 +73,16 @@ pub fn write_states<K: Sink>(
         (states_text circuit.now nodes.now input.now) writer.old writer.new }
     ensures none_waits { NoneWaits writer.new }
 {
-    write_version(writer, circuit);
+    write_format(writer, circuit);
     write_bits(writer, circuit, b"start", nodes);
     write_bits(writer, circuit, b"input", input);
 }
 
 /// Gives the first lines of a run text: the format, and the size of the network.
-#[tactic(auto, using(hz_write::proofs::Writers::writes_then), unfolding(crate::specs::RunPrinted::version_text))]
-pub fn write_version<K: Sink>(writer: &mut Writer<'_, K>, circuit: &Circuit)
+#[tactic(auto, using(hz_write::proofs::Writers::writes_then), unfolding(crate::specs::RunPrinted::format_text))]
+pub fn write_format<K: Sink>(writer: &mut Writer<'_, K>, circuit: &Circuit)
     requires { IsCircuit circuit.now }
-    ensures gave { Writes K.output K.faults (version_text circuit.now) writer.old writer.new }
+    ensures gave { Writes K.output K.faults (format_text circuit.now) writer.old writer.new }
     ensures none_waits { NoneWaits writer.new }
 {
     writer.line(&[Text(b"runs 2")]);

@@ -9,10 +9,10 @@ ghost use Rattle.hz_text.specs.RunRules.{least_left_out, least_missing_node, bey
 
 use crate::assignments::{Allowed, Assigned, any_unknown, least_unassigned};
 use crate::fault::Mismatch;
+use crate::run::format::Format;
 use crate::run::order::{is_input_line, is_start_line};
 use crate::run::size::{Size, difference};
 use crate::run::statement::{RunEntry, RunHeld};
-use crate::run::version::Version;
 use hz_core::{Circuit, Memory};
 use hz_lists::lesser;
 use std::alloc::Global;
@@ -142,7 +142,7 @@ pub(crate) fn first_mismatch(entries: &[RunEntry], real: Size) -> Option<Mismatc
 fn is_second(held: &RunHeld) -> bool
     ensures { result ≡ is_second (run_resolution_of held.now) }
 {
-    matches!(held, RunHeld::Header(Version::Two))
+    matches!(held, RunHeld::Header(Format::Two))
 }
 
 // The first size of a network that a text has, and its line.

@@ -14,6 +14,7 @@ ghost use Rattle.hz_text.specs.RunRules.{run_rules};
 
 use crate::assignments::{Assigned, any_without_bit, read_assignments};
 use crate::fault::Mismatch;
+use crate::run::format::{Format, read_format};
 use crate::run::keyword::RunKeyword;
 use crate::run::order::first_out_of_order;
 use crate::run::rules::{
@@ -22,7 +23,6 @@ use crate::run::rules::{
 use crate::run::short::step_of_one;
 use crate::run::size::{Size, read_size, size_of};
 use crate::run::variables::read_variables;
-use crate::run::version::{Version, read_version};
 use crate::text::Text;
 use bumpalo::Bump;
 use hz_core::{Circuit, Memory};
@@ -34,7 +34,7 @@ use std::alloc::Global;
 /// millions of steps, and two statements with assignments.
 #[derive(Debug, Drop)]
 pub(crate) enum RunHeld<'a> {
-    Header(Version),
+    Header(Format),
     Net(Size),
     Start(Box<Vec<Assigned>>),
     Input(Box<Vec<Assigned>>),
@@ -163,7 +163,7 @@ fn read_statement_of<'a>(
         (λ held. AreBelow (length net.now.names) (assignments_in (run_resolution_of held))) }
 {
     match keyword {
-        RunKeyword::Runs => Ok(RunHeld::Header(read_version(rest)?)),
+        RunKeyword::Runs => Ok(RunHeld::Header(read_format(rest)?)),
         RunKeyword::Net => Ok(RunHeld::Net(read_size(rest)?)),
         RunKeyword::Start => Ok(RunHeld::Start(boxed_assignments(alloc, net.circuit(), rest)?)),
         RunKeyword::Input => Ok(RunHeld::Input(boxed_assignments(alloc, net.circuit(), rest)?)),

@@ -19,7 +19,7 @@ returns-then-has_failed-clause-gave g c =
     let failed = sym c.has_failed.ensures ∙ c.if-has_failed.true in
     let lines = written-cut g.K.Sink.output g.K.Sink.faults c.args.work.now.job c.args.work.now.net.now c.args.work.now.patterns.now (c.loop-block.block * 512) c.args.writer.now c.loop-block.writer no_counts c.loop-block.room.counts
     c.requires.laws c.len-variables.ensures.circuit c.len-variables.ensures.whole c.requires.work.patterns failed c.loop-block.invariant.0 in
-    (lines.outcomes, lines.are_outcomes, lines.lines, λ fine. absurd (not-both failed fine))
+    (lines.endings, lines.are_endings, lines.lines, λ fine. absurd (not-both failed fine))
 
 pub write_block-requires-clause-counts : goal.write_block-requires-clause-counts
 write_block-requires-clause-counts g c =
@@ -29,7 +29,7 @@ write_block-requires-clause-counts g c =
     let below : c.loop-block.block < block_count (length patterns) = blocks-same c.loop-block.block (length patterns) (rw (c.div_ceil-block-end.ensures, c.count.ensures) at c.loop-block-test.true) in
     let begins = block-begins c.loop-block.block (length patterns) below in
     let few : 0 + length (take n patterns) ≤ n = omega (arith, length-take-le n patterns (omega (arith, begins))) in
-    within-after (comes_to c.args.work.now.job c.args.work.now.net.now c.args.work.now.patterns.now.held) (take n patterns) before.outcomes 0 n no_counts c.loop-block.room.counts before.are_outcomes before.adds
+    within-after (comes_to c.args.work.now.job c.args.work.now.net.now c.args.work.now.patterns.now.held) (take n patterns) before.endings 0 n no_counts c.loop-block.room.counts before.are_endings before.adds
     (record { open_starts = omega arith; unstable_starts = omega arith; unsettled = omega arith }) few
 
 pub loop-block-preserved : goal.loop-block-preserved

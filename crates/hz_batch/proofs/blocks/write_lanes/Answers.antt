@@ -5,7 +5,7 @@ use Rattle.hz_text.specs.PatternText.{IsPatternOf}
 use Rattle.hz_text.specs.PatternValue.{PatternOf}
 use Rattle.hz_plane.specs.Loads.{Loaded}
 use Rattle.hz_batch.specs.Comes.{comes_to, held_by}
-use Rattle.hz_batch.specs.Outcome.{listing_of}
+use Rattle.hz_batch.specs.PatternEnd.{listing_of}
 use Rattle.hz_batch.specs.Written.{AreWritten}
 use Rattle.hz_batch.proofs.LaneLoads.{lane-of-rest}
 use Rattle.hz_batch.proofs.Joined.{written-none, written-then, written-one, within-after}
@@ -36,7 +36,7 @@ add-requires g c =
     let enough : lane ≤ length rest = omega (arith, c.loop-lane-test.true, c.requires.last, length-drop c.args.first c.args.work.now.patterns.now.patterns) in
     let few : c.args.first + length (take lane rest) ≤ 65536 =
     omega (arith, length-take-le lane rest enough, c.loop-lane-test.true, c.requires.last, c.requires.work.patterns.few) in
-    within-after comes (take lane rest) before.outcomes c.args.first 65536 c.args.room.now.counts c.loop-lane.room.counts before.are_outcomes before.adds c.requires.counts few
+    within-after comes (take lane rest) before.endings c.args.first 65536 c.args.room.now.counts c.loop-lane.room.counts before.are_endings before.adds c.requires.counts few
 
 pub loop-lane-preserved : goal.loop-lane-preserved
 loop-lane-preserved g c =

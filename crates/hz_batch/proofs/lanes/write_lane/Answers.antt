@@ -6,12 +6,12 @@ use Rattle.hz_batch.specs.declared.job.Job.{Job}
 use Rattle.hz_batch.specs.Blocks.{load_of, no_gate}
 use Rattle.hz_batch.specs.Comes.{kept_at, held_by}
 use Rattle.hz_batch.specs.Kept.{HoldBoth}
-use Rattle.hz_batch.specs.Outcome.{Settled, listing_of}
+use Rattle.hz_batch.specs.PatternEnd.{Settled, listing_of}
 use Rattle.hz_batch.proofs.BroughtAbout.{brought-about}
 use Rattle.hz_batch.proofs.lanes.write_lane.Goals as goal
 
-pub write_outcome-requires-clause-columns : goal.write_outcome-requires-clause-columns
-write_outcome-requires-clause-columns g c =
+pub write_ending-requires-clause-columns : goal.write_ending-requires-clause-columns
+write_ending-requires-clause-columns g c =
     subst (λ (job : Job). HoldBoth c.args.work.now.net.now (kept_at job) c.args.planes.now.lanes c.args.columns.now) c.in-Batch.is c.requires.columns
 
 pub write_values-requires-clause-columns : goal.write_values-requires-clause-columns
@@ -25,7 +25,7 @@ returns-in-Batch-clause-gave g c =
     let loaded : Loaded = record { input = pattern.to; listed = listing_of held pattern } in
     let here : slice_get c.args.planes.now.lanes c.args.at.lane ≡ Some (Some loaded) =
     subst (λ (job : Job). slice_get c.args.planes.now.lanes c.args.at.lane ≡ Some (load_of (held_by job held) pattern)) c.in-Batch.is there in
-    rw c.in-Batch.is (c.write_outcome.ensures.gave loaded here)
+    rw c.in-Batch.is (c.write_ending.ensures.gave loaded here)
 
 pub returns-in-Reset-clause-gave : goal.returns-in-Reset-clause-gave
 returns-in-Reset-clause-gave g c =

@@ -2,7 +2,7 @@
 use Rattle.std.proofs.Common.{ap, ◌∙◌}
 use Rattle.hz_batch.specs.Columns.{HasColumns}
 use Rattle.hz_batch.specs.Counts.{settled_mark}
-use Rattle.hz_batch.proofs.OutcomeLemmas.{unknown-told}
+use Rattle.hz_batch.proofs.EndLemmas.{unknown-told}
 use Rattle.hz_batch.proofs.lanes.write_values.Goals as goal
 
 pub returns-clause-gave : goal.returns-clause-gave

@@ -5,4 +5,4 @@ use Rattle.hz_refusal.proofs.refusal.put_open.Goals as goal
 
 pub returns : goal.returns
 unfolding open_line
-returns g c = rw (get_or_from_slice_get c.args.circuit.now.names c.args.gate c.name.result.now [] c.name.ensures.name) c.put_line.ensures
+returns g c = rw (get_or_from_slice_get c.args.circuit.now.names c.args.node c.name.result.now [] c.name.ensures.name) c.put_line.ensures

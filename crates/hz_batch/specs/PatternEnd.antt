@@ -8,29 +8,29 @@ use Rattle.hz_net.specs.Starts.{IsAcceptedStart, IsLeastOpen, IsLeastUnstable}
 use Rattle.hz_text.specs.PatternValue.{PatternOf}
 use Rattle.hz_batch.specs.Each.{AreEach}
 
--- The start of a pattern is refused for its least open gate, or if no gate is open for its least unstable one. Otherwise there
+-- The start of a pattern is refused for its least open node, or if no node is open for its least unstable gate. Otherwise there
 -- are the results of Algorithms A and B.
-pub data Outcome : Type 0 where
-  Open : (gate : ℕ) → Outcome
-  Unstable : (gate : ℕ) → Outcome
-  Settled : (a b : List Tri) → Outcome
+pub data PatternEnd : Type 0 where
+  Open : (node : ℕ) → PatternEnd
+  Unstable : (gate : ℕ) → PatternEnd
+  Settled : (a b : List Tri) → PatternEnd
 
 -- the start that a pattern lists: the first bits of all inputs, and the gates that are held
 abbrev pub listing_of : List (Option Bool) → PatternOf → List (Option Bool)
 listing_of held pattern = map Some pattern.from ++ drop (length pattern.from) held
 
 -- what a listed start comes to under a new input
-abbrev pub IsOutcome : Netlist → (listed : List (Option Bool)) → (input : List Bool) → Outcome →
-    Type 0
-IsOutcome netlist listed input (Open gate) = IsLeastOpen netlist listed gate
-IsOutcome netlist listed input (Unstable gate) = IsLeastUnstable netlist listed gate
-IsOutcome netlist listed input (Settled a b) =
+abbrev pub IsPatternEnd : Netlist → (listed : List (Option Bool)) → (input : List Bool) →
+    PatternEnd → Type 0
+IsPatternEnd netlist listed input (Open node) = IsLeastOpen netlist listed node
+IsPatternEnd netlist listed input (Unstable gate) = IsLeastUnstable netlist listed gate
+IsPatternEnd netlist listed input (Settled a b) =
     (start : List Bool) × IsAcceptedStart netlist listed start
     × IsResult (algorithm_a (network_of netlist) input start) a
     × IsResult (algorithm_b (network_of netlist) input a) b
 
 -- what each pattern comes to, by the start that it lists and its second bits
-abbrev pub AreOutcomes : Netlist → (held : List (Option Bool)) → List PatternOf → List Outcome →
-    Type 0
-AreOutcomes netlist held =
-    AreEach (λ pattern. IsOutcome netlist (listing_of held pattern) pattern.to)
+abbrev pub ArePatternEnds : Netlist → (held : List (Option Bool)) → List PatternOf →
+    List PatternEnd → Type 0
+ArePatternEnds netlist held =
+    AreEach (λ pattern. IsPatternEnd netlist (listing_of held pattern) pattern.to)

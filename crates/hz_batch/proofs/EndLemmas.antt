@@ -12,7 +12,7 @@ use Rattle.hz_plane.specs.Loads.{Loaded}
 use Rattle.hz_plane.specs.declared.stage.Stage.TheVariants.{Spread, Settled as AllSettled}
 use Rattle.hz_plane.specs.View.{HasUnknown, IsLaneValue, IsUnsettled}
 use Rattle.hz_reach.specs.Existence.{ResultOfAExists, ResultOfBExists}
-use Rattle.hz_batch.specs.Outcome.{Settled, IsOutcome}
+use Rattle.hz_batch.specs.PatternEnd.{Settled, IsPatternEnd}
 
 -- no value of a state is X
 none-unknown : (state : List Tri) → ((var : ℕ) → var < length state → value_at state var ≢ Unknown) → list_any is_unknown state ≡ false
@@ -35,10 +35,10 @@ unknown-told state true (var, inside, is) = sym (some-unknown state var inside i
 unknown-told state false none = sym (none-unknown state none)
 
 -- the values of a lane in both results, by what the planes say at both stages
-pub first-of-a : (netlist : Netlist) (loaded : Loaded) (var : ℕ) (value : Tri) (a b : List Tri) → IsLaneValue Spread netlist loaded var value → IsOutcome netlist loaded.listed loaded.input (Settled a b) → value ≡ value_at a var
+pub first-of-a : (netlist : Netlist) (loaded : Loaded) (var : ℕ) (value : Tri) (a b : List Tri) → IsLaneValue Spread netlist loaded var value → IsPatternEnd netlist loaded.listed loaded.input (Settled a b) → value ≡ value_at a var
 first-of-a netlist loaded var value a b says (start, accepted, (rounds, are, is), of_b) = rw is (says start rounds accepted are)
 
-pub second-of-b : (netlist : Netlist) (loaded : Loaded) (var : ℕ) (value : Tri) (a b : List Tri) → IsLaneValue AllSettled netlist loaded var value → IsOutcome netlist loaded.listed loaded.input (Settled a b) → value ≡ value_at b var
+pub second-of-b : (netlist : Netlist) (loaded : Loaded) (var : ℕ) (value : Tri) (a b : List Tri) → IsLaneValue AllSettled netlist loaded var value → IsPatternEnd netlist loaded.listed loaded.input (Settled a b) → value ≡ value_at b var
 second-of-b netlist loaded var value a b says (start, accepted, (rounds, are, is), (rest, are_rest, is_rest)) =
     rw is_rest (rw (← is) at (says start rounds rest accepted are (rw is at are_rest)))
 
@@ -46,7 +46,7 @@ second-of-b netlist loaded var value a b says (start, accepted, (rounds, are, is
 pub record HasResults (netlist : Netlist) (loaded : Loaded) (unsettled : Bool) : Type 0 where
   pub a : List Tri
   pub b : List Tri
-  pub outcome : IsOutcome netlist loaded.listed loaded.input (Settled a b)
+  pub ending : IsPatternEnd netlist loaded.listed loaded.input (Settled a b)
   pub told : unsettled ≡ list_any is_unknown b
 
 pub results : (netlist : Netlist) (loaded : Loaded) (unsettled : Bool) → ResultOfAExists → ResultOfBExists → ((start : List Bool) × IsAcceptedStart netlist loaded.listed start) → IsUnsettled netlist loaded unsettled → HasResults netlist loaded unsettled
@@ -57,7 +57,7 @@ results netlist loaded unsettled a_exists b_exists (start, accepted) says =
     by_b a (rounds, are, is) (b, (rest, are_rest, is_rest)) = record {
       a = a;
       b = b;
-      outcome = (start, accepted, (rounds, are, is), (rest, are_rest, is_rest));
+      ending = (start, accepted, (rounds, are, is), (rest, are_rest, is_rest));
       told = unknown-told b unsettled (rw is_rest (rw (← is) at (says start rounds rest accepted are (rw is at are_rest))));
     }
 
