@@ -168,3 +168,14 @@ room-again {net} {input} {ranks} {b} {begun} {state} {made} {before} {now} pass 
     room-twice net ranks b state now
     (room-left net input begun made (2 * length net) pass.run whole spent room
     (omega (arith, flips_per_variable net input begun made 2 pass.run (pass.few (λ i. 2) (two-enough net ranks b begun)))))
+
+-- A pass without a step ends where it begins, so it may come twice: the cycle has no step.
+module _ {net : List Driver} {input : List Bool} {ranks : List ℕ} {b : List Tri} {state last : List Bool} {made : List (List ℕ)} where
+  pub stays : IsPass net input ranks b state made last → made ≡ [] → last ≡ state
+  stays pass none = sym pass.ends ∙ ap (end_of state) none
+
+  pub cycle-rests : (steps : List (List ℕ)) → IsWired net → IsFixed net input b → IsTurned net ranks b state → IsPass net input ranks b state made last → made ≡ [] → steps ≡ [] → IsCycleOf net input b state steps
+  cycle-rests steps wired fixed turned pass none empty =
+      let again : IsPass net input ranks b last made last = subst (λ (s : List Bool). IsPass net input ranks b s made last) (sym (stays pass none)) pass in
+      let whole : made ++ made ≡ steps = ap (λ (list : List (List ℕ)). list ++ made) none ∙ (none ∙ sym empty) in
+      subst (IsCycleOf net input b state) whole (cycle-found wired fixed turned pass again)

@@ -5,7 +5,8 @@ use Rattle.hz_reach.proofs.Words.{Driver, Source, network_of, driver_at, bit_at,
 use Rattle.hz_reach.proofs.Words.{IsSettlingRound, AreSettlingRounds, IsStableStart, IsRun, end_of, RunRecord, flip_count, end_of-append, IsRun-append}
 use Rattle.hz_reach.proofs.Words.{key_at, IsEarlier, Spends, HasRoomFor, IsWireInto, IsWired, changes_in, IsSparingRun, wired-network_of, start-refines}
 use Rattle.hz_reach.proofs.FlipCounts.{flips_are_changes, flips_per_variable, flips_per_unknown, ends_by_changes}
-use Rattle.hz_reach.proofs.GateTurn.{not-itself, driver-inside}
+use Rattle.hz_reach.proofs.GateTurn.{not-itself, driver-inside, either-value}
+use Rattle.hz_reach.proofs.ListPlaces.{key-inside}
 use Rattle.hz_reach.proofs.Order.{earlier-or-not}
 use Rattle.hz_reach.proofs.Room.{room-left}
 use Rattle.hz_cycle.specs.Cycles.{IsSettleRun}
@@ -25,6 +26,17 @@ no-round sequence i Unknown Zero round is (inr known) = absurd (known refl)
 no-round sequence i Unknown One round is (inl unknown) = cc
 no-round sequence i Unknown One round is (inr known) = absurd (known refl)
 no-round sequence i Unknown Unknown round is either = is
+
+-- what has a settling round has a rank
+pub round-ranked :
+    {net : List Driver} {input start : List Bool} {a : List Tri} {ranks when : List ℕ} {b : List Tri} →
+    IsChange net input start a ranks b → AreSettlingRounds (algorithm_b net input a) a b when → (i : ℕ) → key_at when i ≢ 0 → key_at ranks i ≢ 0
+round-ranked {net} {input} {start} {a} {ranks} {when} {b} change rounds i some =
+    let inside : i < length a = omega (arith, key-inside when i some, rounds.long) in
+    elim (either-value (value_at a i)) [
+      | inl unknown ↦ change.turns.known i unknown
+      | inr known ↦ absurd (some (no-round (algorithm_b net input a) i (value_at a i) (value_at b i) (key_at when i) (rounds.each i inside) (inr known)))
+    ]
 
 -- a sum and what is left up to two
 sum-rest : (f : ℕ → ℕ) (xs : List ℕ) → ((x : ℕ) → f x ≤ 2) → sum_by (λ x. 2 - f x) xs + sum_by f xs ≡ sum_by (λ (x : ℕ). 2) xs

@@ -61,5 +61,9 @@ pub fn cycle_in_order(
     // A getter of the network says that its circuit is one.
     let _variables = net.len();
     make_pass(net, rank, b, scratch, run);
+    // If no gate had a turn, none has one in a second pass.
+    if run.steps() == 0 {
+        return;
+    }
     make_pass(net, rank, b, scratch, run);
 }

@@ -39,14 +39,17 @@ pub(crate) fn make_pass(net: &Net, rank: &[u32], b: &[Tri], scratch: &mut Scratc
     }
 }
 
-// Whether a variable is an unsettled gate.
+// Whether a variable is an unsettled gate. Most are settled.
 fn has_turn(net: &Net, b: &[Tri], var: u32) -> bool
     requires b { IsState net.now b.now }
     requires var { IsVariable net.now var }
     ensures turn { result ≡ has_turn_in (network_of net.now) b.now var }
     ensures gate { IsTrue result → IsGateNumber net.now var }
 {
-    is_gate(net, var) && is_unsettled(b[var as usize])
+    if !is_unsettled(b[var as usize]) {
+        return false;
+    }
+    is_gate(net, var)
 }
 
 // Whether a value is X.

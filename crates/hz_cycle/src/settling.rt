@@ -1,11 +1,12 @@
 //! The settle run.
-ghost use Rattle.std.specs.Prelude.{◌≡◌, ◌+◌, ◌*◌, ◌<◌, ◌≤◌, Bool, ℕ, List, [], ◌++◌, length};
+ghost use Rattle.std.specs.Prelude.{◌≡◌, ◌≢◌, ◌+◌, ◌*◌, ◌<◌, ◌≤◌, Bool, ℕ, List, [], ◌++◌, length, IsTrue};
 ghost use Rattle.std.specs.List.{slice_range};
 ghost use Rattle.hz_core.specs.declared.tri.Tri.{Tri};
+ghost use Rattle.hz_lists.specs.Listed.{is_listed};
 ghost use Rattle.hz_net.specs.Network.{Driver, network_of};
 ghost use Rattle.hz_gmw.specs.RunRecord.{flip_count};
 ghost use Rattle.hz_gmw.specs.Runs.{end_of};
-ghost use Rattle.hz_reach.specs.Order.{IsInKeyOrder};
+ghost use Rattle.hz_reach.specs.Order.{IsInKeyOrder, key_at};
 ghost use Rattle.hz_reach.specs.Room.{Spends, HasRoomFor};
 ghost use Rattle.hz_reach.specs.Spread.{IsSparingRun};
 ghost use Rattle.hz_reach.specs.Given.{IsScratchFor, IsEmptyRun};
@@ -111,6 +112,7 @@ fn settle_rounds(when: &[u32], b: &[Tri], scratch: &mut Scratch, run: &mut Run)
     requires when { length when.now ≡ length scratch.old.state }
     requires b { length b.now ≡ length scratch.old.state }
     requires none_marked { scratch.old.marked ≡ [] }
+    requires among { (i : ℕ) → key_at when.now i ≢ 0 → IsTrue (is_listed scratch.old.sorted i) }
     requires rounds { (net : List Driver) × (input : List Bool) × (a : List Tri) ×
         AreRoundsOf net input a when.now b.now scratch.old.state }
     requires room { HasRoomFor (length when.now) run.old }

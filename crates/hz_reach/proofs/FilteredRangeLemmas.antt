@@ -42,7 +42,7 @@ is-filtered_range test first count place few passes =
     (place, omega (arith, few, length-range_with_len first count), get_or-range_with_len first count place (first + place) few))
     passes
 
-ascends-range : (first count : ℕ) → Ascends first (range_with_len first count)
+pub ascends-range : (first count : ℕ) → Ascends first (range_with_len first count)
 ascends-range first zero = tt
 ascends-range first (suc count) = (omega arith, ascends-lower (first + 1) (suc first) (range_with_len (first + 1) count) (omega arith) (ascends-range (first + 1) count))
 

@@ -8,6 +8,8 @@ pub mod RanksOrderGates
 pub mod ListPlaces
 -- The list that follows the links: one more variable, and how many there may be
 pub mod Links
+-- Variables that are listed by number: those with a key are, and what stands between two that are listed has none
+pub mod ListedKeys
 -- Sorting variables by a key: pairs of a key and a variable, in order, without the keys
 pub mod SortLemmas
 -- Turns in the order of a key: who has had one and whose comes next, and that they keep what each turn keeps

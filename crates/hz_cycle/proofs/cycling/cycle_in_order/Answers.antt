@@ -1,9 +1,9 @@
 -- The second pass leads back to the state in which the first began.
-use Rattle.std.proofs.Common.{◌≡◌, ◌∙◌, ◌++◌, ℕ, List, sym, ap, subst, arith}
-use Rattle.hz_reach.proofs.Words.{length-Refines, network_of, wired-network_of}
+use Rattle.std.proofs.Common.{◌≡◌, ◌∙◌, [], ◌++◌, ℕ, List, sym, ap, subst, arith}
+use Rattle.hz_reach.proofs.Words.{length-Refines, network_of, wired-network_of, nil_from_length}
 use Rattle.hz_cycle.specs.Cycles.{IsCycleOf}
 use Rattle.hz_cycle.proofs.Change.{of-change, change-fixed, fixed-and-ranked}
-use Rattle.hz_cycle.proofs.CycleExists.{cycle-found, returned, room-twice, room-again}
+use Rattle.hz_cycle.proofs.CycleExists.{stays, cycle-found, cycle-rests, returned, room-twice, room-again}
 use Rattle.hz_cycle.proofs.TurnedStates.{turned-may-begin}
 use Rattle.hz_cycle.proofs.cycling.cycle_in_order.Goals as goal
 
@@ -46,3 +46,21 @@ returns-clause-state c =
     let fixed = change-fixed (of-change c.requires.change c.len-variables.ensures.circuit) in
     returned (wired-network_of c.args.net.now c.len-variables.ensures.circuit) fixed c.requires.turned
     (c.make_pass.ensures.pass.pass c.args.input.now fixed) (c.make_pass-2.ensures.pass.pass c.args.input.now fixed)
+
+-- If the first pass has no step, it is the second one too.
+pub returns-then-steps-eq0-clause-cycle : goal.returns-then-steps-eq0-clause-cycle
+returns-then-steps-eq0-clause-cycle c =
+    let fixed = change-fixed (of-change c.requires.change c.len-variables.ensures.circuit) in
+    let once = c.make_pass.ensures.pass in
+    let pass = once.pass c.args.input.now fixed in
+    let empty : c.make_pass.new.run.steps ≡ [] = nil_from_length c.make_pass.new.run.steps (sym c.steps.ensures ∙ c.if-steps-eq0.true) in
+    let none : once.made ≡ [] = ap (λ (list : List (List ℕ)). list ++ once.made) (sym c.requires.run.empty) ∙ (sym once.whole ∙ empty) in
+    cycle-rests c.make_pass.new.run.steps (wired-network_of c.args.net.now c.len-variables.ensures.circuit) fixed c.requires.turned pass none empty
+
+pub returns-then-steps-eq0-clause-state : goal.returns-then-steps-eq0-clause-state
+returns-then-steps-eq0-clause-state c =
+    let fixed = change-fixed (of-change c.requires.change c.len-variables.ensures.circuit) in
+    let once = c.make_pass.ensures.pass in
+    let empty : c.make_pass.new.run.steps ≡ [] = nil_from_length c.make_pass.new.run.steps (sym c.steps.ensures ∙ c.if-steps-eq0.true) in
+    let none : once.made ≡ [] = ap (λ (list : List (List ℕ)). list ++ once.made) (sym c.requires.run.empty) ∙ (sym once.whole ∙ empty) in
+    stays (once.pass c.args.input.now fixed) none

@@ -4,7 +4,7 @@ use Rattle.hz_reach.proofs.Words.{length-Refines, network_of, end_of, length-end
 use Rattle.hz_reach.proofs.Room.{spends-more}
 use Rattle.hz_cycle.specs.Cycles.{IsSettleRun}
 use Rattle.hz_cycle.proofs.Change.{of-both, change-fixed, fixed-and-ranked}
-use Rattle.hz_cycle.proofs.SettleRunExists.{spent-so-far, before-pass, rounds-may-begin, rounds-room, pass-may-begin, pass-room, settle-found, settle-end}
+use Rattle.hz_cycle.proofs.SettleRunExists.{spent-so-far, before-pass, round-ranked, rounds-may-begin, rounds-room, pass-may-begin, pass-room, settle-found, settle-end}
 use Rattle.hz_cycle.proofs.settling.settle_from.Goals as goal
 
 pub settle_rounds-requires : goal.settle_rounds-requires
@@ -17,6 +17,7 @@ settle_rounds-requires c =
       when = c.requires.change.settling.long ∙ (change.turns.long_a ∙ state);
       b = (change-fixed change).long ∙ state;
       none_marked = c.requires.none_marked;
+      among = λ i some. (c.requires.sorted.keyed i).1 (round-ranked change c.requires.change.settling i some);
       rounds = (network_of c.args.change.now.net.now, c.args.change.now.input.now, c.args.results.now.a.now, rounds-may-begin change c.requires.change.settling c.requires.begun c.requires.state);
       room = record { flips = omega (arith, room.flips, c.requires.change.settling.long, change.turns.long_a); steps = omega (arith, room.steps, c.requires.change.settling.long, change.turns.long_a) };
     }
