@@ -1,11 +1,18 @@
 -- A round that evaluates every variable, or the readers of what the round before changed, makes the whole next state.
-use Rattle.std.proofs.Common.{◌≡◌, ℕ, ◌<◌, Bool, List, length, sym, ap, ◌∙◌, arith, inl, inr}
+use Rattle.std.proofs.Common.{◌≡◌, ◌≢◌, ℕ, ◌<◌, Bool, Some, List, All, length, get_or, slice_get, subst, sym, ap, ◌∙◌, arith, inl, inr}
 use Rattle.std.specs.Prelude.{Contains}
+use Rattle.std.proofs.lemmas.Bool.{cases_lt}
+use Rattle.std.proofs.lemmas.List.Elements.{All-from_get_or, Contains-get_or}
 use Rattle.hz_core.specs.declared.tri.Tri.{Tri}
 use Rattle.hz_core.specs.Netlist.{Netlist, IsCircuit}
-use Rattle.hz_net.specs.Network.{Driver, network_of, driver_at, value_at, excitation3}
+use Rattle.hz_net.specs.Network.{Driver, network_of, driver_at, driver_value3, value_at, excitation3}
 use Rattle.hz_net.specs.Reads.{readers_of}
-use Rattle.hz_net.proofs.Readers.{driver_value3-same, reads-reader}
+use Rattle.hz_net.specs.Variables.{variable_kinds, fan_out_of}
+use Rattle.hz_net.specs.declared.variable.VarKind.{VarKind}
+use Rattle.hz_net.specs.declared.variable.VarKind.TheVariants.{Wire}
+use Rattle.hz_net.proofs.Places.{length-network_of}
+use Rattle.hz_net.proofs.Readers.{driver_value3-same, node-readers, reads-reader}
+use Rattle.hz_net.proofs.Wires.{IsWireFrom-fan_out_of, driver_at-IsWireFrom, variable_kinds-wire}
 use Rattle.hz_pass.specs.declared.round.Rule.{Rule}
 use Rattle.hz_pass.specs.Frontier.{next_value, next_state, IsMade, IsQuiet, IsRoundSoFar, IsRound}
 use Rattle.hz_pass.proofs.Places.{same-values}
@@ -57,3 +64,26 @@ made-by-readers {rule} {input} {state} {next} netlist circuit due quiet so_far e
         | inr made ↦ made
       ]
     ]
+
+same-kind : (one other : VarKind) → Some one ≡ Some other → one ≡ other
+same-kind one other e = cc
+
+-- what reads a variable that is no wire is a wire from it, so its value excites it
+pub readers-excited :
+    (netlist : Netlist) → IsCircuit netlist → (input : List Bool) (state : List Tri) (source : ℕ) (kind : VarKind) →
+    source < length (network_of netlist) → slice_get (variable_kinds netlist) source ≡ Some kind →
+    ((gate pin from : ℕ) → kind ≢ Wire gate pin from) →
+    All (λ reader. value_at state source ≡ excitation3 (network_of netlist) input state reader) (readers_of netlist source)
+readers-excited netlist circuit input state source kind inside is no_wire = elim (cases_lt source (length netlist.names)) [
+  | inl node ↦ All-from_get_or (λ (reader : ℕ). value_at state source ≡ excitation3 (network_of netlist) input state reader) (readers_of netlist source) 0
+      (λ k few.
+      let reader = get_or (readers_of netlist source) k 0 in
+      let there : Contains (fan_out_of netlist source) reader =
+      subst (λ (list : List ℕ). Contains list reader) (node-readers netlist circuit source node) (Contains-get_or (readers_of netlist source) k 0 few) in
+      let driven = driver_at-IsWireFrom netlist reader source circuit (IsWireFrom-fan_out_of netlist reader source there) in
+      sym (ap (driver_value3 input state) driven))
+  | inr above ↦ (
+      let seen = variable_kinds-wire netlist source circuit above (omega (arith, inside, length-network_of netlist circuit)) in
+      absurd (no_wire _ _ _ (same-kind kind _ (sym is ∙ seen)))
+      )
+]

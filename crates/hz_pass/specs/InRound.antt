@@ -1,7 +1,7 @@
 -- The words of a round and of a pass, as the code has them: what each begins with, and what it makes.
-use Rattle.std.specs.Prelude.{ℕ, ◌<◌, ◌≤◌, List, length}
+use Rattle.std.specs.Prelude.{◌≡◌, ℕ, ◌<◌, ◌≤◌, List, length}
 use Rattle.hz_core.specs.declared.tri.Tri.{Tri}
-use Rattle.hz_net.specs.Network.{network_of, IsState, IsInput, IsVariable}
+use Rattle.hz_net.specs.Network.{network_of, excitation3, IsState, IsInput, IsVariable}
 use Rattle.hz_pass.specs.declared.round.Round.{Round}
 use Rattle.hz_pass.specs.declared.rounds.Pass.{Pass}
 use Rattle.hz_pass.specs.Frontier.{round_states, Falls, IsMade, IsQuiet, IsRound, IsRoundSoFar}
@@ -20,6 +20,11 @@ IsMadeIn round next i =
 -- and so have the variables from one number on and below another
 abbrev pub AreMadeIn : ℕ → ℕ → Round → List Tri → Type 0
 AreMadeIn from below round next = (i : ℕ) → from ≤ i → i < below → IsMadeIn round next i
+
+-- a value is the excitation of variable i
+abbrev pub IsExcitedIn : Round → Tri → ℕ → Type 0
+IsExcitedIn round excited i =
+    excited ≡ excitation3 (network_of round.net.now) round.input.now round.state.now i
 
 -- what was made is still made
 abbrev pub KeepsMade : Round → List Tri → List Tri → Type 0

@@ -2,12 +2,13 @@
 ghost use Rattle.std.specs.Prelude.{◌≡◌, ℕ, ◌+◌, ◌<◌, ◌≤◌, [], false, IsTrue, length, not, fold, slice_set, sum_by, vec_capacity, All};
 ghost use Rattle.hz_core.specs.Netlist.{IsCircuit};
 ghost use Rattle.hz_net.specs.Network.{network_of, value_at, IsVariable};
+ghost use Rattle.hz_net.specs.Reads.{readers_of};
 ghost use Rattle.hz_pass.specs.Frontier.{next_value, is_open, reader_count, with_values_of};
-ghost use Rattle.hz_pass.specs.InRound.{AreMadeIn, CanBeMade, IsMadeIn, IsQuietIn, KeepsMade, LeavesFrom, Makes, MakesSoFar};
+ghost use Rattle.hz_pass.specs.InRound.{AreMadeIn, CanBeMade, IsExcitedIn, IsMadeIn, IsQuietIn, KeepsMade, LeavesFrom, Makes, MakesSoFar};
 
 use hz_core::Tri;
 use hz_lists::Steps;
-use hz_net::Net;
+use hz_net::{Net, VarKind};
 use std::sync::ledger::Ledger;
 
 /// How a round makes the next value of a variable of its value and its excitation.
@@ -164,32 +165,69 @@ impl Round<'_> {
         ensures counted { steps.old + length changed.new.items ≤ steps.new }
     {
         for source in due {
-            self.evaluate_each(self.net.readers(*source), next, changed, steps);
+            self.evaluate_from(*source, next, changed, steps);
         }
     }
 
-    // Evaluates the listed variables.
-    fn evaluate_each<L: Ledger>(
+    // Evaluates the readers of a variable.
+    fn evaluate_from<L: Ledger>(
         &self,
-        list: &[u32],
+        source: u32,
+        next: &mut [Tri],
+        changed: &mut Vec<u32>,
+        steps: &mut Steps<L>,
+    )
+        requires circuit { IsCircuit self.now.net.now }
+        requires round { CanBeMade self.now }
+        requires source { IsVariable self.now.net.now source }
+        requires so_far { MakesSoFar self.now next.old changed.old.items }
+        requires room { length (network_of self.now.net.now) ≤ vec_capacity changed.old }
+        ensures so_far { MakesSoFar self.now next.new changed.new.items }
+        ensures made { All (IsMadeIn self.now next.new) (readers_of self.now.net.now source) }
+        ensures kept { KeepsMade self.now next.old next.new }
+        ensures room { vec_capacity changed.new ≡ vec_capacity changed.old }
+        ensures steps { steps.new ≡ steps.old + reader_count self.now.net.now source }
+        ensures counted { steps.old + length changed.new.items
+            ≤ steps.new + length changed.old.items }
+    {
+        if let VarKind::Wire { gate, .. } = self.net.kind_of(source) {
+            self.evaluate(gate, next, changed, steps);
+        } else {
+            self.evaluate_wires(
+                self.net.readers(source),
+                self.state[source as usize],
+                next,
+                changed,
+                steps,
+            );
+        }
+    }
+
+    // Evaluates wires from a node, whose value excites them.
+    fn evaluate_wires<L: Ledger>(
+        &self,
+        wires: &[u32],
+        value: Tri,
         next: &mut [Tri],
         changed: &mut Vec<u32>,
         steps: &mut Steps<L>,
     )
         requires round { CanBeMade self.now }
-        requires inside { All (IsVariable self.now.net.now) list.now }
+        requires inside { All (IsVariable self.now.net.now) wires.now }
+        requires excited { All (IsExcitedIn self.now value) wires.now }
         requires so_far { MakesSoFar self.now next.old changed.old.items }
         requires room { length (network_of self.now.net.now) ≤ vec_capacity changed.old }
         ensures so_far { MakesSoFar self.now next.new changed.new.items }
-        ensures made { All (IsMadeIn self.now next.new) list.now }
+        ensures made { All (IsMadeIn self.now next.new) wires.now }
         ensures kept { KeepsMade self.now next.old next.new }
         ensures room { vec_capacity changed.new ≡ vec_capacity changed.old }
-        ensures steps { steps.new ≡ steps.old + length list.now }
+        ensures steps { steps.new ≡ steps.old + length wires.now }
         ensures counted { steps.old + length changed.new.items
             ≤ steps.new + length changed.old.items }
     {
-        for var in list {
-            self.evaluate(*var, next, changed, steps);
+        for wire in wires {
+            steps.tick();
+            self.put(*wire, value, next, changed);
         }
     }
 
@@ -219,6 +257,22 @@ impl Round<'_> {
             return;
         }
         let excited = self.net.excite3(self.input, self.state, var, steps);
+        self.put(var, excited, next, changed);
+    }
+
+    // Gives a variable the value that its excitation makes, and lists it if this changes it.
+    fn put(&self, var: u32, excited: Tri, next: &mut [Tri], changed: &mut Vec<u32>)
+        requires round { CanBeMade self.now }
+        requires var { IsVariable self.now.net.now var }
+        requires excited { IsExcitedIn self.now excited var }
+        requires so_far { MakesSoFar self.now next.old changed.old.items }
+        requires room { length (network_of self.now.net.now) ≤ vec_capacity changed.old }
+        ensures so_far { MakesSoFar self.now next.new changed.new.items }
+        ensures made { IsMadeIn self.now next.new var }
+        ensures kept { KeepsMade self.now next.old next.new }
+        ensures room { vec_capacity changed.new ≡ vec_capacity changed.old }
+        ensures counted { length changed.new.items ≤ 1 + length changed.old.items }
+    {
         let value = self.rule.next(self.state[var as usize], excited);
         if next[var as usize] != value {
             next[var as usize] = value;

@@ -1,4 +1,4 @@
-use Rattle.std.proofs.Common.{◌≡◌, ◌∙◌, ℕ, List, length, get_or, arith, inl, inr, ap, subst, sym}
+use Rattle.std.proofs.Common.{◌≡◌, ◌∙◌, ℕ, List, get_or, arith, inl, inr, ap, subst, sym}
 use Rattle.std.specs.Prelude.{Contains}
 use Rattle.std.proofs.lemmas.Bool.{cases_lt}
 use Rattle.std.proofs.lemmas.List.{get_or_default}
@@ -14,26 +14,25 @@ pub loop-source-preserved : goal.loop-source-preserved
 loop-source-preserved g c =
     let round = c.args.self.now in
     let netlist = round.net.now in
-    let made : ℕ → Type 0 = IsMadeIn round c.evaluate_each.new.next in
+    let made : ℕ → Type 0 = IsMadeIn round c.evaluate_from.new.next in
     let source = get_or c.args.due.now c.loop-source.source-index 0 in (
-      c.evaluate_each.ensures.so_far,
+      c.evaluate_from.ensures.so_far,
       λ k reader few there. elim (cases_lt k c.loop-source.source-index) [
-        | inl earlier ↦ c.evaluate_each.ensures.kept reader (c.loop-source.invariant.1 k reader earlier there)
+        | inl earlier ↦ c.evaluate_from.ensures.kept reader (c.loop-source.invariant.1 k reader earlier there)
         | inr last ↦ (
             let same : k ≡ c.loop-source.source-index = omega (arith, last, few) in
-            let here : Contains c.readers.result.now reader = subst (λ (list : List ℕ). Contains list reader) (ap (λ (n : ℕ). readers_of netlist (get_or c.args.due.now n 0)) same ∙ sym c.readers.ensures.readers) there in
-            All-contains made c.readers.result.now reader c.evaluate_each.ensures.made here
+            let here : Contains (readers_of netlist source) reader = subst (λ (list : List ℕ). Contains list reader) (ap (λ (n : ℕ). readers_of netlist (get_or c.args.due.now n 0)) same) there in
+            All-contains made (readers_of netlist source) reader c.evaluate_from.ensures.made here
             )
       ],
-      c.evaluate_each.ensures.room ∙ c.loop-source.invariant.2,
+      c.evaluate_from.ensures.room ∙ c.loop-source.invariant.2,
       omega (
         arith,
-        c.evaluate_each.ensures.steps,
+        c.evaluate_from.ensures.steps,
         c.loop-source.invariant.3,
-        ap (length {A = ℕ}) c.readers.ensures.readers,
         sum_by_more (reader_count netlist) c.args.due.now c.loop-source.source-index 0 (omega arith),
       ),
-      omega (arith, c.evaluate_each.ensures.counted, c.loop-source.invariant.4),
+      omega (arith, c.evaluate_from.ensures.counted, c.loop-source.invariant.4),
     )
 
 pub returns-clause-round : goal.returns-clause-round
