@@ -224,6 +224,18 @@ held-cores net free cycles cores marks are i few out =
     number-of None is = is
     number-of (Some number) is = is.0
 
+-- without a cycle no variable can have a core, so each has its mark
+pub all-marked : (free : List Bool) (cycles : List (List ℕ)) (cores : List (Option ℕ)) → HaveCores free cycles cores → length cycles ≡ 0 → (i : ℕ) → i < length free → get_or free i false ≡ true
+all-marked free cycles cores have none i few =
+    elim (cases_Bool (get_or free i false)) [
+      | inl marked ↦ marked
+      | inr out ↦ absurd (no-number (get_or cores i None) (have i few out))
+    ]
+  where
+    no-number : (core : Option ℕ) → IsCycleNumber cycles core → ⊥
+    no-number None is = is
+    no-number (Some number) is = omega (arith, is, none)
+
 -- the cycle with the number of a variable's core
 pub core-numbered : (netlist : Netlist) (part : FreePart) (i number : ℕ) → IsFreePart netlist part → i < length part.free → get_or part.free i false ≡ false → get_or part.cores i None ≡ Some number → IsCore (network_of netlist) i (get_or part.cycles number [])
 core-numbered netlist part i number is few out same =

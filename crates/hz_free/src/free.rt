@@ -16,6 +16,7 @@ ghost use Rattle.hz_free.specs.CappedWords.{AreConstant, CanBeFolded, IsResultOf
 ghost use Rattle.hz_free.specs.Paths.{HaveValue};
 ghost use Rattle.hz_free.specs.VariableWords.{AreCappedWords};
 ghost use Rattle.hz_word.specs.Capped.{greatest_cap, IsWithinCap};
+ghost use Rattle.hz_word.specs.declared.word.Word.{Word};
 
 use crate::feedback::{Feedback, find_feedback};
 use crate::order::{count_reads, place_all};
@@ -149,7 +150,7 @@ impl Free {
         requires out { AreByVariable net.now out.old }
         ensures { AreCappedWords (network_of net.now) input.now start.now cap out.new }
     {
-        fill(self.free.as_slice(), start, out);
+        self.fill(start, out);
         let folding = Folding {
             net,
             start,
@@ -179,7 +180,7 @@ impl Free {
         requires out { AreByVariable net.now out.old }
         ensures { AreCappedWords (network_of net.now) input.now start.now cap out.new }
     {
-        fill(self.free.as_slice(), start, out);
+        self.fill(start, out);
         let folding = Folding {
             net,
             start,
@@ -187,6 +188,20 @@ impl Free {
             cap,
         };
         write_words(&folding, self.order.as_slice(), Some(a), out);
+    }
+
+    // Gives each feedback-free variable the word of one that does not change, and no word to the others. Without a feedback cycle each
+    // variable is feedback-free, so none is asked.
+    fn fill<S: StoredWord>(&self, start: &[bool], out: &mut [S])
+        requires free { length self.now.free ≡ length out.old }
+        requires start { length start.now ≡ length out.old }
+        ensures { AreConstant self.now.free start.now (map S.word_in out.new) }
+    {
+        if self.feedback.cycles.len() == 0 {
+            fill_all(start, out);
+        } else {
+            fill_free(self.free.as_slice(), start, out);
+        }
     }
 }
 
@@ -207,10 +222,27 @@ fn write_words<S: StoredWord>(folding: &Folding, order: &[u32], a: Option<&[Tri]
     let mut pins = [NO_WORD; FEW_PINS];
     for node in order {
         if may_change(a, *node) {
-            let word = word_of(folding, out, &mut pins, *node);
-            give(folding.net, *node, word, out);
+            write_word(folding, *node, &mut pins, out);
         }
     }
+}
+
+// Folds the word of a node, and gives it to the node and the wires from it. It is not a part of the loop, which mostly finds that a node
+// does not change.
+#[inline(never)]
+fn write_word<S: StoredWord>(folding: &Folding, node: u32, pins: &mut [Word], out: &mut [S])
+    requires folding { CanBeFolded folding.now }
+    requires node { node < length folding.now.net.now.names }
+    requires ready { IsReady (network_of folding.now.net.now) folding.now.cap
+        (map S.word_in out.old) node }
+    ensures { (word : Word)
+        × IsNextWord (network_of folding.now.net.now) folding.now.input.now
+        folding.now.start.now folding.now.cap (map S.word_in out.old) node word
+        × HaveValue (node ∷ fan_out_of folding.now.net.now node) (Some word)
+        (map S.word_in out.old) (map S.word_in out.new) }
+{
+    let word = word_of(folding, out, pins, node);
+    give(folding.net, node, word, out);
 }
 
 // Gives a node and the wires from it a word.
@@ -260,8 +292,19 @@ fn may_change(a: Option<&[Tri]>, var: u32) -> bool
 // Few gates have more pins.
 const FEW_PINS: usize = 16;
 
-// Gives each feedback-free variable the word of one that does not change, and no word to the others.
-fn fill<S: StoredWord>(free: &[bool], start: &[bool], out: &mut [S])
+// Gives each variable the word of one that does not change.
+fn fill_all<S: StoredWord>(start: &[bool], out: &mut [S])
+    requires { length start.now ≡ length out.old }
+    ensures { (i : ℕ) → i < length out.old →
+        slice_index_or (map S.word_in out.new) i None ≡ constant_if true (bit_at start.now i) }
+{
+    for var in 0..out.len() {
+        out[var] = constant_if(true, start[var]);
+    }
+}
+
+// Gives each feedback-free variable such a word, and no word to the others.
+fn fill_free<S: StoredWord>(free: &[bool], start: &[bool], out: &mut [S])
     requires free { length free.now ≡ length out.old }
     requires start { length start.now ≡ length out.old }
     ensures { AreConstant free.now start.now (map S.word_in out.new) }

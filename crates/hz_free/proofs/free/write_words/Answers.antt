@@ -2,7 +2,6 @@
 use Rattle.std.proofs.Common.{arith, ◌≡◌, ◌∙◌, sym, subst, length, map, take, get_or, List, ℕ}
 use Rattle.std.proofs.lemmas.List.{length-map}
 use Rattle.std.proofs.Math.Seq.{take-length}
-use Rattle.hz_free.proofs.KeptWords.{counted-capped}
 use Rattle.hz_free.proofs.ToldWords.{AreTold, within-given, known-given, begin-told, placed-below, placed-inside, ready-words, folded-told, constant-told, all-told}
 use Rattle.hz_free.proofs.free.write_words.Goals as goal
 use Rattle.hz_free.proofs.free.write_words.Goals.{then-may_change, else-may_change}
@@ -18,23 +17,13 @@ may_change-requires g c =
     (placed-inside c.args.folding.now.net.now c.args.folding.now.input.now c.args.folding.now.start.now c.args.folding.now.cap c.requires.folding.start (record { free = c.requires.part.0; order = c.args.order.now; cycles = c.requires.part.1; cores = c.requires.part.2 }) c.requires.part.3 c.loop-node.node-index c.loop-node-test.true)
     c.requires.a
 
-pub word_of-word-requires-clause-node : goal.word_of-word-requires-clause-node
-word_of-word-requires-clause-node g c =
-    placed-below c.args.folding.now.net.now c.args.folding.now.input.now c.args.folding.now.start.now c.args.folding.now.cap c.requires.folding.start (record { free = c.requires.part.0; order = c.args.order.now; cycles = c.requires.part.1; cores = c.requires.part.2 }) c.requires.part.3 c.loop-node.node-index c.loop-node-test.true
-
-pub word_of-word-requires-clause-ready : goal.word_of-word-requires-clause-ready
-word_of-word-requires-clause-ready g c =
+pub write_word-requires-clause-ready : goal.write_word-requires-clause-ready
+write_word-requires-clause-ready g c =
     ready-words c.args.folding.now.net.now c.args.folding.now.input.now c.args.folding.now.start.now c.args.folding.now.cap c.requires.folding.start (record { free = c.requires.part.0; order = c.args.order.now; cycles = c.requires.part.1; cores = c.requires.part.2 }) c.requires.part.3 c.loop-node.node-index c.loop-node-test.true (map g.S.StoredWord.word_in c.loop-node.out) c.loop-node.invariant
 
-pub give-requires-clause-node : goal.give-requires-clause-node
-give-requires-clause-node g c =
+pub write_word-requires-clause-node : goal.write_word-requires-clause-node
+write_word-requires-clause-node g c =
     placed-below c.args.folding.now.net.now c.args.folding.now.input.now c.args.folding.now.start.now c.args.folding.now.cap c.requires.folding.start (record { free = c.requires.part.0; order = c.args.order.now; cycles = c.requires.part.1; cores = c.requires.part.2 }) c.requires.part.3 c.loop-node.node-index c.loop-node-test.true
-
-pub give-requires-clause-counted : goal.give-requires-clause-counted
-give-requires-clause-counted g c =
-    let made = c.word_of-word.ensures
-    (ready-words c.args.folding.now.net.now c.args.folding.now.input.now c.args.folding.now.start.now c.args.folding.now.cap c.requires.folding.start (record { free = c.requires.part.0; order = c.args.order.now; cycles = c.requires.part.1; cores = c.requires.part.2 }) c.requires.part.3 c.loop-node.node-index c.loop-node-test.true (map g.S.StoredWord.word_in c.loop-node.out) c.loop-node.invariant) in
-    counted-capped c.args.folding.now.cap made.0 c.word_of-word.result c.requires.folding.cap_high made.3
 
 pub loop-node-preserved : goal.loop-node-preserved
 loop-node-preserved g c =
@@ -42,8 +31,8 @@ loop-node-preserved g c =
       | then-may_change w ↦
           rw w.out-is
           (folded-told c.args.folding.now.net.now c.args.folding.now.input.now c.args.folding.now.start.now c.args.folding.now.cap c.requires.folding.start (record { free = c.requires.part.0; order = c.args.order.now; cycles = c.requires.part.1; cores = c.requires.part.2 }) c.requires.part.3
-          c.loop-node.node-index c.loop-node-test.true (map g.S.StoredWord.word_in c.loop-node.out) c.loop-node.invariant w.word_of-word.result (map g.S.StoredWord.word_in w.give.new.out) w.word_of-word.ensures
-          (length-map w.give.new.out g.S.StoredWord.word_in ∙ (w.give.auto.out ∙ sym (length-map c.loop-node.out g.S.StoredWord.word_in))) w.give.ensures)
+          c.loop-node.node-index c.loop-node-test.true (map g.S.StoredWord.word_in c.loop-node.out) c.loop-node.invariant w.write_word.ensures.0 (map g.S.StoredWord.word_in w.write_word.new.out) w.write_word.ensures.1
+          (length-map w.write_word.new.out g.S.StoredWord.word_in ∙ (w.write_word.auto.out ∙ sym (length-map c.loop-node.out g.S.StoredWord.word_in))) w.write_word.ensures.2)
       | else-may_change w ↦
           let given = known-given (λ a. a.now) c.args.a (get_or c.args.order.now c.loop-node.node-index 0) c.may_change.ensures w.if-may_change.false c.requires.a in
           rw w.out-is
