@@ -1,5 +1,5 @@
 -- The words one after the other: one more, and all.
-use Rattle.std.proofs.Common.{◌≡◌, ℕ, zero, suc, ◌+◌, ◌<◌, ◌≤◌, ◌≢◌, Bool, true, false, List, [], ◌∷◌, ◌++◌, length, take, get_or, set, Option, Some, None, refl, sym, ap, ◌∙◌, subst, arith, inl, inr, add-one, get_or-set_same, get_or-set_other, length-set}
+use Rattle.std.proofs.Common.{◌≡◌, ℕ, zero, suc, ◌+◌, ◌<◌, ◌≤◌, ◌≢◌, Bool, true, false, List, [], ◌∷◌, ◌++◌, length, take, get_or, set, Option, Some, None, IsTrue, refl, sym, ap, ◌∙◌, subst, arith, inl, inr, add-one, get_or-set_same, get_or-set_other, length-set}
 use Rattle.std.proofs.lemmas.Bool.{cases_Bool, cases_eq, both_ways}
 use Rattle.std.proofs.lemmas.Option.{slice_get-get_or}
 use Rattle.std.proofs.Math.Seq.{take-suc}
@@ -13,9 +13,8 @@ use Rattle.hz_word.specs.Word.{IsWord}
 use Rattle.hz_word.specs.Walk.{IsWordOf}
 use Rattle.hz_word.specs.Capped.{capped_word}
 use Rattle.hz_free.specs.Chains.{IsFeedbackFree}
-use Rattle.hz_free.specs.FreePart.{FreePart, IsFreePart, AreMarks}
+use Rattle.hz_free.specs.FreePart.{FreePart, AreMarks}
 use Rattle.hz_free.specs.VariableWords.{IsDrivenWord, AreCappedWords}
-use Rattle.hz_free.specs.CappedWords.{AreWordsSoFar, IsReady}
 use Rattle.hz_lists.proofs.ListedLemmas.{listed-cases, listed-left, listed-one, unlisted-before, pushed-last, listed-at}
 use Rattle.hz_free.proofs.Kahn.{listed-push-other}
 
@@ -27,17 +26,28 @@ same-driven input start words words' i (Function kind first pins) word long same
     (same-parts [] words words' first pins long (λ k few. same (first + k) (omega arith, omega arith))) driven
 same-driven input start words words' i (Source node) word long same driven = driven ∙ same node refl
 
--- what a feedback-free part says of its marks and its order, without the cycles
+-- Each placed variable has a word, made of those that it reads, and its capped form is told; the others are told what they were
+-- told at first.
+pub record AreWordsSoFar (net : List Driver) (input start : List Bool) (cap : ℕ)
+    (first : List (Option Word)) (placed : List ℕ) (told : List (Option Word))
+    (words : List (List Bool)) : Type 0 where
+  pub long : length words ≡ length net
+  pub told_long : length told ≡ length net
+  pub is_word : (i : ℕ) → IsTrue (is_listed placed i) → IsWord (get_or words i [])
+  pub driven : (i : ℕ) → IsTrue (is_listed placed i) →
+      IsDrivenWord input start words i (driver_at net i) (get_or words i [])
+  pub tells : (i : ℕ) → IsTrue (is_listed placed i) →
+      get_or told i None ≡ Some (capped_word cap (get_or words i []))
+  pub others : (i : ℕ) → is_listed placed i ≡ false →
+      get_or told i None ≡ get_or first i None
+
+-- marks of the feedback-free variables, and an order of them, each behind the variables that it reads
 pub record IsOrdered (netlist : Netlist) (part : FreePart) : Type 0 where
   pub marks : AreMarks (network_of netlist) part.free
   pub listed : (i : ℕ) → i < length (network_of netlist) → is_listed part.order i ≡ bit_at part.free i
   pub once : IsRepeatFree part.order
   pub inside : (i : ℕ) → is_listed part.order i ≡ true → i < length (network_of netlist)
   pub after : (at j : ℕ) → at < length part.order → Reads (driver_at (network_of netlist) (get_or part.order at 0)) j → is_listed (take at part.order) j ≡ true
-
-pub ordered-part : (netlist : Netlist) (part : FreePart) → IsFreePart netlist part → IsOrdered netlist part
-ordered-part netlist part is =
-    record { marks = is.marks; listed = is.listed; once = is.once; inside = is.inside; after = is.after }
 
 module _ (netlist : Netlist) (input start : List Bool) (cap : ℕ) (first : List (Option Word)) (part : FreePart) (is : IsOrdered netlist part) where
   -- what a placed variable reads is placed
@@ -57,16 +67,7 @@ module _ (netlist : Netlist) (input start : List Bool) (cap : ℕ) (first : List
       ]
 
   module _ (place : ℕ) (few : place < length part.order) (told : List (Option Word)) (words : List (List Bool)) (are : AreWordsSoFar (network_of netlist) input start cap first (take place part.order) told words) where
-    unfoldable pub ready-words : IsReady (network_of netlist) input start cap told (get_or part.order place 0)
-    ready-words = record {
-      first = first;
-      placed = take place part.order;
-      words = words;
-      are_told = are;
-      reads = λ j reads. is.after place j few reads;
-    }
-
-    pub var-below : get_or part.order place 0 < length (network_of netlist)
+    var-below : get_or part.order place 0 < length (network_of netlist)
     var-below = is.inside (get_or part.order place 0) (listed-at part.order place few)
 
     unplaced : is_listed (take place part.order) (get_or part.order place 0) ≡ false

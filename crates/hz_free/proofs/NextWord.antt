@@ -1,13 +1,13 @@
 -- The word of a variable, once all that it reads have one.
 use Rattle.std.proofs.Common.{◌≡◌, ℕ, zero, suc, ◌+◌, ◌<◌, ◌≤◌, Bool, true, false, List, [], ◌∷◌, map, length, get_or, Option, Some, None, All, IsTrue, slice_get, refl, sym, ap, ◌∙◌, subst, arith, inl, inr}
-use Rattle.std.specs.Prelude.{slice_range, IsSome}
+use Rattle.std.specs.Prelude.{slice_range}
 use Rattle.std.specs.Bool.{nat_le}
 use Rattle.std.proofs.lemmas.Bool.{cases_Bool, leb-true}
 use Rattle.std.proofs.lemmas.List.{length-map, get_or-map, ext_get_or}
 use Rattle.hz_core.specs.declared.kind.Kind.{Kind}
 use Rattle.hz_core.specs.Gate.{takes}
 use Rattle.hz_core.specs.Netlist.{Netlist, IsCircuit, IsWhole, variable_count}
-use Rattle.hz_net.specs.Network.{Driver, External, Function, Source, network_of, driver_at, bit_at}
+use Rattle.hz_net.specs.Network.{Driver, External, Function, network_of, driver_at, bit_at}
 use Rattle.hz_net.specs.Reads.{Reads}
 use Rattle.hz_net.specs.Variables.{variable_kinds, first_wire}
 use Rattle.hz_net.specs.Entries.{driver_of, entry_kind, entries_of, IsEntryAt}
@@ -20,7 +20,9 @@ use Rattle.hz_word.specs.declared.word.Word.{Word}
 use Rattle.hz_word.specs.Word.{IsWord, AreWords, change_count}
 use Rattle.hz_word.specs.Capped.{capped_word, capped_count, IsWithinCap}
 use Rattle.hz_free.specs.VariableWords.{IsDrivenWord, input_word}
-use Rattle.hz_free.specs.CappedWords.{IsDrivenAs, IsReady, IsNextWord, HasCountedWord, IsGateWord}
+use Rattle.hz_free.specs.CappedWords.{CanBeFolded, IsDrivenAs, IsReady, IsNextWord, HasCountedWord, IsGateWord}
+use Rattle.hz_free.specs.declared.free.Folding.{Folding}
+use Rattle.hz_gmw.proofs.Counts.{nodes-among}
 
 -- an element that is there does not depend on the default
 pub default-same : {X : Type 0} (xs : List X) (k : ℕ) (d e : X) → k < length xs → get_or xs k d ≡ get_or xs k e
@@ -56,8 +58,10 @@ driven-as netlist var kind circuit whole within seen =
     (IsEntryAt-entries_of netlist var (InputEntry 0) circuit whole few)
     (driver_at-entry netlist var (get_or (entries_of netlist) var (InputEntry 0)) circuit few read) within)
 
-same-word : (a b : Word) → Some a ≡ Some b → a ≡ b
-same-word a b e = cc
+-- how a node is driven, by what it is
+pub node-driven : (folding : Folding) (node : ℕ) (kind : VarKind) → CanBeFolded folding → node < length folding.net.now.names → slice_get (variable_kinds folding.net.now) node ≡ Some kind → IsDrivenAs folding.net.now node kind
+node-driven folding node kind can few seen =
+    driven-as folding.net.now node kind can.circuit can.whole (omega (arith, few, nodes-among folding.net.now can.circuit)) seen
 
 -- words by their elements
 pub AreWords-each : (words : List (List Bool)) → ((k : ℕ) → k < length words → IsWord (get_or words k [])) → AreWords words
@@ -79,8 +83,8 @@ input_word-IsWord true false = (λ e. cc, tt)
 input_word-IsWord false true = (λ e. cc, tt)
 
 module _ (netlist : Netlist) (circuit : IsCircuit netlist) (input start : List Bool) (cap var : ℕ) (told : List (Option Word)) where
-  reads-told : (ready : IsReady (network_of netlist) input start cap told var) → (j : ℕ) → Reads (driver_at (network_of netlist) var) j → get_or told j None ≡ Some (capped_word cap (get_or ready.words j []))
-  reads-told ready j reads = ready.are_told.tells j (ready.reads j reads)
+  reads-told : (ready : IsReady (network_of netlist) cap told var) → (j : ℕ) → Reads (driver_at (network_of netlist) var) j → get_or told j None ≡ Some (capped_word cap (get_or ready.words j []))
+  reads-told ready j reads = ready.tells j reads
 
   -- an input
   pub next-input : (number : ℕ) (outcome : Word) → driver_at (network_of netlist) var ≡ External number → capped_word cap (input_word (bit_at start var) (bit_at input number)) ≡ outcome → IsNextWord (network_of netlist) input start cap told var outcome
@@ -91,37 +95,21 @@ module _ (netlist : Netlist) (circuit : IsCircuit netlist) (input start : List B
     same,
   )
 
-  -- a wire
-  pub source-told : (source : ℕ) → IsReady (network_of netlist) input start cap told var → driver_at (network_of netlist) var ≡ Source source → IsSome (get_or told source None)
-  source-told source ready driven =
-      let tells = reads-told ready source (subst (λ (driver : Driver). Reads driver source) (sym driven) refl) in
-      subst (λ (word : Option Word). IsSome word) (sym tells) refl
-
-  pub next-wire : (source : ℕ) (outcome : Word) → driver_at (network_of netlist) var ≡ Source source → get_or told source None ≡ Some outcome → IsNextWord (network_of netlist) input start cap told var outcome
-  next-wire source outcome driven same ready =
-      let reads : Reads (driver_at (network_of netlist) var) source = subst (λ (driver : Driver). Reads driver source) (sym driven) refl in
-      let tells = reads-told ready source reads in (
-        get_or ready.words source [],
-        ready.are_told.is_word source (ready.reads source reads),
-        subst (λ (driver : Driver). IsDrivenWord input start ready.words var driver (get_or ready.words source [])) (sym driven) refl,
-        same-word (capped_word cap (get_or ready.words source [])) outcome (sym tells ∙ same),
-      )
-
   -- a gate
   module _ (kind : Kind) (first count : ℕ) (driven : driver_at (network_of netlist) var ≡ Function kind first count) (inside : first + count ≤ length (network_of netlist)) where
     wire-reads : (k : ℕ) → k < count → Reads (driver_at (network_of netlist) var) (first + k)
     wire-reads k few = subst (λ (driver : Driver). Reads driver (first + k)) (sym driven) (omega arith, omega arith)
 
-    pub length-wires : IsReady (network_of netlist) input start cap told var → length (slice_range told first (first + count)) ≡ count
-    length-wires ready = let long = ready.are_told.told_long in length-part told first count (λ k few. omega arith)
+    pub length-wires : IsReady (network_of netlist) cap told var → length (slice_range told first (first + count)) ≡ count
+    length-wires ready = let long = ready.told_long in length-part told first count (λ k few. omega arith)
 
-    at-wire : (ready : IsReady (network_of netlist) input start cap told var) (k : ℕ) (d : Option Word) → k < count → get_or (slice_range told first (first + count)) k d ≡ Some (capped_word cap (get_or ready.words (first + k) []))
+    at-wire : (ready : IsReady (network_of netlist) cap told var) (k : ℕ) (d : Option Word) → k < count → get_or (slice_range told first (first + count)) k d ≡ Some (capped_word cap (get_or ready.words (first + k) []))
     at-wire ready k d few =
         let long = length-wires ready in
         default-same (slice_range told first (first + count)) k d None (omega arith)
         ∙ (at-part told first count k None few ∙ reads-told ready (first + k) (wire-reads k few))
 
-    pub counted-wires : IsReady (network_of netlist) input start cap told var → All (HasCountedWord cap) (slice_range told first (first + count))
+    pub counted-wires : IsReady (network_of netlist) cap told var → All (HasCountedWord cap) (slice_range told first (first + count))
     counted-wires ready = λ k d few.
         let long = length-wires ready in
         subst (HasCountedWord cap) (sym (at-wire ready k d (omega arith))) (counted-capped_count cap (change_count (get_or ready.words (first + k) [])))
@@ -129,12 +117,12 @@ module _ (netlist : Netlist) (circuit : IsCircuit netlist) (input start : List B
     pub next-gate : (outcome : Word) → IsGateWord kind (slice_range told first (first + count)) cap outcome → IsNextWord (network_of netlist) input start cap told var outcome
     next-gate outcome is_gate ready =
         let words = slice_range ready.words first (first + count) in
-        let words_long = ready.are_told.long in
+        let words_long = ready.long in
         let long_words : length (slice_range ready.words first (first + count)) ≡ count = length-part ready.words first count (λ k few. omega arith) in
         let long_told = length-wires ready in
         let are_words : AreWords (slice_range ready.words first (first + count)) = AreWords-each (slice_range ready.words first (first + count)) (λ k few.
         subst (λ (word : List Bool). IsWord word) (sym (at-part ready.words first count k [] (omega arith)))
-        (ready.are_told.is_word (first + k) (ready.reads (first + k) (wire-reads k (omega arith))))) in
+        (ready.is_word (first + k) (wire-reads k (omega arith)))) in
         let same : map (λ (word : List Bool). Some (capped_word cap word)) (slice_range ready.words first (first + count)) ≡ slice_range told first (first + count) =
         ext_get_or None (map (λ (word : List Bool). Some (capped_word cap word)) (slice_range ready.words first (first + count))) (slice_range told first (first + count))
         (length-map (slice_range ready.words first (first + count)) (λ (word : List Bool). Some (capped_word cap word)) ∙ (long_words ∙ sym long_told))

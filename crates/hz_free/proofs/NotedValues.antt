@@ -1,6 +1,6 @@
 -- Notes on variables, one after the other: a value that they have, which variable chose another one, and numbers of roots.
 use Rattle.std.proofs.Common.{◌≡◌, ℕ, suc, ◌+◌, ◌-◌, ◌<◌, ◌⊎◌, All, true, false, Option, Some, None, List, [], ◌∷◌, ◌++◌, length, take, drop, get_or, set, IsTrue, refl, sym, ap, ◌∙◌, subst, arith, inl, inr, eqb, add-one, get_or-set_same, get_or-set_other}
-use Rattle.std.proofs.lemmas.Bool.{cases_eq, or_right, both_ways, eqb-true}
+use Rattle.std.proofs.lemmas.Bool.{cases_Bool, cases_eq, or_right, both_ways, eqb-true}
 use Rattle.std.proofs.Math.Seq.{take-suc, drop-cons}
 use Rattle.std.proofs.lemmas.List.{take-append-drop, take_all, length-drop}
 use Rattle.std.proofs.lemmas.List.Quantifiers.{position-Some}
@@ -10,17 +10,17 @@ use Rattle.hz_core.proofs.ListLemmas.{list_any-from_position_none}
 use Rattle.std.specs.Option.{IsSome, is_some}
 use Rattle.hz_lists.specs.Listed.{is_listed}
 use Rattle.hz_free.specs.Paths.{LeadsTo, IsLink, HaveValue, HaveChoosers, HasRoot, IsInside, HaveNumbers, core_by}
-use Rattle.hz_lists.proofs.ListedLemmas.{listed-cases, listed-left, listed-one, listed-append, pushed-last}
+use Rattle.hz_lists.proofs.ListedLemmas.{first-or-later, listed-first, listed-other, listed-cases, listed-left, listed-one, listed-append, pushed-last}
 use Rattle.hz_free.proofs.Kahn.{listed-push-other}
 use Rattle.hz_free.proofs.PathLemmas.{link-one}
 
 take-more : (xs : List ℕ) (k : ℕ) → k < length xs → take (k + 1) xs ≡ take k xs ++ get_or xs k 0 ∷ []
 take-more xs k inside = rw add-one (take-suc xs k 0 inside)
 
-pub value-begin : (value : Option ℕ) (list : List (Option ℕ)) → HaveValue [] value list list
+pub value-begin : {T : Type 0} (value : Option T) (list : List (Option T)) → HaveValue [] value list list
 value-begin value list = record { listed = λ i there. absurd (both_ways false refl there); others = λ i out. refl }
 
-value-push : (done : List ℕ) (var : ℕ) (value : Option ℕ) (list list' : List (Option ℕ)) → var < length list' → HaveValue done value list list' → HaveValue (done ++ var ∷ []) value list (set list' var value)
+value-push : {T : Type 0} (done : List ℕ) (var : ℕ) (value : Option T) (list list' : List (Option T)) → var < length list' → HaveValue done value list list' → HaveValue (done ++ var ∷ []) value list (set list' var value)
 value-push done var value list list' few have =
     record {
       listed =
@@ -37,10 +37,32 @@ value-push done var value list list' few have =
           ];
     }
 
-pub value-more : (path : List ℕ) (k : ℕ) (value : Option ℕ) (list list' : List (Option ℕ)) → k < length path → get_or path k 0 < length list' → HaveValue (take k path) value list list' → HaveValue (take (k + 1) path) value list (set list' (get_or path k 0) value)
+pub value-more : {T : Type 0} (path : List ℕ) (k : ℕ) (value : Option T) (list list' : List (Option T)) → k < length path → get_or path k 0 < length list' → HaveValue (take k path) value list list' → HaveValue (take (k + 1) path) value list (set list' (get_or path k 0) value)
 value-more path k value list list' inside few have =
     subst (λ (done : List ℕ). HaveValue done value list (set list' (get_or path k 0) value)) (sym (take-more path k inside))
     (value-push (take k path) (get_or path k 0) value list list' few have)
+
+-- one variable, and then others
+pub value-first : {T : Type 0} (var : ℕ) (rest : List ℕ) (value : Option T) (list list' : List (Option T)) → var < length list → HaveValue rest value (set list var value) list' → HaveValue (var ∷ rest) value list list'
+value-first var rest value list list' few have =
+    record {
+      listed =
+          λ i there.
+          elim (cases_Bool (is_listed rest i)) [
+            | inl later ↦ have.listed i later
+            | inr out ↦
+                elim (first-or-later i var rest there) [
+                  | inl here ↦ have.others i out ∙ subst (λ (m : ℕ). get_or (set list var value) m None ≡ value) (sym here) (get_or-set_same list var value None few)
+                  | inr later ↦ have.listed i later
+                ]
+          ];
+      others =
+          λ i out.
+          elim (cases_eq i var) [
+            | inl here ↦ absurd (both_ways (is_listed (var ∷ rest) i) out (listed-first i var rest here))
+            | inr ne ↦ have.others i (sym (listed-other i var rest ne) ∙ out) ∙ get_or-set_other list var i value None ne
+          ];
+    }
 
 -- no variable has the number of its root yet
 pub numbers-begin : (numbers roots : List (Option ℕ)) → HaveNumbers numbers roots roots 0

@@ -1,20 +1,23 @@
 -- The finished order is the feedback-free part: what is not in it reads something that is not in it.
 use Rattle.std.proofs.Common.{◌≡◌, ℕ, zero, suc, ◌<◌, ◌≤◌, Bool, true, false, Option, Some, None, List, [], ◌∷◌, map, length, take, get_or, refl, sym, ap, ◌∙◌, subst, arith, inl, inr, eqb}
-use Rattle.std.specs.Prelude.{Contains}
-use Rattle.std.proofs.lemmas.Bool.{cases_Bool, cases_lt, cases_eq, both_ways, eq-eqb}
+use Rattle.std.specs.Prelude.{Contains, ◌++◌, ◌&&◌, nat_lt}
+use Rattle.std.specs.List.{filter}
+use Rattle.std.proofs.lemmas.Bool.{cases_Bool, cases_lt, cases_eq, both_ways, eq-eqb, false_from_ne_true, lt-ltb, ltb-true}
 use Rattle.std.proofs.lemmas.List.{length-map, get_or-map, get_or_past}
-use Rattle.hz_core.specs.Netlist.{Netlist, IsCircuit}
+use Rattle.hz_core.specs.Netlist.{Netlist, IsCircuit, IsWhole}
 use Rattle.hz_net.specs.Network.{Driver, network_of, driver_at}
 use Rattle.hz_net.specs.Reads.{Reads, readers_of, IsWired}
 use Rattle.hz_net.proofs.Readers.{AreReaders-readers_of}
 use Rattle.hz_net.proofs.Wired.{wired-network_of}
-use Rattle.hz_lists.specs.Listed.{is_listed}
+use Rattle.hz_net.proofs.Wires.{IsWireFrom-driver_at, IsWireFrom-node}
+use Rattle.hz_gmw.proofs.Counts.{nodes-among}
+use Rattle.hz_lists.specs.Listed.{is_listed, IsRepeatFree}
 use Rattle.hz_free.specs.Chains.{IsFeedbackFree}
 use Rattle.hz_core.proofs.ListLemmas.{get_or-default}
 use Rattle.hz_free.specs.Feedback.{IsCore}
 use Rattle.hz_free.specs.Order.{occurrences, IsOrdering}
 use Rattle.hz_free.specs.FreePart.{FreePart, IsFreePart, AreMarks, AreFeedback, HaveCores, IsCoreNumber, IsCycleNumber}
-use Rattle.hz_lists.proofs.ListedLemmas.{listed-cases, listed-one}
+use Rattle.hz_lists.proofs.ListedLemmas.{filtered-is, is-filtered, listed-cases, listed-filter, listed-left, listed-one}
 use Rattle.hz_free.proofs.Kahn.{occurrences-same, occurrences-other, unplaced-some}
 use Rattle.hz_free.proofs.Chains.{free-from_reads, reads-inside, not-free}
 use Rattle.std.proofs.Math.Seq.{take-suc, take-length}
@@ -39,6 +42,48 @@ occurrences-at (j ∷ list) (suc k) i few at =
     elim (cases_eq i j) [
       | inl e ↦ subst (λ (m : ℕ). 1 ≤ occurrences i (m ∷ list)) e (let same = occurrences-same i list in omega arith)
       | inr ne ↦ let other = occurrences-other i j list ne in omega arith
+    ]
+
+-- the place in a list of what stands at a place of its filtered list, and what stands before both
+filter-place : (test : ℕ → Bool) (list : List ℕ) (at : ℕ) → at < length (filter test list) → (k : ℕ) × (k < length list) × (get_or list k 0 ≡ get_or (filter test list) at 0) × (filter test (take k list) ≡ take at (filter test list))
+filter-place test [] at few = absurd (omega arith)
+filter-place test (x ∷ list) at few =
+    elim (cases_Bool (test x)) [
+      | inl passes ↦ passed at passes (subst (λ (rest : List ℕ). at < length rest) (kept passes) few) (λ at few. filter-place test list at few)
+      | inr fails ↦
+          let later = filter-place test list at (subst (λ (rest : List ℕ). at < length rest) (left fails) few) in (
+            suc later.0,
+            omega (arith, later.1),
+            later.2 ∙ ap (λ (rest : List ℕ). get_or rest at 0) (sym (left fails)),
+            rw fails (later.3),
+          )
+    ]
+  where
+    kept : test x ≡ true → filter test (x ∷ list) ≡ x ∷ filter test list
+    kept passes = rw passes refl
+
+    left : test x ≡ false → filter test (x ∷ list) ≡ filter test list
+    left fails = rw fails refl
+
+    passed : (at : ℕ) → test x ≡ true → at < length (x ∷ filter test list) → ((at : ℕ) → at < length (filter test list) → (k : ℕ) × (k < length list) × (get_or list k 0 ≡ get_or (filter test list) at 0) × (filter test (take k list) ≡ take at (filter test list))) → (k : ℕ) × (k < length (x ∷ list)) × (get_or (x ∷ list) k 0 ≡ get_or (filter test (x ∷ list)) at 0) × (filter test (take k (x ∷ list)) ≡ take at (filter test (x ∷ list)))
+    passed zero passes few' rest = (0, omega arith, rw passes refl, refl)
+    passed (suc at) passes few' rest =
+        let later = rest at (omega arith) in (
+          suc later.0,
+          omega (arith, later.1),
+          rw passes (later.2),
+          rw passes (ap (λ (rest : List ℕ). x ∷ rest) later.3),
+        )
+
+filter-once : (test : ℕ → Bool) (list : List ℕ) → IsRepeatFree list → IsRepeatFree (filter test list)
+filter-once test [] once = tt
+filter-once test (x ∷ list) once =
+    elim (cases_Bool (test x)) [
+      | inl passes ↦ rw passes (
+        false_from_ne_true (is_listed (filter test list) x) (λ there. both_ways (is_listed list x) once.0 (filtered-is test list x there).1),
+        filter-once test list once.1,
+      )
+      | inr fails ↦ rw fails (filter-once test list once.1)
     ]
 
 module _ (netlist : Netlist) (circuit : IsCircuit netlist) (unread order : List ℕ) (is : IsOrdering (readers_of netlist) (length (network_of netlist)) (length order) [] unread order) where
@@ -124,15 +169,48 @@ module _ (netlist : Netlist) (circuit : IsCircuit netlist) (unread order : List 
         exact = λ i few. (λ marked. order-free i (marks-listed free same i few ∙ marked), λ is_free. sym (marks-listed free same i few) ∙ free-order i few is_free);
       }
 
-  -- the part
-  pub free-IsFreePart : (free : List Bool) (cycles : List (List ℕ)) (cores : List (Option ℕ)) → free ≡ map (λ n. eqb n 0) unread → AreFeedback (network_of netlist) cycles cores → IsFreePart netlist (record { free = free; order = order; cycles = cycles; cores = cores })
-  free-IsFreePart free cycles cores same are =
+  -- what a variable in the order reads stands before it
+  reads-placed : (place i j : ℕ) → place ≤ length order → is_listed (take place order) i ≡ true → Reads (driver_at (network_of netlist) i) j → is_listed (take place order) j ≡ true
+  reads-placed zero i j within there reads = absurd (both_ways false refl there)
+  reads-placed (suc place) i j within there reads =
+      let few : place < length order = omega arith in
+      let split : take (suc place) order ≡ take place order ++ get_or order place 0 ∷ [] = take-suc order place 0 few in
+      subst (λ (list : List ℕ). is_listed list j ≡ true) (sym split)
+      (listed-left (take place order) (get_or order place 0 ∷ []) j
+      (elim (listed-cases (take place order) (get_or order place 0 ∷ []) i (subst (λ (list : List ℕ). is_listed list i ≡ true) split there)) [
+        | inl earlier ↦ reads-placed place i j (omega arith) earlier reads
+        | inr here ↦
+            after-reads place j few
+            (subst (λ (m : ℕ). Reads (driver_at (network_of netlist) m) j) (listed-one i (get_or order place 0) here) reads)
+      ]))
+
+  -- the part, whose order has the nodes alone
+  is_node : ℕ → Bool
+  is_node i = nat_lt i (length netlist.names)
+
+  nodes : List ℕ
+  nodes = filter is_node order
+
+  pub free-IsFreePart : (free : List Bool) (cycles : List (List ℕ)) (cores : List (Option ℕ)) → IsWhole netlist → free ≡ map (λ n. eqb n 0) unread → AreFeedback (network_of netlist) cycles cores → IsFreePart netlist (record { free = free; order = filter (λ i. nat_lt i (length netlist.names)) order; cycles = cycles; cores = cores })
+  unfolding is_node nodes
+  free-IsFreePart free cycles cores whole same are =
       record {
+        circuit = circuit;
+        whole = whole;
         marks = free-AreMarks free same;
-        listed = marks-listed free same;
-        once = is.once;
-        inside = is.inside;
-        after = after-reads;
+        listed = λ i few.
+            listed-filter is_node order i
+            ∙ (ap (λ (test : Bool). test && is_listed order i) (lt-ltb i (length netlist.names) few)
+            ∙ marks-listed free same i (omega (arith, few, nodes-among netlist circuit)));
+        once = filter-once is_node order is.once;
+        inside = λ i there. ltb-true i (length netlist.names) (filtered-is is_node order i there).0;
+        after = λ at wire source few reads driven.
+            let place = filter-place is_node order at few in
+            let before = after-reads place.0 wire place.1 (subst (λ (m : ℕ). Reads (driver_at (network_of netlist) m) wire) (sym place.2) reads) in
+            let earlier = reads-placed place.0 wire source (omega (arith, place.1)) before (subst (λ (driver : Driver). Reads driver source) (sym driven) refl) in
+            let below = IsWireFrom-node netlist wire source circuit (IsWireFrom-driver_at netlist wire source circuit driven) in
+            subst (λ (list : List ℕ). is_listed list source ≡ true) place.3
+            (is-filtered is_node (take place.0 order) source earlier (lt-ltb source (length netlist.names) below));
         feedback = are;
       }
 
@@ -145,6 +223,18 @@ held-cores net free cycles cores marks are i few out =
     number-of : (core : Option ℕ) → IsCoreNumber net cycles i core → IsCycleNumber cycles core
     number-of None is = is
     number-of (Some number) is = is.0
+
+-- without a cycle no variable can have a core, so each has its mark
+pub all-marked : (free : List Bool) (cycles : List (List ℕ)) (cores : List (Option ℕ)) → HaveCores free cycles cores → length cycles ≡ 0 → (i : ℕ) → i < length free → get_or free i false ≡ true
+all-marked free cycles cores have none i few =
+    elim (cases_Bool (get_or free i false)) [
+      | inl marked ↦ marked
+      | inr out ↦ absurd (no-number (get_or cores i None) (have i few out))
+    ]
+  where
+    no-number : (core : Option ℕ) → IsCycleNumber cycles core → ⊥
+    no-number None is = is
+    no-number (Some number) is = omega (arith, is, none)
 
 -- the cycle with the number of a variable's core
 pub core-numbered : (netlist : Netlist) (part : FreePart) (i number : ℕ) → IsFreePart netlist part → i < length part.free → get_or part.free i false ≡ false → get_or part.cores i None ≡ Some number → IsCore (network_of netlist) i (get_or part.cycles number [])

@@ -22,7 +22,6 @@ use Rattle.hz_word.specs.Capped.{capped_word}
 use Rattle.hz_word.proofs.Folds.{IsFold-kind_word}
 use Rattle.hz_free.specs.FreePart.{FreePart, MarksExist}
 use Rattle.hz_free.specs.Order.{unplaced_count, IsOrdering, AreReads, AreFirst}
-use Rattle.hz_free.specs.CappedWords.{AreWordsSoFar}
 use Rattle.hz_free.specs.VariableWords.{IsDrivenWord, input_word, AreCappedWords, WordsExist}
 use Rattle.hz_lists.proofs.ListedLemmas.{is_repeat_free-bound, listed-at}
 use Rattle.hz_free.proofs.Kahn.{begin-telling, unread-reader, told-waits, told-placed}
@@ -30,7 +29,7 @@ use Rattle.hz_free.proofs.Counting.{first-more, first-same, first-ordering}
 use Rattle.hz_free.proofs.Chains.{reads-inside}
 use Rattle.hz_free.proofs.Parts.{free-AreMarks, marks-listed, after-reads}
 use Rattle.hz_free.proofs.NextWord.{AreWords-each, input_word-IsWord}
-use Rattle.hz_free.proofs.AllWords.{IsOrdered, none-told, one-more, all-words}
+use Rattle.hz_free.proofs.AllWords.{AreWordsSoFar, IsOrdered, none-told, one-more, all-words}
 
 -- an order that is finished
 record Ordered (readers : ℕ → List ℕ) (variables : ℕ) : Type 0 where

@@ -1,19 +1,22 @@
--- The words in the making: which variables have one so far, and how a variable is driven by what it is.
-use Rattle.std.specs.Prelude.{◌≡◌, ℕ, ◌+◌, ◌<◌, ◌≤◌, Bool, false, Option, Some, None, List, [], ◌∷◌, length, map, IsTrue, slice_index_or, if◌then◌else◌}
+-- The words in the making: what a variable reads has one already, and how a variable is driven by what it is.
+use Rattle.std.specs.Prelude.{◌≡◌, ℕ, ◌+◌, ◌<◌, ◌≤◌, Bool, Option, Some, None, List, [], ◌∷◌, length, map, IsTrue, slice_index_or, if◌then◌else◌}
 use Rattle.hz_core.specs.declared.kind.Kind.{Kind}
+use Rattle.hz_core.specs.declared.tri.Tri.{Tri}
 use Rattle.hz_core.specs.Gate.{takes}
-use Rattle.hz_core.specs.Netlist.{Netlist, IsGateNumber, gate_at}
-use Rattle.hz_net.specs.Network.{Driver, External, Function, Source, network_of, driver_at, IsVariable, bit_at}
+use Rattle.hz_core.specs.Netlist.{Netlist, IsCircuit, IsWhole, IsGateNumber, gate_at}
+use Rattle.hz_net.specs.Network.{Driver, External, Function, Source, network_of, driver_at, IsVariable, IsInput, bit_at}
+use Rattle.hz_net.specs.Starts.{IsStableStart}
+use Rattle.hz_net.specs.Passes.{algorithm_a, IsResult}
 use Rattle.hz_net.specs.Reads.{Reads}
 use Rattle.hz_net.specs.Variables.{first_wire}
 use Rattle.hz_net.specs.declared.variable.VarKind.{VarKind}
 use Rattle.hz_net.specs.declared.variable.VarKind.TheVariants.{Input, Gate as GateVariable, Wire as WireVariable}
-use Rattle.hz_lists.specs.Listed.{is_listed}
 use Rattle.hz_word.specs.declared.word.Word.{Word}
 use Rattle.hz_word.specs.Word.{IsWord, AreWords}
 use Rattle.hz_word.specs.Walk.{IsWordOf}
-use Rattle.hz_word.specs.Capped.{capped_word, IsWithinCap}
+use Rattle.hz_word.specs.Capped.{capped_word, greatest_cap, IsWithinCap}
 use Rattle.hz_free.specs.VariableWords.{IsDrivenWord}
+use Rattle.hz_free.specs.declared.free.Folding.{Folding}
 
 -- how a variable is driven, by what it is
 abbrev pub IsDrivenAs : Netlist → ℕ → VarKind → Type 0
@@ -38,38 +41,37 @@ AreConstant free start told =
     (i : ℕ) → i < length told →
     slice_index_or told i None ≡ constant_if (bit_at free i) (bit_at start i)
 
--- Each placed variable has a word, made of those that it reads, and its capped form is told; the others are told what they were
--- told at first.
-pub record AreWordsSoFar (net : List Driver) (input start : List Bool) (cap : ℕ)
-    (first : List (Option Word)) (placed : List ℕ) (told : List (Option Word))
-    (words : List (List Bool)) : Type 0 where
+-- what a variable reads has words, whose capped forms are told
+pub record IsReady (net : List Driver) (cap : ℕ) (told : List (Option Word)) (var : ℕ) : Type 0 where
+  pub words : List (List Bool)
   pub long : length words ≡ length net
   pub told_long : length told ≡ length net
-  pub is_word : (i : ℕ) → IsTrue (is_listed placed i) → IsWord (slice_index_or words i [])
-  pub driven : (i : ℕ) → IsTrue (is_listed placed i) →
-      IsDrivenWord input start words i (driver_at net i) (slice_index_or words i [])
-  pub tells : (i : ℕ) → IsTrue (is_listed placed i) →
-      slice_index_or told i None ≡ Some (capped_word cap (slice_index_or words i []))
-  pub others : (i : ℕ) → is_listed placed i ≡ false →
-      slice_index_or told i None ≡ slice_index_or first i None
+  pub is_word : (j : ℕ) → Reads (driver_at net var) j → IsWord (slice_index_or words j [])
+  pub tells : (j : ℕ) → Reads (driver_at net var) j →
+      slice_index_or told j None ≡ Some (capped_word cap (slice_index_or words j []))
 
--- all variables that a variable reads are placed, and the placed variables have their words
-pub record IsReady (net : List Driver) (input start : List Bool) (cap : ℕ)
-    (told : List (Option Word)) (var : ℕ) : Type 0 where
-  pub first : List (Option Word)
-  pub placed : List ℕ
-  pub words : List (List Bool)
-  pub are_told : AreWordsSoFar net input start cap first placed told words
-  pub reads : (j : ℕ) → Reads (driver_at net var) j → IsTrue (is_listed placed j)
-
--- for all words that the placed variables have, among which are those that a variable reads, it has this word
+-- for all words that what a variable reads has, it has this word
 abbrev pub IsNextWord : List Driver → List Bool → List Bool → ℕ → List (Option Word) → ℕ → Word →
     Type 0
 IsNextWord net input start cap told var outcome =
-    (ready : IsReady net input start cap told var) →
+    (ready : IsReady net cap told var) →
     (word : List Bool) × IsWord word
     × IsDrivenWord input start ready.words var (driver_at net var) word
     × (capped_word cap word ≡ outcome)
+
+-- words can be folded from a start of a network under an input, up to a cap
+pub record CanBeFolded (folding : Folding) : Type 0 where
+  pub circuit : IsCircuit folding.net.now
+  pub whole : IsWhole folding.net.now
+  pub start : IsStableStart folding.net.now folding.start.now
+  pub input : IsInput folding.net.now folding.input.now
+  pub cap_low : 1 ≤ folding.cap
+  pub cap_high : folding.cap ≤ greatest_cap
+
+-- a list has the values of the result of Algorithm A
+abbrev pub IsResultOfA : Folding → List Tri → Type 0
+IsResultOfA folding values =
+    IsResult (algorithm_a (network_of folding.net.now) folding.input.now folding.start.now) values
 
 -- a wire has a word, and its number is counted
 abbrev pub HasCountedWord : ℕ → Option Word → Type 0

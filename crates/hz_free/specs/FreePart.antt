@@ -1,13 +1,13 @@
 -- The feedback-free part of a network: which variables are feedback-free, an order of them, and the feedback cycles of the others.
 use Rattle.std.specs.Prelude.{◌≡◌, ◌↔◌, ℕ, ◌<◌, Bool, false, Option, Some, None, List, [], length, take, slice_index, slice_index_or, IsTrue}
-use Rattle.hz_core.specs.Netlist.{Netlist, IsCircuit}
-use Rattle.hz_net.specs.Network.{Driver, network_of, driver_at, bit_at, IsVariable}
+use Rattle.hz_core.specs.Netlist.{Netlist, IsCircuit, IsWhole}
+use Rattle.hz_net.specs.Network.{Driver, Source, network_of, driver_at, bit_at}
 use Rattle.hz_net.specs.Reads.{Reads}
 use Rattle.hz_lists.specs.Listed.{is_listed, IsRepeatFree}
 use Rattle.hz_free.specs.Chains.{IsFeedbackFree}
 use Rattle.hz_free.specs.Feedback.{AreFeedbackCycles, IsCore}
 
--- for each variable whether it is feedback-free; the feedback-free variables one after the other; the feedback cycles; and for
+-- for each variable whether it is feedback-free; the feedback-free nodes one after the other; the feedback cycles; and for
 -- each other variable the number of its core among them
 pub record FreePart : Type 0 where
   pub free : List Bool
@@ -44,16 +44,19 @@ HaveCores free cycles cores =
     (i : ℕ) → i < length free → bit_at free i ≡ false →
     IsCycleNumber cycles (slice_index_or cores i None)
 
--- It is that of a network: the marks are exact, and the order has the variables that are marked, each behind the variables
--- that it reads; the cycles and the cores are those of the network.
+-- It is that of a network: the marks are exact, and the order has the nodes that are marked, each behind the nodes from which its
+-- wires come; the cycles and the cores are those of the network.
 pub record IsFreePart (netlist : Netlist) (part : FreePart) : Type 0 where
+  pub circuit : IsCircuit netlist
+  pub whole : IsWhole netlist
   pub marks : AreMarks (network_of netlist) part.free
-  pub listed : (i : ℕ) → IsVariable netlist i → is_listed part.order i ≡ bit_at part.free i
+  pub listed : (i : ℕ) → i < length netlist.names → is_listed part.order i ≡ bit_at part.free i
   pub once : IsRepeatFree part.order
-  pub inside : (i : ℕ) → IsTrue (is_listed part.order i) → IsVariable netlist i
-  pub after : (at j : ℕ) → at < length part.order →
-      Reads (driver_at (network_of netlist) (slice_index part.order at)) j →
-      IsTrue (is_listed (take at part.order) j)
+  pub inside : (i : ℕ) → IsTrue (is_listed part.order i) → i < length netlist.names
+  pub after : (at wire source : ℕ) → at < length part.order →
+      Reads (driver_at (network_of netlist) (slice_index part.order at)) wire →
+      driver_at (network_of netlist) wire ≡ Source source →
+      IsTrue (is_listed (take at part.order) source)
   pub feedback : AreFeedback (network_of netlist) part.cycles part.cores
 
 -- every circuit's network has such marks: it is decided which variables are feedback-free

@@ -99,8 +99,8 @@ pub record IsFeeding (free : List Bool) (first end var : ℕ) : Type 0 where
   pub least : (i : ℕ) → first ≤ i → i < var → bit_at free i ≡ true
 
 -- some variables have a value in a list now, and the others have what they had
-pub record HaveValue (variables : List ℕ) (value : Option ℕ)
-    (list list' : List (Option ℕ)) : Type 0 where
+pub record HaveValue {T : Type 0} (variables : List ℕ) (value : Option T)
+    (list list' : List (Option T)) : Type 0 where
   pub listed : (i : ℕ) → IsTrue (is_listed variables i) → slice_index_or list' i None ≡ value
   pub others : (i : ℕ) → is_listed variables i ≡ false →
       slice_index_or list' i None ≡ slice_index_or list i None

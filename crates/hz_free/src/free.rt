@@ -1,17 +1,22 @@
-ghost use Rattle.std.specs.Prelude.{◌≡◌, ◌==◌, ◌<◌, ◌≤◌, ◌↔◌, ℕ, Bool, true, false, Option, List, [], length, map, Contains, IfOk, IfSome, IsTrue, MatchOption, Some, None, slice_index_or, slice_set};
-ghost use Rattle.hz_core.specs.Netlist.{Netlist};
+ghost use Rattle.std.specs.Prelude.{nat_lt, ◌≡◌, ◌==◌, ◌<◌, ◌≤◌, ◌↔◌, ℕ, Bool, true, false, Option, List, [], length, map, Contains, IfOk, IfSome, IsTrue, MatchOption, Some, None, slice_index_or, slice_set, ◌∷◌};
+ghost use Rattle.std.specs.List.{filter};
+ghost use Rattle.hz_core.specs.Netlist.{Netlist, IsCircuit, IsWhole};
 ghost use Rattle.hz_core.specs.Ternary.{is_unknown};
 ghost use Rattle.hz_net.specs.Network.{network_of, bit_at, value_at, IsState, AreByVariable, IsInput, IsVariable};
 ghost use Rattle.hz_net.specs.Passes.{algorithm_a, IsResult};
 ghost use Rattle.hz_net.specs.Starts.{IsStableStart};
 ghost use Rattle.hz_net.specs.Reads.{readers_of};
+ghost use Rattle.hz_net.specs.Variables.{fan_out_of};
+ghost use Rattle.hz_lists.specs.Listed.{is_listed};
 ghost use Rattle.hz_free.specs.Chains.{IsFeedbackFree};
 ghost use Rattle.hz_free.specs.Feedback.{IsFeedbackCycle, IsCore};
 ghost use Rattle.hz_free.specs.Order.{AreReads};
 ghost use Rattle.hz_free.specs.FreePart.{IsFreePart};
-ghost use Rattle.hz_free.specs.CappedWords.{AreConstant, constant_if, IsReady, IsNextWord};
+ghost use Rattle.hz_free.specs.CappedWords.{AreConstant, CanBeFolded, IsResultOfA, constant_if, IsReady, IsNextWord};
+ghost use Rattle.hz_free.specs.Paths.{HaveValue};
 ghost use Rattle.hz_free.specs.VariableWords.{AreCappedWords};
 ghost use Rattle.hz_word.specs.Capped.{greatest_cap, IsWithinCap};
+ghost use Rattle.hz_word.specs.declared.word.Word.{Word};
 
 use crate::feedback::{Feedback, find_feedback};
 use crate::order::{count_reads, place_all};
@@ -52,6 +57,15 @@ impl Model for Free {
         fields.feedback.cores.items };
 }
 
+// What words are folded from: a start of a network, a new input, and a cap.
+#[derive(Clone, Copy)]
+struct Folding<'a> {
+    net: &'a Net,
+    start: &'a [bool],
+    input: &'a [bool],
+    cap: u64,
+}
+
 impl Free {
     /// The feedback-free part of a network, in time linear in its variables.
     pub fn build(alloc: Global, net: &Net) -> Result<Free, Memory>
@@ -67,9 +81,9 @@ impl Free {
             (length (network_of net.now)) [] unread.old }
         ensures { IfOk result (λ free. IsFreePart net.now free) }
     {
-        let _variables = net.len();
-        let order = place_all(alloc, net, unread)?;
+        let mut order = place_all(alloc, net, unread)?;
         let free = marks(alloc, unread)?;
+        keep_nodes(net, &mut order);
         let feedback = find_feedback(alloc, net, free.as_slice())?;
         Ok(Free {
             free,
@@ -136,8 +150,14 @@ impl Free {
         requires out { AreByVariable net.now out.old }
         ensures { AreCappedWords (network_of net.now) input.now start.now cap out.new }
     {
-        fill(self.free.as_slice(), start, out);
-        write_words(net, self.order.as_slice(), start, input, cap, None, out);
+        self.fill(start, out);
+        let folding = Folding {
+            net,
+            start,
+            input,
+            cap,
+        };
+        write_words(&folding, self.order.as_slice(), None, out);
     }
 
     /// Writes the same words as [`words`](Free::words), given the result of Algorithm A: it folds only those of the variables that
@@ -160,53 +180,102 @@ impl Free {
         requires out { AreByVariable net.now out.old }
         ensures { AreCappedWords (network_of net.now) input.now start.now cap out.new }
     {
-        fill(self.free.as_slice(), start, out);
-        write_words(net, self.order.as_slice(), start, input, cap, Some(a), out);
+        self.fill(start, out);
+        let folding = Folding {
+            net,
+            start,
+            input,
+            cap,
+        };
+        write_words(&folding, self.order.as_slice(), Some(a), out);
     }
-}
 
-// Folds the words of the variables of an order, one after the other. At first each has the word of a variable that does not change. If
-// the result of Algorithm A is given, a variable that is 0 or 1 there is known not to change.
-fn write_words<S: StoredWord>(
-    net: &Net,
-    order: &[u32],
-    start: &[bool],
-    input: &[bool],
-    cap: u64,
-    a: Option<&[Tri]>,
-    out: &mut [S],
-)
-    requires part { (free : List Bool) × (cycles : List (List ℕ)) × (cores : List (Option ℕ))
-        × IsFreePart net.now
-        (record { free = free; order = order.now; cycles = cycles; cores = cores })
-        × AreConstant free start.now (map S.word_in out.old) }
-    requires start { IsStableStart net.now start.now }
-    requires input { IsInput net.now input.now }
-    requires cap_low { 1 ≤ cap }
-    requires cap_high { cap ≤ greatest_cap }
-    requires a { IfSome a
-        (λ a. IsResult (algorithm_a (network_of net.now) input.now start.now) a.now) }
-    requires out { AreByVariable net.now out.old }
-    ensures { AreCappedWords (network_of net.now) input.now start.now cap (map S.word_in out.new) }
-{
-    // A getter of the network says that its circuit is one.
-    let _variables = net.len();
-    let mut pins = [NO_WORD; FEW_PINS];
-    for var in order {
-        if may_change(a, *var) {
-            let word = word_of(net, start, input, cap, out, &mut pins, *var);
-            keep(out, *var, word);
+    // Gives each feedback-free variable the word of one that does not change, and no word to the others. Without a feedback cycle each
+    // variable is feedback-free, so none is asked.
+    fn fill<S: StoredWord>(&self, start: &[bool], out: &mut [S])
+        requires free { length self.now.free ≡ length out.old }
+        requires start { length start.now ≡ length out.old }
+        ensures { AreConstant self.now.free start.now (map S.word_in out.new) }
+    {
+        if self.feedback.cycles.len() == 0 {
+            fill_all(start, out);
+        } else {
+            fill_free(self.free.as_slice(), start, out);
         }
     }
 }
 
-// Keeps the word of a variable.
-fn keep<S: StoredWord>(out: &mut [S], var: u32, word: Word)
-    requires var { var < length out.old }
-    requires counted { IsWithinCap greatest_cap word.changes }
-    ensures { map S.word_in out.new ≡ slice_set (map S.word_in out.old) var (Some word) }
+// Folds the words of the nodes of an order, one after the other, and gives the wires from a node its word. At first each variable has the
+// word of one that does not change. If the result of Algorithm A is given, a node that is 0 or 1 there is known not to change, and neither
+// do the wires from it.
+fn write_words<S: StoredWord>(folding: &Folding, order: &[u32], a: Option<&[Tri]>, out: &mut [S])
+    requires folding { CanBeFolded folding.now }
+    requires part { (free : List Bool) × (cycles : List (List ℕ)) × (cores : List (Option ℕ))
+        × IsFreePart folding.now.net.now
+        (record { free = free; order = order.now; cycles = cycles; cores = cores })
+        × AreConstant free folding.now.start.now (map S.word_in out.old) }
+    requires a { IfSome a (λ a. IsResultOfA folding.now a.now) }
+    requires out { AreByVariable folding.now.net.now out.old }
+    ensures { AreCappedWords (network_of folding.now.net.now) folding.now.input.now
+        folding.now.start.now folding.now.cap (map S.word_in out.new) }
 {
-    out[var as usize] = S::of(word);
+    let mut pins = [NO_WORD; FEW_PINS];
+    for node in order {
+        if may_change(a, *node) {
+            write_word(folding, *node, &mut pins, out);
+        }
+    }
+}
+
+// Folds the word of a node, and gives it to the node and the wires from it. It is not a part of the loop, which mostly finds that a node
+// does not change.
+#[inline(never)]
+fn write_word<S: StoredWord>(folding: &Folding, node: u32, pins: &mut [Word], out: &mut [S])
+    requires folding { CanBeFolded folding.now }
+    requires node { node < length folding.now.net.now.names }
+    requires ready { IsReady (network_of folding.now.net.now) folding.now.cap
+        (map S.word_in out.old) node }
+    ensures { (word : Word)
+        × IsNextWord (network_of folding.now.net.now) folding.now.input.now
+        folding.now.start.now folding.now.cap (map S.word_in out.old) node word
+        × HaveValue (node ∷ fan_out_of folding.now.net.now node) (Some word)
+        (map S.word_in out.old) (map S.word_in out.new) }
+{
+    let word = word_of(folding, out, pins, node);
+    give(folding.net, node, word, out);
+}
+
+// Gives a node and the wires from it a word.
+fn give<S: StoredWord>(net: &Net, node: u32, word: Word, out: &mut [S])
+    requires circuit { IsCircuit net.now }
+    requires node { node < length net.now.names }
+    requires counted { IsWithinCap greatest_cap word.changes }
+    requires out { AreByVariable net.now out.old }
+    ensures { HaveValue (node ∷ fan_out_of net.now node) (Some word) (map S.word_in out.old)
+        (map S.word_in out.new) }
+{
+    let word = S::of(word);
+    keep(out, node, word);
+    give_all(net.fan_out(node), word, out);
+}
+
+// Gives some variables a word.
+fn give_all<S: StoredWord>(variables: &[u32], word: S, out: &mut [S])
+    requires { (i : ℕ) → IsTrue (is_listed variables.now i) → i < length out.old }
+    ensures { HaveValue variables.now (S.word_in word) (map S.word_in out.old)
+        (map S.word_in out.new) }
+{
+    for var in variables {
+        keep(out, *var, word);
+    }
+}
+
+// Keeps the word of a variable.
+fn keep<S: StoredWord>(out: &mut [S], var: u32, word: S)
+    requires { var < length out.old }
+    ensures { map S.word_in out.new ≡ slice_set (map S.word_in out.old) var (S.word_in word) }
+{
+    out[var as usize] = word;
 }
 
 // Whether a variable may change: if the result of Algorithm A is given, where it is X.
@@ -223,8 +292,19 @@ fn may_change(a: Option<&[Tri]>, var: u32) -> bool
 // Few gates have more pins.
 const FEW_PINS: usize = 16;
 
-// Gives each feedback-free variable the word of one that does not change, and no word to the others.
-fn fill<S: StoredWord>(free: &[bool], start: &[bool], out: &mut [S])
+// Gives each variable the word of one that does not change.
+fn fill_all<S: StoredWord>(start: &[bool], out: &mut [S])
+    requires { length start.now ≡ length out.old }
+    ensures { (i : ℕ) → i < length out.old →
+        slice_index_or (map S.word_in out.new) i None ≡ constant_if true (bit_at start.now i) }
+{
+    for var in 0..out.len() {
+        out[var] = constant_if(true, start[var]);
+    }
+}
+
+// Gives each feedback-free variable such a word, and no word to the others.
+fn fill_free<S: StoredWord>(free: &[bool], start: &[bool], out: &mut [S])
     requires free { length free.now ≡ length out.old }
     requires start { length start.now ≡ length out.old }
     ensures { AreConstant free.now start.now (map S.word_in out.new) }
@@ -243,39 +323,30 @@ fn constant_if<S: StoredWord>(free: bool, value: bool) -> S
     if free { constant } else { S::none() }
 }
 
-// The word of a variable, once all that it reads have one.
-fn word_of<S: StoredWord>(
-    net: &Net,
-    start: &[bool],
-    input: &[bool],
-    cap: u64,
-    out: &[S],
-    pins: &mut [Word],
-    var: u32,
-) -> Word
-    requires var { IsVariable net.now var }
-    requires start { IsState net.now start.now }
-    requires input { IsInput net.now input.now }
-    requires cap_low { 1 ≤ cap }
-    requires cap_high { cap ≤ greatest_cap }
-    requires ready { IsReady (network_of net.now) input.now start.now cap (map S.word_in out.now)
-        var }
-    ensures { IsNextWord (network_of net.now) input.now start.now cap (map S.word_in out.now) var
-        result }
+// The word of a node, once all that it reads have one.
+fn word_of<S: StoredWord>(folding: &Folding, out: &[S], pins: &mut [Word], node: u32) -> Word
+    requires folding { CanBeFolded folding.now }
+    requires node { node < length folding.now.net.now.names }
+    requires ready { IsReady (network_of folding.now.net.now) folding.now.cap
+        (map S.word_in out.now) node }
+    ensures { IsNextWord (network_of folding.now.net.now) folding.now.input.now
+        folding.now.start.now folding.now.cap (map S.word_in out.now) node result }
 {
-    let _variables = net.len();
-    match net.kind_of(var) {
-        VarKind::Input { number } => input_word(start[var as usize], input[number as usize]),
+    match folding.net.kind_of(node) {
+        VarKind::Input { number } => input_word(
+            folding.start[node as usize],
+            folding.input[number as usize],
+        ),
         VarKind::Gate { kind } => {
-            let (first, count) = net.wires_in(var);
+            let (first, count) = folding.net.wires_in(node);
             gate_word(
                 kind,
                 &out[first as usize..(first + count) as usize],
-                cap,
+                folding.cap,
                 pins,
             )
         }
-        VarKind::Wire { source, .. } => out[source as usize].get().unwrap(),
+        VarKind::Wire { .. } => unreachable!(),
     }
 }
 
@@ -287,4 +358,21 @@ fn marks(alloc: Global, unread: &[u32]) -> Result<Vec<bool>, Memory>
         Ok(free) => Ok(free),
         Err(_) => Err(Memory),
     }
+}
+
+// Keeps the nodes of an order.
+fn keep_nodes(net: &Net, order: &mut Vec<u32>)
+    ensures nodes { order.new.items
+        ≡ filter (λ var. nat_lt var (length net.now.names)) order.old.items }
+    ensures circuit { IsCircuit net.now }
+    ensures whole { IsWhole net.now }
+{
+    keep_below(order, net.circuit().nodes());
+}
+
+// Keeps the variables below a number.
+fn keep_below(order: &mut Vec<u32>, end: u32)
+    ensures { order.new.items ≡ filter (λ var. nat_lt var end) order.old.items }
+{
+    order.retain(|var| *var < end);
 }

@@ -4,7 +4,7 @@ use Rattle.std.proofs.lemmas.List.{length-map}
 use Rattle.hz_net.specs.Network.{bit_at}
 use Rattle.hz_free.specs.CappedWords.{constant_if}
 use Rattle.hz_free.proofs.KeptWords.{told-set}
-use Rattle.hz_free.proofs.free.fill.Goals as goal
+use Rattle.hz_free.proofs.free.fill_free.Goals as goal
 
 pub loop-var-preserved : goal.loop-var-preserved
 loop-var-preserved g c =
