@@ -10,7 +10,7 @@
 //!
 //! What breaks if you add a change: a wire before its source, or a gate before its wires, is stable then, and the step is
 //! none. A second change of a variable falsifies `IsSpreadRun`, and the room. A new kind of gate needs its canonical pattern.
-ghost use Rattle.std.specs.Prelude.{◌≡◌, ℕ, ◌+◌, ◌-◌, ◌<◌, ◌≤◌, ◌^◌, Bool, true, false, not, ◌&&◌, List, [], ◌++◌, length, IsTrue, MatchBool};
+ghost use Rattle.std.specs.Prelude.{◌≡◌, ℕ, ◌+◌, ◌-◌, ◌<◌, ◌≤◌, ◌^◌, Bool, true, false, not, ◌&&◌, List, [], ◌∷◌, ◌++◌, length, IsTrue, MatchBool, if◌then◌else◌};
 ghost use Rattle.hz_core.specs.Ternary.{is_unknown};
 ghost use Rattle.hz_core.specs.Netlist.{IsCircuit, IsGateNumber, gate_at};
 ghost use Rattle.hz_core.specs.Pattern.{differs};
@@ -255,13 +255,19 @@ fn mark_unchanged(net: &Net, start: &[bool], a: &[Tri], scratch: &mut Scratch)
     let nodes = net.circuit().nodes();
     let blocks = (net.len() - nodes) / 16;
     for block in 0..blocks {
-        mark_sixteen(start, a, nodes + block * 16, scratch);
+        mark_sixteen(start, a, (nodes + block * 16) as usize, scratch);
     }
-    mark_range(start, a, nodes + blocks * 16, net.len(), scratch);
+    mark_range(
+        start,
+        a,
+        (nodes + blocks * 16) as usize,
+        net.len() as usize,
+        scratch,
+    );
 }
 
 // Marks those of sixteen variables that are X in the result of Algorithm A and have not changed. Most are not X.
-fn mark_sixteen(start: &[bool], a: &[Tri], first: u32, scratch: &mut Scratch)
+fn mark_sixteen(start: &[bool], a: &[Tri], first: usize, scratch: &mut Scratch)
     requires few { first + 16 < 2 ^ 32 }
     requires inside { first + 16 ≤ length scratch.old.state }
     requires start { length start.now ≡ length scratch.old.state }
@@ -273,10 +279,12 @@ fn mark_sixteen(start: &[bool], a: &[Tri], first: u32, scratch: &mut Scratch)
     ensures sorted { scratch.new.sorted ≡ scratch.old.sorted }
     ensures by_round { scratch.new.by_round ≡ scratch.old.by_round }
 {
-    if are_known(a, first as usize) {
+    if are_known(a, first) {
         return;
     }
-    mark_range(start, a, first, first + 16, scratch);
+    for place in 0..16 {
+        mark_one(start, a, first + place, scratch);
+    }
 }
 
 // Whether sixteen values are 0 or 1. It has no branch between two of them.
@@ -293,7 +301,8 @@ fn are_known(values: &[Tri], first: usize) -> bool
 }
 
 // Marks those of the variables from one number on and below another that are X in the result of Algorithm A and have not changed.
-fn mark_range(start: &[bool], a: &[Tri], from: u32, below: u32, scratch: &mut Scratch)
+fn mark_range(start: &[bool], a: &[Tri], from: usize, below: usize, scratch: &mut Scratch)
+    requires few { below < 2 ^ 32 }
     requires ordered { from ≤ below }
     requires inside { below ≤ length scratch.old.state }
     requires start { length start.now ≡ length scratch.old.state }
@@ -306,10 +315,26 @@ fn mark_range(start: &[bool], a: &[Tri], from: u32, below: u32, scratch: &mut Sc
     ensures by_round { scratch.new.by_round ≡ scratch.old.by_round }
 {
     for var in from..below {
-        let place = var as usize;
-        let now = scratch.state()[place];
-        scratch.mark_if(has_yet_to_change(a[place], start[place], now), var);
+        mark_one(start, a, var, scratch);
     }
+}
+
+// Marks a variable if it is X in the result of Algorithm A and has not changed.
+fn mark_one(start: &[bool], a: &[Tri], var: usize, scratch: &mut Scratch)
+    requires few { var < 2 ^ 32 }
+    requires inside { var < length scratch.old.state }
+    requires start { length start.now ≡ length scratch.old.state }
+    requires a { length a.now ≡ length scratch.old.state }
+    requires ascending { (i : ℕ) → IsTrue (is_listed scratch.old.marked i) → i < var }
+    ensures marked { scratch.new.marked ≡ scratch.old.marked
+        ++ (if is_unchanged a.now start.now scratch.old.state var then var ∷ [] else []) }
+    ensures state { scratch.new.state ≡ scratch.old.state }
+    ensures sorted { scratch.new.sorted ≡ scratch.old.sorted }
+    ensures by_round { scratch.new.by_round ≡ scratch.old.by_round }
+{
+    let now = scratch.state()[var];
+    let changes = has_yet_to_change(a[var], start[var], now);
+    scratch.mark_if(changes, var as u32);
 }
 
 // A variable is X in the result of Algorithm A and has not changed.

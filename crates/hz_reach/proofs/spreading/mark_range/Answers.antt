@@ -5,8 +5,8 @@ use Rattle.hz_reach.specs.Turn.{is_unchanged}
 use Rattle.hz_reach.proofs.FilteredRangeLemmas.{filtered_range-below, filtered_range-next}
 use Rattle.hz_reach.proofs.spreading.mark_range.Goals as goal
 
-pub mark_if-requires-clause-ascending : goal.mark_if-requires-clause-ascending
-mark_if-requires-clause-ascending c =
+pub mark_one-requires-clause-ascending : goal.mark_one-requires-clause-ascending
+mark_one-requires-clause-ascending c =
     let test = is_unchanged c.args.a.now c.args.start.now c.args.scratch.now.state in
     let from = c.args.from in
     let var = c.loop-var.var in
@@ -25,13 +25,12 @@ loop-var-preserved c =
     let picked = filtered_range test from (var - from) in
     let next : var ≡ from + (var - from) = omega (arith, c.loop-var.auto.var) in
     let count : var - from + 1 ≡ var + 1 - from = omega (arith, c.loop-var.auto.var) in
-    let is : c.has_yet_to_change.result ≡ test var =
-    c.has_yet_to_change.ensures
-    ∙ ap (λ (s : List Bool). is_unchanged c.args.a.now c.args.start.now s var) (c.state.ensures ∙ c.loop-var.invariant.1) in (
-      rw (c.mark_if.ensures.marked, c.loop-var.invariant.0, is)
+    let is : is_unchanged c.args.a.now c.args.start.now c.loop-var.scratch.state var ≡ test var =
+    ap (λ (s : List Bool). is_unchanged c.args.a.now c.args.start.now s var) c.loop-var.invariant.1 in (
+      rw (c.mark_one.ensures.marked, c.loop-var.invariant.0, is)
           (append_assoc marked picked (cond (test var) (var ∷ []) [])
           ∙ ap (λ (list : List ℕ). marked ++ list) (filtered_range-next test from (var - from) var next ∙ ap (filtered_range test from) count)),
-      c.mark_if.ensures.state ∙ c.loop-var.invariant.1,
-      c.mark_if.ensures.sorted ∙ c.loop-var.invariant.2,
-      c.mark_if.ensures.by_round ∙ c.loop-var.invariant.3,
+      c.mark_one.ensures.state ∙ c.loop-var.invariant.1,
+      c.mark_one.ensures.sorted ∙ c.loop-var.invariant.2,
+      c.mark_one.ensures.by_round ∙ c.loop-var.invariant.3,
     )
