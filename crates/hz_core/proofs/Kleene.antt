@@ -1,11 +1,11 @@
 -- Kleene's connectives, folded over the pins, give the ternary extension.
 use Rattle.std.proofs.Common.{◌≡◌, ℕ, ◌+◌, ◌%◌, Bool, true, false, not, ◌==◌, cond, List, [], ◌∷◌, refl, sym, ap, ◌∙◌, arith, suc, zero}
 use Rattle.std.proofs.lemmas.List.Sums.{sum_by-cons}
-use Rattle.std.specs.List.{fold, count_by}
+use Rattle.std.specs.List.{fold, count_by, list_all, list_any}
 use Rattle.hz_core.specs.declared.kind.Kind.TheVariants.{And, Nand, Or, Nor, Xor, Xnor}
 use Rattle.hz_core.specs.declared.tri.Tri.{Tri}
 use Rattle.hz_core.specs.declared.tri.Tri.TheVariants.{Zero, One, Unknown}
-use Rattle.hz_core.specs.Ternary.{tri_of, join_of}
+use Rattle.hz_core.specs.Ternary.{tri_of, join_of, admits}
 use Rattle.hz_core.specs.Gate.{every_pin, some_pin, odd_pins}
 use Rattle.hz_core.specs.Kleene.{complement_of, and_of, or_of, xor_of}
 use Rattle.hz_core.specs.Extension.{join_over, extension}
@@ -153,6 +153,119 @@ xor_of-zero : (a : Tri) → a ≡ xor_of a Zero
 xor_of-zero Zero = refl
 xor_of-zero One = refl
 xor_of-zero Unknown = refl
+
+-- the conjunction, by whether all pins admit 1 and some admits 0
+abbrev conjunction_by : Bool → Bool → Tri
+conjunction_by false zeros = Zero
+conjunction_by true false = One
+conjunction_by true true = Unknown
+
+-- the disjunction, by whether all pins admit 0 and some admits 1
+abbrev disjunction_by : Bool → Bool → Tri
+disjunction_by false ones = One
+disjunction_by true false = Zero
+disjunction_by true true = Unknown
+
+and_of-unknown : (ones zeros : Bool) → and_of Unknown (conjunction_by ones zeros) ≡ conjunction_by ones true
+and_of-unknown false zeros = refl
+and_of-unknown true false = refl
+and_of-unknown true true = refl
+
+or_of-unknown : (zeros ones : Bool) → or_of Unknown (disjunction_by zeros ones) ≡ disjunction_by zeros true
+or_of-unknown false ones = refl
+or_of-unknown true false = refl
+or_of-unknown true true = refl
+
+abbrev all_admit : Bool → List Tri → Bool
+all_admit bit pins = list_all (λ (pin : Tri). admits pin bit) pins
+
+abbrev some_admits : Bool → List Tri → Bool
+some_admits bit pins = list_any (λ (pin : Tri). admits pin bit) pins
+
+and_of-admitted :
+    (pin : Tri) (pins : List Tri) →
+    and_of pin (conjunction_by (all_admit true pins) (some_admits false pins)) ≡ conjunction_by (all_admit true (pin ∷ pins)) (some_admits false (pin ∷ pins))
+and_of-admitted Zero pins = refl
+and_of-admitted One pins = refl
+and_of-admitted Unknown pins = and_of-unknown (all_admit true pins) (some_admits false pins)
+
+or_of-admitted :
+    (pin : Tri) (pins : List Tri) →
+    or_of pin (disjunction_by (all_admit false pins) (some_admits true pins)) ≡ disjunction_by (all_admit false (pin ∷ pins)) (some_admits true (pin ∷ pins))
+or_of-admitted Zero pins = refl
+or_of-admitted One pins = refl
+or_of-admitted Unknown pins = or_of-unknown (all_admit false pins) (some_admits true pins)
+
+fold-and_of-admitted :
+    (so_far : Tri) (pins : List Tri) →
+    fold and_of so_far pins ≡ and_of so_far (conjunction_by (all_admit true pins) (some_admits false pins))
+fold-and_of-admitted so_far [] = and_of-one so_far
+fold-and_of-admitted so_far (pin ∷ pins) =
+    fold-and_of-admitted (and_of so_far pin) pins
+    ∙ and_of-assoc so_far pin (conjunction_by (all_admit true pins) (some_admits false pins))
+    ∙ ap (λ t. and_of so_far t) (and_of-admitted pin pins)
+
+fold-or_of-admitted :
+    (so_far : Tri) (pins : List Tri) →
+    fold or_of so_far pins ≡ or_of so_far (disjunction_by (all_admit false pins) (some_admits true pins))
+fold-or_of-admitted so_far [] = or_of-zero so_far
+fold-or_of-admitted so_far (pin ∷ pins) =
+    fold-or_of-admitted (or_of so_far pin) pins
+    ∙ or_of-assoc so_far pin (disjunction_by (all_admit false pins) (some_admits true pins))
+    ∙ ap (λ t. or_of so_far t) (or_of-admitted pin pins)
+
+-- the folds by which bits the pins admit
+and_of-by :
+    (pins : List Tri) (ones zeros : Bool) → ones ≡ list_all (λ pin. admits pin true) pins →
+    zeros ≡ list_any (λ pin. admits pin false) pins → fold and_of One pins ≡ conjunction_by ones zeros
+and_of-by pins ones zeros all some =
+    fold-and_of-admitted One pins
+    ∙ ap (λ (b : Bool). conjunction_by b (some_admits false pins)) (sym all)
+    ∙ ap (conjunction_by ones) (sym some)
+
+or_of-by :
+    (pins : List Tri) (zeros ones : Bool) → zeros ≡ list_all (λ pin. admits pin false) pins →
+    ones ≡ list_any (λ pin. admits pin true) pins → fold or_of Zero pins ≡ disjunction_by zeros ones
+or_of-by pins zeros ones all some =
+    fold-or_of-admitted Zero pins
+    ∙ ap (λ (b : Bool). disjunction_by b (some_admits true pins)) (sym all)
+    ∙ ap (disjunction_by zeros) (sym some)
+
+pub and-zero : (pins : List Tri) (ones : Bool) → ones ≡ list_all (λ pin. admits pin true) pins → ones ≡ false → Zero ≡ fold and_of One pins
+and-zero pins false all test = sym (and_of-by pins false (some_admits false pins) all refl)
+and-zero pins true all test = cc
+
+pub and-unknown :
+    (pins : List Tri) (ones zeros : Bool) → ones ≡ list_all (λ pin. admits pin true) pins → ones ≡ true →
+    zeros ≡ list_any (λ pin. admits pin false) pins → zeros ≡ true → Unknown ≡ fold and_of One pins
+and-unknown pins true true all test some is = sym (and_of-by pins true true all some)
+and-unknown pins true false all test some is = cc
+and-unknown pins false zeros all test some is = cc
+
+pub and-one :
+    (pins : List Tri) (ones zeros : Bool) → ones ≡ list_all (λ pin. admits pin true) pins → ones ≡ true →
+    zeros ≡ list_any (λ pin. admits pin false) pins → zeros ≡ false → One ≡ fold and_of One pins
+and-one pins true false all test some is = sym (and_of-by pins true false all some)
+and-one pins true true all test some is = cc
+and-one pins false zeros all test some is = cc
+
+pub or-one : (pins : List Tri) (zeros : Bool) → zeros ≡ list_all (λ pin. admits pin false) pins → zeros ≡ false → One ≡ fold or_of Zero pins
+or-one pins false all test = sym (or_of-by pins false (some_admits true pins) all refl)
+or-one pins true all test = cc
+
+pub or-unknown :
+    (pins : List Tri) (zeros ones : Bool) → zeros ≡ list_all (λ pin. admits pin false) pins → zeros ≡ true →
+    ones ≡ list_any (λ pin. admits pin true) pins → ones ≡ true → Unknown ≡ fold or_of Zero pins
+or-unknown pins true true all test some is = sym (or_of-by pins true true all some)
+or-unknown pins true false all test some is = cc
+or-unknown pins false ones all test some is = cc
+
+pub or-zero :
+    (pins : List Tri) (zeros ones : Bool) → zeros ≡ list_all (λ pin. admits pin false) pins → zeros ≡ true →
+    ones ≡ list_any (λ pin. admits pin true) pins → ones ≡ false → Zero ≡ fold or_of Zero pins
+or-zero pins true false all test some is = sym (or_of-by pins true false all some)
+or-zero pins true true all test some is = cc
+or-zero pins false ones all test some is = cc
 
 -- what is folded so far, and the pins that are left
 fold-every : (so_far : Tri) (pins : List Tri) → fold and_of so_far pins ≡ and_of so_far (join_over every_pin pins)

@@ -1,8 +1,9 @@
 ghost use Rattle.std.specs.Prelude.{◌≡◌, IsTrue, length};
-ghost use Rattle.std.specs.List.{fold};
+ghost use Rattle.std.specs.List.{fold, list_all, list_any};
 ghost use Rattle.hz_core.specs.Gate.{takes, gate_value, every_pin, some_pin, odd_pins};
 ghost use Rattle.hz_core.specs.Extension.{extension, IsExtension};
 ghost use Rattle.hz_core.specs.Kleene.{and_of, or_of, xor_of};
+ghost use Rattle.hz_core.specs.Ternary.{admits};
 
 use crate::tri::Tri;
 
@@ -63,7 +64,7 @@ impl Kind {
         self.extended(pins)
     }
 
-    // By Kleene's connectives, pin by pin.
+    // By Kleene's connectives.
     #[tactic(auto, using(crate::proofs::Kleene::kleene))]
     fn extended(self, pins: &[Tri]) -> Tri
         requires { IsTrue (takes self (length pins.now)) }
@@ -100,16 +101,46 @@ fn odd(pins: &[bool]) -> bool
     pins.iter().filter(|pin| **pin).count() % 2 == 1
 }
 
+// 0 if some pin is 0, so does not admit 1; 1 if no pin admits 0. It stops at the first pin that tells.
 fn conjunction(pins: &[Tri]) -> Tri
     ensures { result ≡ fold and_of Tri.One pins.now }
 {
-    pins.iter().fold(Tri::One, |value, pin| value.and(*pin))
+    if !all_admit(pins, true) {
+        return Tri::Zero;
+    }
+    if some_admits(pins, false) {
+        Tri::Unknown
+    } else {
+        Tri::One
+    }
 }
 
+// 1 if some pin is 1, so does not admit 0; 0 if no pin admits 1.
 fn disjunction(pins: &[Tri]) -> Tri
     ensures { result ≡ fold or_of Tri.Zero pins.now }
 {
-    pins.iter().fold(Tri::Zero, |value, pin| value.or(*pin))
+    if !all_admit(pins, false) {
+        return Tri::One;
+    }
+    if some_admits(pins, true) {
+        Tri::Unknown
+    } else {
+        Tri::Zero
+    }
+}
+
+// Whether all pins admit a bit.
+fn all_admit(pins: &[Tri], bit: bool) -> bool
+    ensures { result ≡ list_all (λ pin. admits pin bit) pins.now }
+{
+    pins.iter().all(|pin| pin.admits(bit))
+}
+
+// Whether some pin admits a bit.
+fn some_admits(pins: &[Tri], bit: bool) -> bool
+    ensures { result ≡ list_any (λ pin. admits pin bit) pins.now }
+{
+    pins.iter().any(|pin| pin.admits(bit))
 }
 
 fn parity(pins: &[Tri]) -> Tri

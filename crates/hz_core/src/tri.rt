@@ -1,6 +1,6 @@
 ghost use Rattle.std.specs.Prelude.{◌≡◌};
 ghost use Rattle.hz_core.specs.Ternary.{tri_of, known_bit, admits, join_of};
-ghost use Rattle.hz_core.specs.Kleene.{complement_of, and_of, or_of, xor_of};
+ghost use Rattle.hz_core.specs.Kleene.{complement_of, xor_of};
 
 /// A ternary value: 0, 1 or X, which stands for "0 or 1, nobody knows which".
 #[derive(Clone, Copy, Debug, PartialEq, Eq, Hash)]
@@ -59,30 +59,6 @@ impl Tri {
             Tri::Zero => Tri::One,
             Tri::One => Tri::Zero,
             Tri::Unknown => Tri::Unknown,
-        }
-    }
-
-    /// Kleene's conjunction.
-    pub(crate) fn and(self, other: Tri) -> Tri
-        ensures { result ≡ and_of self other }
-    {
-        match (self, other) {
-            (Tri::Zero, _) => Tri::Zero,
-            (Tri::One, _) => other,
-            (Tri::Unknown, Tri::Zero) => Tri::Zero,
-            (Tri::Unknown, _) => Tri::Unknown,
-        }
-    }
-
-    /// Kleene's disjunction.
-    pub(crate) fn or(self, other: Tri) -> Tri
-        ensures { result ≡ or_of self other }
-    {
-        match (self, other) {
-            (Tri::One, _) => Tri::One,
-            (Tri::Zero, _) => other,
-            (Tri::Unknown, Tri::One) => Tri::One,
-            (Tri::Unknown, _) => Tri::Unknown,
         }
     }
 

@@ -114,7 +114,65 @@ impl Round<'_> {
         if self.rule.are_final(next, var as usize) {
             return;
         }
-        self.evaluate_range(var, var + 16, next, changed, steps);
+        match self.rule {
+            Rule::Join => self.evaluate_range(var, var + 16, next, changed, steps),
+            Rule::Replace => self.evaluate_parts(var, next, changed, steps),
+        }
+    }
+
+    // Evaluates sixteen variables, of which most have final values, as in the first round of Algorithm B. With the rule known before
+    // the loop, what is passed takes two instructions.
+    fn evaluate_parts<L: Ledger>(
+        &self,
+        var: u32,
+        next: &mut [Tri],
+        changed: &mut Vec<u32>,
+        steps: &mut Steps<L>,
+    )
+        requires round { CanBeMade self.now }
+        requires inside { var + 16 ≤ length (network_of self.now.net.now) }
+        requires fits { var + 16 < 4294967296 }
+        requires so_far { MakesSoFar self.now next.old changed.old.items }
+        requires room { length (network_of self.now.net.now) ≤ vec_capacity changed.old }
+        ensures so_far { MakesSoFar self.now next.new changed.new.items }
+        ensures made { AreMadeIn var (var + 16) self.now next.new }
+        ensures kept { KeepsMade self.now next.old next.new }
+        ensures room { vec_capacity changed.new ≡ vec_capacity changed.old }
+        ensures steps { steps.new ≡ steps.old + 16 }
+        ensures counted { steps.old + length changed.new.items
+            ≤ steps.new + length changed.old.items }
+    {
+        for part in 0..4 {
+            self.evaluate_four(var + part * 4, next, changed, steps);
+        }
+    }
+
+    // Evaluates four variables, with nothing between them to count.
+    #[inline(always)]
+    fn evaluate_four<L: Ledger>(
+        &self,
+        var: u32,
+        next: &mut [Tri],
+        changed: &mut Vec<u32>,
+        steps: &mut Steps<L>,
+    )
+        requires round { CanBeMade self.now }
+        requires inside { var + 4 ≤ length (network_of self.now.net.now) }
+        requires fits { var + 4 < 4294967296 }
+        requires so_far { MakesSoFar self.now next.old changed.old.items }
+        requires room { length (network_of self.now.net.now) ≤ vec_capacity changed.old }
+        ensures so_far { MakesSoFar self.now next.new changed.new.items }
+        ensures made { AreMadeIn var (var + 4) self.now next.new }
+        ensures kept { KeepsMade self.now next.old next.new }
+        ensures room { vec_capacity changed.new ≡ vec_capacity changed.old }
+        ensures steps { steps.new ≡ steps.old + 4 }
+        ensures counted { steps.old + length changed.new.items
+            ≤ steps.new + length changed.old.items }
+    {
+        self.evaluate(var, next, changed, steps);
+        self.evaluate(var + 1, next, changed, steps);
+        self.evaluate(var + 2, next, changed, steps);
+        self.evaluate(var + 3, next, changed, steps);
     }
 
     // Evaluates the variables from one number on and below another.
@@ -233,6 +291,7 @@ impl Round<'_> {
 
     // Evaluates a variable, and lists it if this changes it. It may have been evaluated in this round already. Nothing
     // is left to do for a final value, but it counts as an evaluation too.
+    #[inline(always)]
     fn evaluate<L: Ledger>(
         &self,
         var: u32,
