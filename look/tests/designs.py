@@ -286,7 +286,8 @@ def _other_names(folder, run):
     text = _write(folder, "other.txt", "start a=0\nchange a=1 #expect y[3] clean\n")
     for words, front in ((["summary", bench, text, "--only", "y[3]"], "--only: "), (["why", bench, text, "y[3]"], ""),
                          (["expect", bench, text], "script line 2: ")):
-        yield f"{words[0]} of a node with another name", run(words, folder), (2, "", f"hazard-look: {front}no node is named y[3] (it is z)\n")
+        told = f"hazard-look: {front}no node is named y[3] (it is z)\n"
+        yield f"{words[0]} of a node with another name", run(words, folder), (2, "", told)
 
 
 def _clock_behind_feedback(folder, run):
