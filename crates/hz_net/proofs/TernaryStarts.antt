@@ -12,9 +12,7 @@ use Rattle.hz_net.proofs.Sequences.{unknown_count-le-length, same-or-more, AllBe
 
 -- Algorithm A from a start of bits is a case
 pub bits_are_a_case : (net : List Driver) (input start : List Bool) (round : ℕ) → algorithm_a net input start round ≡ algorithm_a_from net input (map tri_of start) round
-bits_are_a_case net input start zero = refl
-bits_are_a_case net input start (suc round) =
-    ap (λ (values : List Tri). join_each values (excitations net input values)) (bits_are_a_case net input start round)
+bits_are_a_case net input start round = refl
 
 -- The states of the sequence
 

@@ -15,12 +15,16 @@ join_each [] others = []
 join_each (value ∷ values) [] = []
 join_each (value ∷ values) (other ∷ others) = join_of value other ∷ join_each values others
 
--- Algorithm A: it begins with the start, and each state is the join of the one before with its excitations
-abbrev pub algorithm_a : List Driver → List Bool → List Bool → ℕ → List Tri
-algorithm_a net input start zero = map tri_of start
-algorithm_a net input start (suc round) =
-    let before = algorithm_a net input start round in
+-- Algorithm A, from any ternary state: each state is the join of the one before with its excitations
+abbrev pub algorithm_a_from : List Driver → List Bool → List Tri → ℕ → List Tri
+algorithm_a_from net input first zero = first
+algorithm_a_from net input first (suc round) =
+    let before = algorithm_a_from net input first round in
     join_each before (excitations net input before)
+
+-- Algorithm A from a start, whose bits are its first state
+abbrev pub algorithm_a : List Driver → List Bool → List Bool → ℕ → List Tri
+algorithm_a net input start = algorithm_a_from net input (map tri_of start)
 
 -- Algorithm B, from any ternary state: each state is the excitations of the one before
 abbrev pub algorithm_b : List Driver → List Bool → List Tri → ℕ → List Tri

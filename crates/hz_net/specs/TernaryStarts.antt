@@ -1,18 +1,12 @@
 -- Algorithms A and B from a ternary state: a start of which only some values are known.
-use Rattle.std.specs.Prelude.{◌≡◌, ℕ, zero, suc, ◌+◌, ◌≤◌, Bool, Option, Some, None, List, length, map}
+use Rattle.std.specs.Prelude.{◌≡◌, ℕ, ◌+◌, ◌≤◌, Bool, Option, Some, None, List, length, map}
 use Rattle.std.specs.List.{slice_index_or, range_with_len}
 use Rattle.hz_core.specs.declared.tri.Tri.{Tri}
 use Rattle.hz_core.specs.declared.tri.Tri.TheVariants.{Unknown}
 use Rattle.hz_core.specs.Ternary.{tri_of}
 use Rattle.hz_net.specs.Network.{Driver}
-use Rattle.hz_net.specs.Passes.{excitations, join_each, algorithm_b, AreRounds, IsResult}
-
--- Algorithm A, from any ternary state: each state is the join of the one before with its excitations
-abbrev pub algorithm_a_from : List Driver → List Bool → List Tri → ℕ → List Tri
-algorithm_a_from net input first zero = first
-algorithm_a_from net input first (suc round) =
-    let before = algorithm_a_from net input first round in
-    join_each before (excitations net input before)
+pub use Rattle.hz_net.specs.Passes.{algorithm_a_from}
+use Rattle.hz_net.specs.Passes.{algorithm_b, AreRounds, IsResult}
 
 -- One ternary state settles to another under an input: Algorithm A leads from the first to a result, and Algorithm B from
 -- there to the second.
