@@ -65,13 +65,7 @@ pub enum Refusal {
 
 /// Says on standard error what a person needs next. `first` is the beginning of what was written, and `read` are the lines of the second
 /// file that were read before its end was.
-pub fn tell(
-    rt: &HostRuntime,
-    words: &[String],
-    first: &[u8],
-    read: FirstLines,
-    refused: Refusal,
-) {
+pub fn tell(rt: &HostRuntime, words: &[String], first: &[u8], read: FirstLines, refused: Refusal) {
     match refused {
         Refusal::Words => tell_usage(rt),
         Refusal::Text { place } => tell_line(rt, words, first, read, place),
@@ -195,12 +189,7 @@ fn line_number(first: &[u8]) -> Option<usize> {
 
 // The first bytes of the line with a number, which is counted from 1. The file is read part by part, since only that line is
 // wanted of it, and from behind its first lines if the line stands there.
-fn read_line(
-    rt: &HostRuntime,
-    name: &str,
-    number: usize,
-    first: FirstLines,
-) -> Option<Vec<u8>> {
+fn read_line(rt: &HostRuntime, name: &str, number: usize, first: FirstLines) -> Option<Vec<u8>> {
     let mut file = fs::open(rt, name).ok()?;
     let mut part = [0; READ_SIZE];
     let mut before = number.checked_sub(1)?;
