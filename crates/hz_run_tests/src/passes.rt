@@ -6,12 +6,12 @@ ghost use Rattle.hz_cycle.specs.Cycles.{AreResultsOfBoth};
 ghost use Rattle.hz_reach.specs.Given.{AreResultsOfA};
 
 use hz_core::Tri;
-use hz_cycle::{cycle_run, settle_run};
+use hz_cycle::{Results, cycle_run, settle_run};
 use hz_gmw::Run;
 use hz_lists::Steps;
 use hz_net::Net;
 use hz_pass::{Front, settle, spread};
-use hz_reach::{Scratch, spread_run};
+use hz_reach::{Change, Scratch, spread_run};
 use hz_samples::{LATCH, TWO_WIRES, net_of, push_numbers, push_values, runs_of};
 use std::alloc::Global;
 use std::marker::Brand;
@@ -40,62 +40,88 @@ fn found_from(alloc: Global, net: &Net, start: &[bool], input: &[bool]) -> Resul
     requires start { IsStableStart net.now start.now }
     requires input { IsInput net.now input.now }
 {
+    let change = Change { net, start, input };
     let variables = net.len() as usize;
     let mut a = vec![in alloc; Tri::Zero; variables]?;
     let mut b = vec![in alloc; Tri::Zero; variables]?;
-    let mut work = vec![in alloc; Tri::Zero; variables]?;
-    let mut ranks = vec![in alloc; 0u32; variables]?;
-    let mut when = vec![in alloc; 0u32; variables]?;
-    let mut front = Front::new(alloc, net)?;
+    let mut room = Room {
+        ranks: vec![in alloc; 0u32; variables]?,
+        when: vec![in alloc; 0u32; variables]?,
+        work: vec![in alloc; Tri::Zero; variables]?,
+        front: Front::new(alloc, net)?,
+    };
     let (rounds_a, rounds_b) = make_passes::<Brand>(
-        net,
-        start,
-        input,
+        &change,
         &mut a,
-        &mut ranks,
         &mut b,
-        &mut when,
-        &mut work,
-        &mut front,
+        &mut room,
         Blank::new(1),
     );
+    let results = Results {
+        a: &a,
+        ranks: &room.ranks,
+        b: &b,
+        when: &room.when,
+    };
     let mut text = String::new(alloc);
-    push_result(&mut text, rounds_a, &a, &ranks)?;
-    push_result(&mut text, rounds_b, &b, &when)?;
-    push_runs(alloc, net, start, input, &a, &ranks, &when, &b, &mut text)?;
+    push_result(&mut text, rounds_a, results.a, results.ranks)?;
+    push_result(&mut text, rounds_b, results.b, results.when)?;
+    push_runs(alloc, &change, &results, &mut text)?;
     Ok(text)
 }
 
+// The ranks, the rounds in which variables settle, and room for a round.
+#[derive(Drop)]
+struct Room {
+    ranks: Vec<u32>,
+    when: Vec<u32>,
+    work: Vec<Tri>,
+    front: Front,
+}
+
 fn make_passes<L: Ledger>(
-    net: &Net,
-    start: &[bool],
-    input: &[bool],
+    change: &Change,
     a: &mut [Tri],
-    ranks: &mut [u32],
     b: &mut [Tri],
-    when: &mut [u32],
-    work: &mut [Tri],
-    front: &mut Front,
+    room: &mut Room,
     ledger: Blank,
 ) -> (u32, u32)
-    requires start { IsStableStart net.now start.now }
-    requires input { IsInput net.now input.now }
-    requires a { IsState net.now a.old }
-    requires ranks { AreByVariable net.now ranks.old }
-    requires b { IsState net.now b.old }
-    requires when { AreByVariable net.now when.old }
-    requires work { IsState net.now work.old }
-    requires front { front.old ≡ length (network_of net.now) }
+    requires start { IsStableStart change.now.net.now change.now.start.now }
+    requires input { IsInput change.now.net.now change.now.input.now }
+    requires a { IsState change.now.net.now a.old }
+    requires b { IsState change.now.net.now b.old }
+    requires ranks { AreByVariable change.now.net.now room.old.ranks.items }
+    requires when { AreByVariable change.now.net.now room.old.when.items }
+    requires work { IsState change.now.net.now room.old.work.items }
+    requires front { room.old.front ≡ length (network_of change.now.net.now) }
     requires name { ledger.name ≡ L.name }
     requires parts { ledger.parts ≡ L.parts }
     requires some { 0 < ledger.parts }
-    ensures { AreResultsOfBoth net.now start.now input.now a.new ranks.new b.new when.new }
+    ensures { AreResultsOfBoth change.now.net.now change.now.start.now change.now.input.now
+        a.new room.new.ranks.items b.new room.new.when.items }
 {
     let (book, share) = ledger.open::<L>();
     let mut steps = Steps::new(book, share);
-    let rounds_a = spread(net, input, start, a, ranks, work, front, &mut steps);
+    let rounds_a = spread(
+        change.net,
+        change.input,
+        change.start,
+        a,
+        room.ranks.as_mut_slice(),
+        room.work.as_mut_slice(),
+        &mut room.front,
+        &mut steps,
+    );
     b.copy_from_slice(a);
-    let rounds_b = settle(net, input, b, when, work, front, &mut steps);
+    let rounds_b = settle(
+        change.net,
+        change.input,
+        b,
+        room.when.as_mut_slice(),
+        room.work.as_mut_slice(),
+        &mut room.front,
+        &mut steps,
+    );
     (rounds_a, rounds_b)
 }
 
@@ -110,58 +136,59 @@ fn push_result(text: &mut String, rounds: u32, values: &[Tri], when: &[u32]) -> 
 
 fn push_runs(
     alloc: Global,
-    net: &Net,
-    start: &[bool],
-    input: &[bool],
-    a: &[Tri],
-    ranks: &[u32],
-    when: &[u32],
-    b: &[Tri],
+    change: &Change,
+    results: &Results,
     text: &mut String,
 ) -> Result<(), Fail>
-    requires { AreResultsOfBoth net.now start.now input.now a.now ranks.now b.now when.now }
+    requires { AreResultsOfBoth change.now.net.now change.now.start.now change.now.input.now
+        results.now.a.now results.now.ranks.now results.now.b.now results.now.when.now }
 {
-    push_spread(alloc, net, start, input, a, ranks, text)?;
-    let variables = net.len() as usize;
-    let mut scratch = Scratch::new(alloc, net)?;
+    push_spread(alloc, change, results, text)?;
+    let variables = change.net.len() as usize;
+    let mut scratch = Scratch::new(alloc, change.net)?;
     let mut settle = Run::with_room(alloc, 2 * variables, 2 * variables)?;
     settle_run(
-        net,
-        start,
-        input,
-        a,
-        ranks,
-        when,
-        b,
+        change.net,
+        change.start,
+        change.input,
+        results.a,
+        results.ranks,
+        results.when,
+        results.b,
         &mut scratch,
         &mut settle,
     );
     push_run(text, &settle)?;
     let mut cycle = Run::with_room(alloc, 4 * variables, 4 * variables)?;
-    cycle_run(net, input, ranks, b, &mut scratch, &mut cycle);
+    cycle_run(
+        change.net,
+        change.input,
+        results.ranks,
+        results.b,
+        &mut scratch,
+        &mut cycle,
+    );
     push_run(text, &cycle)
 }
 
 fn push_spread(
     alloc: Global,
-    net: &Net,
-    start: &[bool],
-    input: &[bool],
-    a: &[Tri],
-    ranks: &[u32],
+    change: &Change,
+    results: &Results,
     text: &mut String,
 ) -> Result<(), Fail>
-    requires { AreResultsOfA net.now start.now input.now a.now ranks.now }
+    requires { AreResultsOfA change.now.net.now change.now.start.now change.now.input.now
+        results.now.a.now results.now.ranks.now }
 {
-    let variables = net.len() as usize;
-    let mut scratch = Scratch::new(alloc, net)?;
+    let variables = change.net.len() as usize;
+    let mut scratch = Scratch::new(alloc, change.net)?;
     let mut spread = Run::with_room(alloc, variables, variables)?;
     spread_run(
-        net,
-        start,
-        input,
-        a,
-        ranks,
+        change.net,
+        change.start,
+        change.input,
+        results.a,
+        results.ranks,
         false,
         &mut scratch,
         &mut spread,
