@@ -6,8 +6,9 @@ ghost use Rattle.hz_net.specs.Network.{AreByVariable, IsVariable};
 ghost use Rattle.hz_text.specs.Printed.{letter_of};
 ghost use Rattle.hz_write.specs.Writer.{Writes, NoneWaits};
 ghost use Rattle.hz_desk.specs.declared.class.Class.TheVariants.{Single, Steady};
-ghost use Rattle.hz_report.specs.Kept.{AreRowParts, AreRowLines, AreLines};
+ghost use Rattle.hz_report.specs.Kept.{AreRowParts, AreRowLines, AreShown, AreLines};
 ghost use Rattle.hz_desk.specs.declared.finding.Rest.{Rest};
+ghost use Rattle.hz_desk.specs.declared.finding.Row.{Row};
 ghost use Rattle.hz_desk.specs.RowsOf.{row_at_rest};
 ghost use Rattle.hz_report.specs.Report.{changes_word, class_word, row_line, row_lines, row_text, shown_count, shown_rows};
 ghost use Rattle.hz_report.specs.Words.{tri_letter};
@@ -61,32 +62,74 @@ pub(crate) fn write_kept_rows<K: Sink>(
     let count = net.circuit().nodes() as usize;
     // The first node whose line was not given so far.
     let mut from = 0;
-    let mut var = 0;
+    let mut var = first_not_shown(rows, shown, 0, count);
     while var < count {
-        if eight_stay(rows, shown, var, count) {
-            var += 8;
-            continue;
-        }
-        if shown.are_in(rows, var, 1) {
-            var += 1;
-            continue;
-        }
         let rest = rows.rest(var);
-        let row = rows.row(var);
-        match common_text(row) {
+        match kept_text(rows, var, rest) {
             Some(common) => {
                 set_row(net, text, begins, var, common);
                 shown.set(var, rest);
             }
             None => {
                 write_lines(writer, kept_lines(net, text, begins, from, var));
-                write_rare_row(writer, net, var as u32, row);
+                write_rare_row(writer, net, var as u32, rows.row(var));
                 from = var + 1;
             }
         }
-        var += 1;
+        var = first_not_shown(rows, shown, var + 1, count);
     }
     write_lines(writer, kept_lines(net, text, begins, from, count));
+}
+
+// The first node from one on that is not seen to rest at what is shown, or the end if there is none.
+#[inline(always)]
+fn first_not_shown(rows: &Rows, shown: &Rests, from: usize, count: usize) -> usize
+    requires from { from ≤ count }
+    requires shown { length shown.now ≡ count }
+    requires rows { count ≤ length rows.now }
+    ensures more { from ≤ result }
+    ensures inside { result ≤ count }
+    ensures stay { AreShown rows.now shown.now from result }
+{
+    let mut var = from;
+    while var < count {
+        if eight_stay(rows, shown, var, count) {
+            var += 8;
+            continue;
+        }
+        if !shown.are_in(rows, var, 1) {
+            return var;
+        }
+        var += 1;
+    }
+    var
+}
+
+// What stands after the variable of a row as most are. Most of these rest.
+#[inline(always)]
+fn kept_text(rows: &Rows, var: usize, rest: Option<Rest>) -> Option<&'static [u8; COMMON]>
+    requires var { var < length rows.now }
+    requires rest { IfSome rest (λ rest. slice_get rows.now var ≡ Some (row_at_rest rest)) }
+    ensures { IfSome result (λ text.
+        (row : Row) → slice_get rows.now var ≡ Some row → text.now ≡ row_text row) }
+{
+    match rest {
+        Some(rest) => Some(rest_text(rest)),
+        None => single_text(rows.row(var)),
+    }
+}
+
+// What stands after the variable of a row at rest.
+#[inline(always)]
+fn rest_text(rest: Rest) -> &'static [u8; COMMON]
+    ensures { result.now ≡ row_text (row_at_rest rest) }
+{
+    match (rest.value, rest.counted) {
+        (false, true) => b" start 0 A 0 B 0 changes 0 steady",
+        (true, true) => b" start 1 A 1 B 1 changes 0 steady",
+        (false, false) => b" start 0 A 0 B 0 changes - steady",
+        (true, false) => b" start 1 A 1 B 1 changes - steady",
+    }
 }
 
 // Whether eight nodes from one on rest at what is shown. It is seen of blocks alone, whose first number is a multiple of eight.
@@ -243,12 +286,20 @@ fn steady_text(row: Row) -> Option<&'static [u8; COMMON]>
 // What stands after the variable of a row that changes just once.
 #[inline(always)]
 fn single_text(row: Row) -> Option<&'static [u8; COMMON]>
-    requires { row.class ≡ Single }
     ensures { IfSome result (λ text. text.now ≡ row_text row) }
 {
-    match (row.start, row.a, row.b, row.changes) {
-        (false, Unknown, One, Some(Exact(1))) => Some(b" start 0 A X B 1 changes 1 single"),
-        (true, Unknown, Zero, Some(Exact(1))) => Some(b" start 1 A X B 0 changes 1 single"),
+    let Single = row.class else {
+        return None;
+    };
+    let Some(Exact(1)) = row.changes else {
+        return None;
+    };
+    let Unknown = row.a else {
+        return None;
+    };
+    match (row.start, row.b) {
+        (false, One) => Some(b" start 0 A X B 1 changes 1 single"),
+        (true, Zero) => Some(b" start 1 A X B 0 changes 1 single"),
         _ => None,
     }
 }
