@@ -1,11 +1,11 @@
 //! The lines of variables.
-ghost use Rattle.std.specs.Prelude.{◌≡◌, ◌<◌, ◌≤◌, ◌-◌, ◌+◌, ◌∷◌, ◌++◌, length, take, drop, slice_index, slice_range, codes, decimal, true, ℕ, Some, None, IfSome, IsTrue, slice_index_or};
+ghost use Rattle.std.specs.Prelude.{◌≡◌, ◌<◌, ◌≤◌, ◌-◌, ◌+◌, [], ◌∷◌, ◌++◌, length, take, drop, slice_index, slice_range, codes, decimal, true, ℕ, Some, None, IfSome, IsTrue, slice_index_or};
 ghost use Rattle.std.specs.List.{slice_get};
 ghost use Rattle.hz_core.specs.Netlist.{IsCircuit};
 ghost use Rattle.hz_net.specs.Network.{AreByVariable, IsVariable};
 ghost use Rattle.hz_text.specs.Printed.{letter_of};
 ghost use Rattle.hz_write.specs.Writer.{Writes, NoneWaits};
-ghost use Rattle.hz_desk.specs.declared.class.Class.TheVariants.{Single, Steady};
+ghost use Rattle.hz_desk.specs.declared.class.Class.TheVariants.{Steady};
 ghost use Rattle.hz_report.specs.Kept.{AreRowParts, AreRowLines, AreShown, AreLines};
 ghost use Rattle.hz_desk.specs.declared.finding.Rest.{Rest};
 ghost use Rattle.hz_desk.specs.declared.finding.Row.{Row};
@@ -26,6 +26,9 @@ use hz_word::Count;
 use hz_word::Count::{Exact, Many};
 use hz_write::Piece::Long;
 use hz_write::Writer;
+
+// How many bytes say the values of a row.
+const VALUES: usize = 25;
 
 // Gives the line of each variable that is shown.
 pub(crate) fn write_rows<K: Sink>(writer: &mut Writer<'_, K>, net: &Net, rows: &Rows, show: Show)
@@ -232,17 +235,60 @@ pub(crate) fn write_row<K: Sink>(writer: &mut Writer<'_, K>, net: &Net, var: u32
     writer.end();
 }
 
-// Gives a variable with a row that is not a common one. It is kept apart, so that `write_row` stays
-// in its loop.
+// Gives a node with a row that is not a common one. It is kept apart, so that its caller stays short.
 #[inline(never)]
-fn write_rare_row<K: Sink>(writer: &mut Writer<'_, K>, net: &Net, var: u32, row: Row)
-    requires { IsVariable net.now var }
-    ensures gave { Writes K.output K.faults (row_line net.now var row) writer.old writer.new }
+fn write_rare_row<K: Sink>(writer: &mut Writer<'_, K>, net: &Net, node: u32, row: Row)
+    requires { node < length net.now.names }
+    ensures gave { Writes K.output K.faults (row_line net.now node row) writer.old writer.new }
     ensures none_waits { NoneWaits writer.new }
 {
-    write_variable(writer, net, var);
-    write_pieces(writer, row);
-    writer.end();
+    let values = values_text(row.start, row.a, row.b);
+    write_front(writer, net.circuit().name(node), values, row.changes);
+    writer.end_by_three(spaced_class(row.class), b"\n", b"");
+}
+
+// Gives a name, values and a number of changes. Most numbers are short.
+#[inline(always)]
+fn write_front<K: Sink>(
+    writer: &mut Writer<'_, K>,
+    name: &[u8],
+    values: &[u8; VALUES],
+    changes: Option<Count>,
+)
+    ensures { Writes K.output K.faults
+        (name.now ++ values.now ++ changes_word changes) writer.old writer.new }
+{
+    match one_digit(changes) {
+        Some(digit) => writer.three(name, values.as_slice(), &[digit]),
+        None => {
+            writer.three(name, values.as_slice(), b"");
+            write_changes(writer, changes);
+        }
+    }
+}
+
+// The digit of a number of changes, if it has just one.
+#[inline(always)]
+fn one_digit(changes: Option<Count>) -> Option<u8>
+    ensures { IfSome result (λ digit. changes_word changes ≡ digit ∷ []) }
+{
+    let Some(Exact(number)) = changes else {
+        return None;
+    };
+    if number < 10 {
+        Some(digit_of(number))
+    } else {
+        None
+    }
+}
+
+// The digit of a number below 10.
+#[inline(always)]
+fn digit_of(number: u64) -> u8
+    requires { number < 10 }
+    ensures { result ≡ 48 + number }
+{
+    b'0' + number as u8
 }
 
 // Gives what stands after the variable of a row. It is one piece for nearly every row, since each piece of a line takes its time,
@@ -309,13 +355,13 @@ fn single_text(row: Row) -> Option<&'static [u8; COMMON]>
 fn write_pieces<K: Sink>(writer: &mut Writer<'_, K>, row: Row)
     ensures { Writes K.output K.faults (row_text row) writer.old writer.new }
 {
-    writer.text(values_text(row.start, row.a, row.b));
+    writer.text(values_text(row.start, row.a, row.b).as_slice());
     write_changes(writer, row.changes);
     writer.text(spaced_class(row.class));
 }
 
 // What stands between a variable and its number of changes: its values at the start, in A and in B.
-fn values_text(start: bool, a: Tri, b: Tri) -> &'static [u8]
+fn values_text(start: bool, a: Tri, b: Tri) -> &'static [u8; VALUES]
     ensures { result.now
         ≡ codes " start " ++ letter_of start ∷ codes " A " ++ tri_letter a ++ codes " B "
         ++ tri_letter b ++ codes " changes " }
