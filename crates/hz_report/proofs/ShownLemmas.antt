@@ -1,8 +1,8 @@
 -- The lines that are kept while rows are put over them: a node that stays, one that is written anew, and one that is passed over.
-use Rattle.std.proofs.Common.{◌≡◌, ◌∙◌, refl, sym, ap, subst, ℕ, zero, suc, ◌+◌, ◌-◌, ◌<◌, ◌≤◌, ◌≢◌, List, [], ◌∷◌, ◌++◌, length, map, take, drop, set, replicate, get_or, get_or-set_same, get_or-set_other, length-set, slice_get, Option, Some, None, arith, inl, inr}
+use Rattle.std.proofs.Common.{◌≡◌, ◌∙◌, refl, sym, ap, subst, ℕ, zero, suc, ◌+◌, ◌-◌, ◌<◌, ◌≤◌, ◌≢◌, List, [], ◌∷◌, ◌++◌, length, map, take, drop, set, replicate, false, get_or, get_or-set_same, get_or-set_other, length-set, slice_get, Option, Some, None, arith, inl, inr}
 use Rattle.std.specs.Prelude.{IfSome}
 use Rattle.std.specs.List.{between}
-use Rattle.std.proofs.lemmas.Bool.{cases_eq}
+use Rattle.std.proofs.lemmas.Bool.{cases_eq, cases_lt}
 use Rattle.std.proofs.lemmas.List.{get_or-replicate, length-replicate, take-set, map-append, length-take-le}
 use Rattle.std.proofs.lemmas.List.Edits.{between_none, between_more, split_between}
 use Rattle.std.proofs.lemmas.Option.{get_or_from_slice_get, slice_get_within}
@@ -13,7 +13,7 @@ use Rattle.hz_desk.specs.declared.finding.Rest.{Rest}
 use Rattle.hz_desk.specs.declared.finding.Row.{Row}
 use Rattle.hz_desk.specs.RowsOf.{row_at_rest}
 use Rattle.hz_report.specs.Report.{row_text}
-use Rattle.hz_report.specs.Kept.{ArePartsOf, AreRowParts, AreRowLines}
+use Rattle.hz_report.specs.Kept.{ArePartsOf, AreRowParts, AreRowLines, AreShown}
 use Rattle.hz_report.proofs.PartLemmas.{IsUnder, written-one}
 
 -- lines of which nothing is told
@@ -30,6 +30,23 @@ none-shown netlist text begins shown count parts is many = record {
   where
     none-some : (rest : Rest) → None ≡ Some rest → ⊥
     none-some rest e = cc
+
+-- a row to look one up with
+pub no_row : Row
+no_row = row_at_rest (record { value = false; counted = false })
+
+-- so many nodes more rest at what is shown
+pub shown-more : (rows : List Row) (shown : List (Option Rest)) (from upto count : ℕ)
+    → ((i : ℕ) → i < count → (rest : Rest) × (get_or shown (upto + i) None ≡ Some rest) × (slice_get rows (upto + i) ≡ Some (row_at_rest rest)))
+    → AreShown rows shown from upto → AreShown rows shown from (upto + count)
+shown-more rows shown from upto count more stay i above below =
+    elim (cases_lt i upto) [
+      | inl before ↦ stay i above before
+      | inr behind ↦
+          (let here : upto + (i - upto) ≡ i = omega (arith, behind) in
+          subst (λ (n : ℕ). (rest : Rest) × (get_or shown n None ≡ Some rest) × (slice_get rows n ≡ Some (row_at_rest rest))) here
+          (more (i - upto) (omega (arith, behind, below))))
+    ]
 
 -- Rows up to a node are put over the lines, and those from a node on were not given so far.
 pub record ArePut (netlist : Netlist) (rows : List Row) (from upto : ℕ) (text begins : List ℕ) (shown : List (Option Rest)) : Type 0 where
@@ -86,6 +103,14 @@ module _ (netlist : Netlist) (rows : List Row) (begins : List ℕ) where
       subst (λ (n : ℕ). ArePut netlist rows from n text begins shown) next
       (put-stay from (upto + count) text shown here.0 (omega (arith, few)) here.1 here.2
       (put-stay-many from upto count text shown (omega (arith, few)) (λ i less. stays i (omega (arith, less))) put))
+
+  -- the nodes stay that are seen to
+  pub put-shown : (from upto next : ℕ) (text : List ℕ) (shown : List (Option Rest)) → upto ≤ next → next ≤ length netlist.names → AreShown rows shown upto next
+      → ArePut netlist rows from upto text begins shown → ArePut netlist rows from next text begins shown
+  put-shown from upto next text shown ordered within stay put =
+      let end : upto + (next - upto) ≡ next = omega (arith, ordered) in
+      subst (λ (n : ℕ). ArePut netlist rows from n text begins shown) end
+      (put-stay-many from upto (next - upto) text shown (omega (arith, ordered, within)) (λ i less. stay (upto + i) (omega arith) (omega (arith, less, ordered))) put)
 
   -- the row of a node is written over its line
   pub put-set : (from upto : ℕ) (row : Row) (now text : List ℕ) (shown : List (Option Rest)) (rest : Option Rest) → length netlist.names ≤ length rows → upto < length netlist.names

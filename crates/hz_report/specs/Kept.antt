@@ -1,9 +1,10 @@
 -- Texts of parts, one a node, that are kept as bytes: in each part only the middle changes, and not its length. Words about the
 -- inside of hz_report.
-use Rattle.std.specs.Prelude.{◌≡◌, ℕ, zero, suc, ◌+◌, ◌<◌, ◌⊎◌, Bool, Option, Some, None, List, [], ◌∷◌, ◌++◌, length, map}
-use Rattle.std.specs.List.{range_with_len, slice_index_or}
+use Rattle.std.specs.Prelude.{◌≡◌, ℕ, zero, suc, ◌+◌, ◌<◌, ◌≤◌, ◌⊎◌, Bool, Option, Some, None, List, [], ◌∷◌, ◌++◌, length, map}
+use Rattle.std.specs.List.{range_with_len, slice_index_or, slice_get}
 use Rattle.hz_core.specs.Netlist.{Netlist, node_name}
 use Rattle.hz_desk.specs.declared.finding.Rest.{Rest}
+use Rattle.hz_desk.specs.declared.finding.Row.{Row}
 use Rattle.hz_desk.specs.RowsOf.{row_at_rest}
 use Rattle.hz_report.specs.Report.{row_text}
 use Rattle.hz_write.specs.Writes.{newline}
@@ -70,6 +71,11 @@ abbrev pub AreBits : Netlist → List Bool → List ℕ → List ℕ → Type 0
 AreBits netlist bits text begins =
     ArePartsOf (bit_stem netlist) [] 1 (length netlist.names) (map (λ bit. letter_of bit ∷ []) bits)
     text begins
+
+-- rows from one node up to another are those of variables that rest at what is told of them
+abbrev pub AreShown : List Row → List (Option Rest) → ℕ → ℕ → Type 0
+AreShown rows shown from upto = (i : ℕ) → from ≤ i → i < upto → (rest : Rest)
+    × (slice_index_or shown i None ≡ Some rest) × (slice_get rows i ≡ Some (row_at_rest rest))
 
 -- a line and a word for each node
 pub record IsKept (netlist : Netlist) (kept : Kept) : Type 0 where

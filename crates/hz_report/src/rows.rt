@@ -1,13 +1,14 @@
 //! The lines of variables.
-ghost use Rattle.std.specs.Prelude.{◌≡◌, ◌<◌, ◌≤◌, ◌-◌, ◌+◌, ◌∷◌, ◌++◌, length, take, drop, slice_index, slice_range, codes, decimal, true, ℕ, Some, None, IfSome, IsTrue, slice_index_or};
+ghost use Rattle.std.specs.Prelude.{◌≡◌, ◌<◌, ◌≤◌, ◌-◌, ◌+◌, [], ◌∷◌, ◌++◌, length, take, drop, slice_index, slice_range, codes, decimal, true, ℕ, Some, None, IfSome, IsTrue, slice_index_or};
 ghost use Rattle.std.specs.List.{slice_get};
 ghost use Rattle.hz_core.specs.Netlist.{IsCircuit};
 ghost use Rattle.hz_net.specs.Network.{AreByVariable, IsVariable};
 ghost use Rattle.hz_text.specs.Printed.{letter_of};
 ghost use Rattle.hz_write.specs.Writer.{Writes, NoneWaits};
-ghost use Rattle.hz_desk.specs.declared.class.Class.TheVariants.{Single, Steady};
-ghost use Rattle.hz_report.specs.Kept.{AreRowParts, AreRowLines, AreLines};
+ghost use Rattle.hz_desk.specs.declared.class.Class.TheVariants.{Steady};
+ghost use Rattle.hz_report.specs.Kept.{AreRowParts, AreRowLines, AreShown, AreLines};
 ghost use Rattle.hz_desk.specs.declared.finding.Rest.{Rest};
+ghost use Rattle.hz_desk.specs.declared.finding.Row.{Row};
 ghost use Rattle.hz_desk.specs.RowsOf.{row_at_rest};
 ghost use Rattle.hz_report.specs.Report.{changes_word, class_word, row_line, row_lines, row_text, shown_count, shown_rows};
 ghost use Rattle.hz_report.specs.Words.{tri_letter};
@@ -25,6 +26,9 @@ use hz_word::Count;
 use hz_word::Count::{Exact, Many};
 use hz_write::Piece::Long;
 use hz_write::Writer;
+
+// How many bytes say the values of a row.
+const VALUES: usize = 25;
 
 // Gives the line of each variable that is shown.
 pub(crate) fn write_rows<K: Sink>(writer: &mut Writer<'_, K>, net: &Net, rows: &Rows, show: Show)
@@ -61,32 +65,74 @@ pub(crate) fn write_kept_rows<K: Sink>(
     let count = net.circuit().nodes() as usize;
     // The first node whose line was not given so far.
     let mut from = 0;
-    let mut var = 0;
+    let mut var = first_not_shown(rows, shown, 0, count);
     while var < count {
-        if eight_stay(rows, shown, var, count) {
-            var += 8;
-            continue;
-        }
-        if shown.are_in(rows, var, 1) {
-            var += 1;
-            continue;
-        }
         let rest = rows.rest(var);
-        let row = rows.row(var);
-        match common_text(row) {
+        match kept_text(rows, var, rest) {
             Some(common) => {
                 set_row(net, text, begins, var, common);
                 shown.set(var, rest);
             }
             None => {
                 write_lines(writer, kept_lines(net, text, begins, from, var));
-                write_rare_row(writer, net, var as u32, row);
+                write_rare_row(writer, net, var as u32, rows.row(var));
                 from = var + 1;
             }
         }
-        var += 1;
+        var = first_not_shown(rows, shown, var + 1, count);
     }
     write_lines(writer, kept_lines(net, text, begins, from, count));
+}
+
+// The first node from one on that is not seen to rest at what is shown, or the end if there is none.
+#[inline(always)]
+fn first_not_shown(rows: &Rows, shown: &Rests, from: usize, count: usize) -> usize
+    requires from { from ≤ count }
+    requires shown { length shown.now ≡ count }
+    requires rows { count ≤ length rows.now }
+    ensures more { from ≤ result }
+    ensures inside { result ≤ count }
+    ensures stay { AreShown rows.now shown.now from result }
+{
+    let mut var = from;
+    while var < count {
+        if eight_stay(rows, shown, var, count) {
+            var += 8;
+            continue;
+        }
+        if !shown.are_in(rows, var, 1) {
+            return var;
+        }
+        var += 1;
+    }
+    var
+}
+
+// What stands after the variable of a row as most are. Most of these rest.
+#[inline(always)]
+fn kept_text(rows: &Rows, var: usize, rest: Option<Rest>) -> Option<&'static [u8; COMMON]>
+    requires var { var < length rows.now }
+    requires rest { IfSome rest (λ rest. slice_get rows.now var ≡ Some (row_at_rest rest)) }
+    ensures { IfSome result (λ text.
+        (row : Row) → slice_get rows.now var ≡ Some row → text.now ≡ row_text row) }
+{
+    match rest {
+        Some(rest) => Some(rest_text(rest)),
+        None => single_text(rows.row(var)),
+    }
+}
+
+// What stands after the variable of a row at rest.
+#[inline(always)]
+fn rest_text(rest: Rest) -> &'static [u8; COMMON]
+    ensures { result.now ≡ row_text (row_at_rest rest) }
+{
+    match (rest.value, rest.counted) {
+        (false, true) => b" start 0 A 0 B 0 changes 0 steady",
+        (true, true) => b" start 1 A 1 B 1 changes 0 steady",
+        (false, false) => b" start 0 A 0 B 0 changes - steady",
+        (true, false) => b" start 1 A 1 B 1 changes - steady",
+    }
 }
 
 // Whether eight nodes from one on rest at what is shown. It is seen of blocks alone, whose first number is a multiple of eight.
@@ -189,17 +235,60 @@ pub(crate) fn write_row<K: Sink>(writer: &mut Writer<'_, K>, net: &Net, var: u32
     writer.end();
 }
 
-// Gives a variable with a row that is not a common one. It is kept apart, so that `write_row` stays
-// in its loop.
+// Gives a node with a row that is not a common one. It is kept apart, so that its caller stays short.
 #[inline(never)]
-fn write_rare_row<K: Sink>(writer: &mut Writer<'_, K>, net: &Net, var: u32, row: Row)
-    requires { IsVariable net.now var }
-    ensures gave { Writes K.output K.faults (row_line net.now var row) writer.old writer.new }
+fn write_rare_row<K: Sink>(writer: &mut Writer<'_, K>, net: &Net, node: u32, row: Row)
+    requires { node < length net.now.names }
+    ensures gave { Writes K.output K.faults (row_line net.now node row) writer.old writer.new }
     ensures none_waits { NoneWaits writer.new }
 {
-    write_variable(writer, net, var);
-    write_pieces(writer, row);
-    writer.end();
+    let values = values_text(row.start, row.a, row.b);
+    write_front(writer, net.circuit().name(node), values, row.changes);
+    writer.end_by_three(spaced_class(row.class), b"\n", b"");
+}
+
+// Gives a name, values and a number of changes. Most numbers are short.
+#[inline(always)]
+fn write_front<K: Sink>(
+    writer: &mut Writer<'_, K>,
+    name: &[u8],
+    values: &[u8; VALUES],
+    changes: Option<Count>,
+)
+    ensures { Writes K.output K.faults
+        (name.now ++ values.now ++ changes_word changes) writer.old writer.new }
+{
+    match one_digit(changes) {
+        Some(digit) => writer.three(name, values.as_slice(), &[digit]),
+        None => {
+            writer.three(name, values.as_slice(), b"");
+            write_changes(writer, changes);
+        }
+    }
+}
+
+// The digit of a number of changes, if it has just one.
+#[inline(always)]
+fn one_digit(changes: Option<Count>) -> Option<u8>
+    ensures { IfSome result (λ digit. changes_word changes ≡ digit ∷ []) }
+{
+    let Some(Exact(number)) = changes else {
+        return None;
+    };
+    if number < 10 {
+        Some(digit_of(number))
+    } else {
+        None
+    }
+}
+
+// The digit of a number below 10.
+#[inline(always)]
+fn digit_of(number: u64) -> u8
+    requires { number < 10 }
+    ensures { result ≡ 48 + number }
+{
+    b'0' + number as u8
 }
 
 // Gives what stands after the variable of a row. It is one piece for nearly every row, since each piece of a line takes its time,
@@ -243,12 +332,20 @@ fn steady_text(row: Row) -> Option<&'static [u8; COMMON]>
 // What stands after the variable of a row that changes just once.
 #[inline(always)]
 fn single_text(row: Row) -> Option<&'static [u8; COMMON]>
-    requires { row.class ≡ Single }
     ensures { IfSome result (λ text. text.now ≡ row_text row) }
 {
-    match (row.start, row.a, row.b, row.changes) {
-        (false, Unknown, One, Some(Exact(1))) => Some(b" start 0 A X B 1 changes 1 single"),
-        (true, Unknown, Zero, Some(Exact(1))) => Some(b" start 1 A X B 0 changes 1 single"),
+    let Single = row.class else {
+        return None;
+    };
+    let Some(Exact(1)) = row.changes else {
+        return None;
+    };
+    let Unknown = row.a else {
+        return None;
+    };
+    match (row.start, row.b) {
+        (false, One) => Some(b" start 0 A X B 1 changes 1 single"),
+        (true, Zero) => Some(b" start 1 A X B 0 changes 1 single"),
         _ => None,
     }
 }
@@ -258,13 +355,13 @@ fn single_text(row: Row) -> Option<&'static [u8; COMMON]>
 fn write_pieces<K: Sink>(writer: &mut Writer<'_, K>, row: Row)
     ensures { Writes K.output K.faults (row_text row) writer.old writer.new }
 {
-    writer.text(values_text(row.start, row.a, row.b));
+    writer.text(values_text(row.start, row.a, row.b).as_slice());
     write_changes(writer, row.changes);
     writer.text(spaced_class(row.class));
 }
 
 // What stands between a variable and its number of changes: its values at the start, in A and in B.
-fn values_text(start: bool, a: Tri, b: Tri) -> &'static [u8]
+fn values_text(start: bool, a: Tri, b: Tri) -> &'static [u8; VALUES]
     ensures { result.now
         ≡ codes " start " ++ letter_of start ∷ codes " A " ++ tri_letter a ++ codes " B "
         ++ tri_letter b ++ codes " changes " }

@@ -1,27 +1,36 @@
 -- A common row is written over that of its node; before another row the lines so far are given.
-use Rattle.std.proofs.Common.{◌≡◌, ◌∙◌, ◌+◌, ◌<◌, ◌≤◌, length, sym, subst, arith}
+use Rattle.std.proofs.Common.{◌≡◌, ◌∙◌, ◌+◌, ◌<◌, ◌≤◌, Some, length, take, get_or, slice_get, sym, subst, arith}
+use Rattle.std.proofs.lemmas.Option.{slice_get-get_or}
 use Rattle.hz_net.proofs.Places.{length-network_of}
+use Rattle.hz_write.specs.Writer.{Writes, NoneWaits}
 use Rattle.hz_write.proofs.Writers.{writes_nothing, writes_same, writes_then}
 use Rattle.hz_report.specs.Kept.{AreLines}
-use Rattle.hz_report.proofs.ShownLemmas.{put-begin, put-skip, put-set, put-stay-many, put-under}
+use Rattle.hz_report.specs.Report.{row_lines}
+use Rattle.hz_report.proofs.ShownLemmas.{ArePut, put-begin, put-skip, put-set, put-shown, put-under, no_row}
 use Rattle.hz_report.proofs.KeptLemmas.{kept-lines, lines-joined}
 use Rattle.hz_report.proofs.RowLemmas.{row_lines_more}
 use Rattle.hz_report.proofs.rows.write_kept_rows.Goals as goal
 use Rattle.hz_report.proofs.rows.write_kept_rows.Goals.{in-Some, in-None}
 
-pub loop-var-init : goal.loop-var-init
-loop-var-init g c = (
-  put-begin c.args.net.now c.args.rows.now c.args.begins.now c.args.text.now c.args.shown.now c.requires.kept,
-  writes_nothing c.args.writer.now,
-  c.requires.none_waits,
-  omega arith,
-)
-
-pub row-row-requires : goal.row-row-requires
-row-row-requires g c =
+pub first_not_shown-var-requires-clause-rows : goal.first_not_shown-var-requires-clause-rows
+first_not_shown-var-requires-clause-rows g c =
     let netlist = c.args.net.now in
     let count : c.nodes-count.result ≡ length netlist.names = rw c.circuit.ensures.same at c.nodes-count.ensures.nodes in
-    omega (arith, count, c.loop-var-test.true, c.requires.rows, length-network_of netlist c.circuit.ensures.circuit)
+    omega (arith, count, c.requires.rows, length-network_of netlist c.circuit.ensures.circuit)
+
+pub loop-var-init : goal.loop-var-init
+loop-var-init g c =
+    let netlist = c.args.net.now in
+    let rows = c.args.rows.now in
+    let first = c.first_not_shown-var.result in
+    let count : c.nodes-count.result ≡ length netlist.names = rw c.circuit.ensures.same at c.nodes-count.ensures.nodes in
+    let within : first ≤ length netlist.names = omega (arith, count, c.first_not_shown-var.ensures.inside) in (
+      put-shown netlist rows c.args.begins.now 0 0 first c.args.text.now c.args.shown.now (omega arith) within c.first_not_shown-var.ensures.stay
+          (put-begin netlist rows c.args.begins.now c.args.text.now c.args.shown.now c.requires.kept),
+      writes_nothing c.args.writer.now,
+      c.requires.none_waits,
+      within,
+    )
 
 pub rest-rest-requires : goal.rest-rest-requires
 rest-rest-requires g c =
@@ -29,49 +38,23 @@ rest-rest-requires g c =
     let count : c.nodes-count.result ≡ length netlist.names = rw c.circuit.ensures.same at c.nodes-count.ensures.nodes in
     omega (arith, count, c.loop-var-test.true, c.requires.rows, length-network_of netlist c.circuit.ensures.circuit)
 
-pub eight_stay-requires-clause-rows : goal.eight_stay-requires-clause-rows
-eight_stay-requires-clause-rows g c =
-    let netlist = c.args.net.now in
-    let count : c.nodes-count.result ≡ length netlist.names = rw c.circuit.ensures.same at c.nodes-count.ensures.nodes in
-    omega (arith, count, c.requires.rows, length-network_of netlist c.circuit.ensures.circuit)
-
-pub eight_stay-requires-clause-shown : goal.eight_stay-requires-clause-shown
-eight_stay-requires-clause-shown g c =
-    let count : c.nodes-count.result ≡ length c.args.net.now.names = rw c.circuit.ensures.same at c.nodes-count.ensures.nodes in
-    omega (arith, count, c.loop-var.invariant.0.kept.shown_long)
-
-pub loop-var-preserved-then-eight_stay : goal.loop-var-preserved-then-eight_stay
-loop-var-preserved-then-eight_stay g c =
-    let count : c.nodes-count.result ≡ length c.args.net.now.names = rw c.circuit.ensures.same at c.nodes-count.ensures.nodes in
-    let within : c.loop-var.var + 8 ≤ length c.args.net.now.names = omega (arith, count, c.eight_stay.ensures.inside c.if-eight_stay.true) in (
-      put-stay-many c.args.net.now c.args.rows.now c.args.begins.now c.loop-var.from c.loop-var.var 8 c.loop-var.text c.loop-var.shown within
-          (c.eight_stay.ensures.stay c.if-eight_stay.true) c.loop-var.invariant.0,
-      c.loop-var.invariant.1,
-      c.loop-var.invariant.2,
-      within,
-    )
-
-pub are_in-requires-clause-rests : goal.are_in-requires-clause-rests
-are_in-requires-clause-rests g c =
-    let count : c.nodes-count.result ≡ length c.args.net.now.names = rw c.circuit.ensures.same at c.nodes-count.ensures.nodes in
-    omega (arith, count, c.loop-var-test.true, c.loop-var.invariant.0.kept.shown_long)
-
-pub are_in-requires-clause-rows : goal.are_in-requires-clause-rows
-are_in-requires-clause-rows g c =
+pub kept_text-requires-clause-var : goal.kept_text-requires-clause-var
+kept_text-requires-clause-var g c =
     let netlist = c.args.net.now in
     let count : c.nodes-count.result ≡ length netlist.names = rw c.circuit.ensures.same at c.nodes-count.ensures.nodes in
     omega (arith, count, c.loop-var-test.true, c.requires.rows, length-network_of netlist c.circuit.ensures.circuit)
 
-pub loop-var-preserved-then-are_in : goal.loop-var-preserved-then-are_in
-loop-var-preserved-then-are_in g c =
-    let count : c.nodes-count.result ≡ length c.args.net.now.names = rw c.circuit.ensures.same at c.nodes-count.ensures.nodes in
-    let within : c.loop-var.var + 1 ≤ length c.args.net.now.names = omega (arith, count, c.loop-var-test.true) in (
-      put-stay-many c.args.net.now c.args.rows.now c.args.begins.now c.loop-var.from c.loop-var.var 1 c.loop-var.text c.loop-var.shown within
-          (c.are_in.ensures c.if-are_in.true) c.loop-var.invariant.0,
-      c.loop-var.invariant.1,
-      c.loop-var.invariant.2,
-      within,
-    )
+pub row-requires : goal.row-requires
+row-requires g c =
+    let netlist = c.args.net.now in
+    let count : c.nodes-count.result ≡ length netlist.names = rw c.circuit.ensures.same at c.nodes-count.ensures.nodes in
+    omega (arith, count, c.loop-var-test.true, c.requires.rows, length-network_of netlist c.circuit.ensures.circuit)
+
+pub first_not_shown-var-requires-in-loop-var-clause-rows : goal.first_not_shown-var-requires-in-loop-var-clause-rows
+first_not_shown-var-requires-in-loop-var-clause-rows g c =
+    let netlist = c.args.net.now in
+    let count : c.nodes-count.result ≡ length netlist.names = rw c.circuit.ensures.same at c.nodes-count.ensures.nodes in
+    omega (arith, count, c.requires.rows, length-network_of netlist c.circuit.ensures.circuit)
 
 pub write_lines-requires-clause-lines : goal.write_lines-requires-clause-lines
 write_lines-requires-clause-lines g c =
@@ -96,17 +79,22 @@ loop-var-preserved g c =
     let text = c.loop-var.text in
     let begins = c.args.begins.now in
     let so_far = c.loop-var.invariant in
+    let next = c.first_not_shown-var-in-loop-var in
+    let now = c.match-kept_text in
     let count : c.nodes-count.result ≡ length netlist.names = rw c.circuit.ensures.same at c.nodes-count.ensures.nodes in
     let within : var < length netlist.names = omega (arith, count, c.loop-var-test.true) in
     let enough : length netlist.names ≤ length rows = omega (arith, c.requires.rows, length-network_of netlist c.circuit.ensures.circuit) in
     let under = put-under netlist rows begins from var text c.loop-var.shown (omega (arith, within, so_far.0.ordered)) so_far.0 in
-    elim c.match-common_text.branch [
+    let there : slice_get rows var ≡ Some (get_or rows var no_row) = slice_get-get_or rows var no_row (omega (arith, within, enough)) in
+    let more : ArePut netlist rows now.from (var + 1) now.text begins now.shown
+    × Writes g.K.Sink.output g.K.Sink.faults (row_lines netlist 0 (take now.from rows)) c.args.writer.now now.writer
+    × NoneWaits now.writer =
+    elim c.match-kept_text.branch [
       | in-Some w ↦ rw (w.writer-is, w.text-is, w.shown-is, w.from-is, w.set_row.ensures.written, w.set.ensures) (
-        put-set netlist rows begins from var c.row-row.result w.in-Some.common.now text c.loop-var.shown c.rest-rest.result enough within
-            c.row-row.ensures w.in-Some.ensures w.set_row.ensures.long c.rest-rest.ensures so_far.0,
+        put-set netlist rows begins from var (get_or rows var no_row) w.in-Some.common.now text c.loop-var.shown c.rest-rest.result enough within
+            there (w.in-Some.ensures (get_or rows var no_row) there) w.set_row.ensures.long c.rest-rest.ensures so_far.0,
         so_far.1,
         so_far.2,
-        omega (arith, within),
       )
       | in-None w ↦ rw (w.writer-is, w.text-is, w.shown-is, w.from-is) (
         put-skip netlist rows begins from var text c.loop-var.shown so_far.0,
@@ -114,11 +102,16 @@ loop-var-preserved g c =
             (writes_then so_far.1
             (writes_same w.write_lines.ensures.gave (w.kept_lines.ensures ∙ (kept-lines netlist rows from var text begins enough (omega (arith, within)) under).0))
             (lines-joined netlist rows from var so_far.0.ordered (omega (arith, within, enough))))
-            w.write_rare_row.ensures.gave (sym (row_lines_more netlist rows var c.row-row.result c.row-row.ensures)),
+            w.write_rare_row.ensures.gave (sym (row_lines_more netlist rows var w.row.result w.row.ensures)),
         w.write_rare_row.ensures.none_waits,
-        omega (arith, within),
       )
-    ]
+    ] in
+    let few : next.result ≤ length netlist.names = omega (arith, count, next.ensures.inside) in (
+      put-shown netlist rows begins now.from (var + 1) next.result now.text now.shown next.ensures.more few next.ensures.stay more.0,
+      more.1,
+      more.2,
+      few,
+    )
 
 pub write_lines-requires-2-clause-lines : goal.write_lines-requires-2-clause-lines
 write_lines-requires-2-clause-lines g c =
