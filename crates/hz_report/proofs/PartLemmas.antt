@@ -126,12 +126,12 @@ parts-none stem tail width text begins none first =
     record { middles = []; are = record { long = refl; wide = tt; text_is = none; begins_are = first } }
 
 -- one part more
-pub parts-more : (stem : ℕ → List ℕ) (tail : List ℕ) (width count : ℕ) (middle text begins text' begins' : List ℕ) → AreParts stem tail width count text begins → length middle ≡ width
-    → text' ≡ text ++ (stem count ++ (middle ++ tail)) → begins' ≡ begins ++ length text' ∷ [] → AreParts stem tail width (count + 1) text' begins'
-parts-more stem tail width count middle text begins text' begins' parts wide longer placed =
+pub parts-longer : (stem : ℕ → List ℕ) (tail : List ℕ) (width count : ℕ) (middles : List (List ℕ)) (middle text begins text' begins' : List ℕ)
+    → ArePartsOf stem tail width count middles text begins → length middle ≡ width
+    → text' ≡ text ++ (stem count ++ (middle ++ tail)) → begins' ≡ begins ++ length text' ∷ []
+    → ArePartsOf stem tail width (count + 1) (middles ++ middle ∷ []) text' begins'
+parts-longer stem tail width count middles middle text begins text' begins' are wide longer placed =
     let size = width + length tail in
-    let middles = parts.middles in
-    let are = parts.are in
     let part : List ℕ = stem count ++ (middle ++ tail) in
     let here : 0 + length middles ≡ count = omega (arith, are.long) in
     let all : parts_text stem tail 0 (middles ++ middle ∷ []) ≡ parts_text stem tail 0 middles ++ part =
@@ -150,15 +150,19 @@ parts-more stem tail width count middle text begins text' begins' parts wide lon
       place-more stem size count,
     ) in
     record {
-      middles = middles ++ middle ∷ [];
-      are = record {
-        long = length-append middles (middle ∷ []) ∙ ap (λ (n : ℕ). n + 1) are.long;
-        wide = wide-both width middles (middle ∷ []) are.wide (wide, tt);
-        text_is = longer ∙ ap (λ (list : List ℕ). list ++ part) are.text_is ∙ sym all;
-        begins_are = placed ∙ ap (λ (n : ℕ). begins ++ n ∷ []) end ∙ ap (λ (list : List ℕ). list ++ part_place stem size (count + 1) ∷ []) are.begins_are
-            ∙ sym (map-range_with_len_more (part_place stem size) 0 (count + 1) (count + 1) (zero-add (count + 1)));
-      };
+      long = length-append middles (middle ∷ []) ∙ ap (λ (n : ℕ). n + 1) are.long;
+      wide = wide-both width middles (middle ∷ []) are.wide (wide, tt);
+      text_is = longer ∙ ap (λ (list : List ℕ). list ++ part) are.text_is ∙ sym all;
+      begins_are = placed ∙ ap (λ (n : ℕ). begins ++ n ∷ []) end ∙ ap (λ (list : List ℕ). list ++ part_place stem size (count + 1) ∷ []) are.begins_are
+          ∙ sym (map-range_with_len_more (part_place stem size) 0 (count + 1) (count + 1) (zero-add (count + 1)));
     }
+
+pub parts-more : (stem : ℕ → List ℕ) (tail : List ℕ) (width count : ℕ) (middle text begins text' begins' : List ℕ) → AreParts stem tail width count text begins → length middle ≡ width
+    → text' ≡ text ++ (stem count ++ (middle ++ tail)) → begins' ≡ begins ++ length text' ∷ [] → AreParts stem tail width (count + 1) text' begins'
+parts-more stem tail width count middle text begins text' begins' parts wide longer placed = record {
+  middles = parts.middles ++ middle ∷ [];
+  are = parts-longer stem tail width count parts.middles middle text begins text' begins' parts.are wide longer placed;
+}
 
 -- what stands between two places is written over
 pub written-over : (front middle back now : List ℕ) (i k : ℕ) → length front ≡ i → length middle ≡ k
@@ -179,14 +183,6 @@ pub record IsUnder {X : Type 0} (value : X → List ℕ) (stem : ℕ → List �
   pub are : ArePartsOf stem tail width count (ahead ++ (map value (between from upto items) ++ left)) text begins
 
 module _ {X : Type 0} (value : X → List ℕ) (stem : ℕ → List ℕ) (tail : List ℕ) (width count : ℕ) (items : List X) where
-  -- no middle so far
-  pub under-begin : (text begins : List ℕ) → AreParts stem tail width count text begins → IsUnder value stem tail width count items 0 0 text begins
-  under-begin text begins parts = record { ahead = []; left = parts.middles; long = refl; ordered = omega arith; are = parts.are }
-
-  -- the text has its middles
-  pub under-parts : (from upto : ℕ) (text begins : List ℕ) → IsUnder value stem tail width count items from upto text begins → AreParts stem tail width count text begins
-  under-parts from upto text begins under = record { middles = under.ahead ++ (map value (between from upto items) ++ under.left); are = under.are }
-
   -- how many middles are left
   count-left : (from upto : ℕ) (ahead left : List (List ℕ)) → length ahead ≡ from → from ≤ upto → upto ≤ count → count ≤ length items
       → length (ahead ++ (map value (between from upto items) ++ left)) ≡ count → upto + length left ≡ count
@@ -263,13 +259,6 @@ module _ {X : Type 0} (value : X → List ℕ) (stem : ℕ → List ℕ) (tail :
       moved : (a s m t b : List ℕ) → a ++ ((s ++ (m ++ t)) ++ b) ≡ (a ++ s) ++ (m ++ (t ++ b))
       moved a s m t b = simp append_assoc
 
-  pub under-more : (from upto : ℕ) (item : X) (now text begins : List ℕ) → IsUnder value stem tail width count items from upto text begins → upto < count → count ≤ length items
-      → slice_get items upto ≡ Some item → now ≡ value item → length now ≡ width
-      → IsUnder value stem tail width count items from (upto + 1)
-      (take (get_or begins (upto + 1) 0 - length tail - width) text ++ (now ++ drop (get_or begins (upto + 1) 0 - length tail) text)) begins
-  under-more from upto item now text begins under within enough there is wide =
-      more from upto under.ahead under.left item now text begins under.long under.ordered within enough there is wide under.are
-
   -- one middle is written over
   pub written-one : (upto : ℕ) (item : X) (now text begins : List ℕ) (middles : List (List ℕ)) → ArePartsOf stem tail width count middles text begins → upto < count → count ≤ length items
       → slice_get items upto ≡ Some item → now ≡ value item → length now ≡ width
@@ -298,41 +287,6 @@ module _ {X : Type 0} (value : X → List ℕ) (stem : ℕ → List ℕ) (tail :
       subst (λ (list : List (List ℕ)). ArePartsOf stem tail width count list
       (take (get_or begins (upto + 1) 0 - length tail - width) text ++ (now ++ drop (get_or begins (upto + 1) 0 - length tail) text)) begins)
       (ap (λ (list : List (List ℕ)). ahead ++ (list ++ left)) one ∙ sym (cut now)) put.are
-
-  -- one middle more is passed over, and all before it too
-  skip : (from upto : ℕ) (ahead left : List (List ℕ)) (text begins : List ℕ) → length ahead ≡ from → from ≤ upto → upto < count → count ≤ length items
-      → ArePartsOf stem tail width count (ahead ++ (map value (between from upto items) ++ left)) text begins
-      → IsUnder value stem tail width count items (upto + 1) (upto + 1) text begins
-  skip from upto ahead [] text begins long ordered within enough are =
-      absurd (omega (arith, within, count-left from upto ahead [] long ordered (omega (arith, within)) enough are.long))
-  skip from upto ahead (middle ∷ left) text begins long ordered within enough are =
-      let block = map value (between from upto items) in
-      let passed = ahead ++ (block ++ middle ∷ []) in
-      let none : map value (between (upto + 1) (upto + 1) items) ++ left ≡ left = ap (λ (list : List X). map value list ++ left) (between_none items (upto + 1)) in
-      let all : ahead ++ (block ++ middle ∷ left) ≡ passed ++ (map value (between (upto + 1) (upto + 1) items) ++ left) =
-      moved ahead block left middle ∙ ap (λ (list : List (List ℕ)). passed ++ list) (sym none) in
-      record {
-        ahead = passed;
-        left = left;
-        long = omega (
-          arith,
-          length-append ahead (block ++ middle ∷ []),
-          length-append block (middle ∷ []),
-          length-map (between from upto items) value,
-          length-between items from upto (omega (arith, within, enough)),
-          long,
-          ordered,
-        );
-        ordered = omega arith;
-        are = subst (λ (middles : List (List ℕ)). ArePartsOf stem tail width count middles text begins) all are;
-      }
-    where
-      moved : (a b c : List (List ℕ)) (m : List ℕ) → a ++ (b ++ m ∷ c) ≡ (a ++ (b ++ m ∷ [])) ++ c
-      moved a b c m = simp append_assoc
-
-  pub under-skip : (from upto : ℕ) (text begins : List ℕ) → IsUnder value stem tail width count items from upto text begins → upto < count → count ≤ length items
-      → IsUnder value stem tail width count items (upto + 1) (upto + 1) text begins
-  under-skip from upto text begins under within enough = skip from upto under.ahead under.left text begins under.long under.ordered within enough under.are
 
   -- what the text has from one node up to another
   pub under-text : (from upto : ℕ) (text begins : List ℕ) → IsUnder value stem tail width count items from upto text begins → upto ≤ count → count ≤ length items
@@ -369,19 +323,3 @@ module _ {X : Type 0} (value : X → List ℕ) (stem : ℕ → List ℕ) (tail :
       ) in
       let behind : drop (get_or begins from 0) text ≡ inside ++ after = ap (drop (get_or begins from 0)) text_is ∙ drop_at before (inside ++ after) (get_or begins from 0) (sym first) in
       ap (take (get_or begins upto 0 - get_or begins from 0)) behind ∙ take_at inside after (get_or begins upto 0 - get_or begins from 0) (sym last)
-
-  -- all middles are those of the items
-  pub under-whole : (upto : ℕ) (text begins : List ℕ) → IsUnder value stem tail width count items 0 upto text begins → upto ≡ count → count ≡ length items
-      → ArePartsOf stem tail width count (map value items) text begins
-  under-whole upto text begins under end all =
-      whole upto under.ahead under.left text begins under.long end all under.are
-    where
-      whole : (upto : ℕ) (ahead left : List (List ℕ)) (text begins : List ℕ) → length ahead ≡ 0 → upto ≡ count → count ≡ length items
-          → ArePartsOf stem tail width count (ahead ++ (map value (between 0 upto items) ++ left)) text begins → ArePartsOf stem tail width count (map value items) text begins
-      whole upto (one ∷ ahead) left text begins long end all are = absurd (omega (arith, long))
-      whole upto [] (one ∷ left) text begins long end all are =
-          absurd (omega (arith, count-left 0 upto [] (one ∷ left) refl (omega arith) (omega (arith, end)) (omega (arith, all)) are.long, end))
-      whole upto [] [] text begins long end all are =
-          let every : map value (between 0 upto items) ++ [] ≡ map value items =
-          append-nil (map value (between 0 upto items)) ∙ ap (map value) (between_from_start items upto ∙ take_all upto items (omega (arith, end, all))) in
-          subst (λ (middles : List (List ℕ)). ArePartsOf stem tail width count middles text begins) every are

@@ -80,8 +80,7 @@ AreShown rows shown from upto = (i : ℕ) → from ≤ i → i < upto → (rest 
 -- a line and a word for each node
 pub record IsKept (netlist : Netlist) (kept : Kept) : Type 0 where
   pub rows : AreRowLines netlist kept.rows.text.items kept.rows.begins.items kept.shown
-  pub bits : AreBitParts netlist (length netlist.names) kept.start.text.items
-      kept.start.begins.items
+  pub bits : AreBits netlist kept.bits.items kept.start.text.items kept.start.begins.items
 
 -- whole lines: if there are any, the last one has its end
 abbrev pub AreLines : List ℕ → Type 0

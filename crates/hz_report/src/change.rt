@@ -11,7 +11,7 @@ use crate::plate::Plate;
 use hz_desk::Finding;
 use hz_net::Net;
 use hz_outside::Sink;
-use hz_text::{write_assignments, write_bits, write_end, write_format, write_run, write_variable};
+use hz_text::{write_assignments, write_end, write_format, write_run, write_variable};
 use hz_write::Piece::{Number, Text};
 use hz_write::Writer;
 
@@ -146,8 +146,9 @@ fn write_runs<K: Sink>(writer: &mut Writer<'_, K>, plate: &mut Plate<'_>, findin
 {
     let net = plate.net();
     write_format(writer, net.circuit());
-    plate.write_start(writer, finding.rows.starts());
-    write_bits(writer, net.circuit(), b"input", finding.input.as_slice());
+    let nodes = net.circuit().nodes() as usize;
+    plate.write_bits(writer, b"start", &finding.rows.starts()[..nodes]);
+    plate.write_bits(writer, b"input", finding.input.as_slice());
     write_run(writer, net, &finding.spread, None);
     write_run(writer, net, &finding.settle, Some(&finding.cycle));
     write_end(writer);

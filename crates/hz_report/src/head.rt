@@ -1,11 +1,13 @@
 //! The lines that come once.
-ghost use Rattle.std.specs.Prelude.{◌≡◌, length, take, All};
+ghost use Rattle.std.specs.Prelude.{◌≡◌, ◌+◌, ◌<◌, ◌≤◌, ℕ, ◌++◌, length, take, slice_set, All, IsTrue};
 ghost use Rattle.std.specs.List.{flat_map};
-ghost use Rattle.hz_net.specs.Network.{IsState, IsVariable};
+ghost use Rattle.hz_net.specs.Network.{IsState, IsVariable, bit_at};
 ghost use Rattle.hz_free.specs.FreePart.{IsFreePart};
 ghost use Rattle.hz_write.specs.Writer.{Writes, NoneWaits};
-ghost use Rattle.hz_text.specs.RunPrinted.{spaced_word};
-ghost use Rattle.hz_report.specs.Kept.{AreBitParts, AreBits};
+ghost use Rattle.hz_write.specs.Writes.{newline};
+ghost use Rattle.hz_text.specs.Printed.{letter_of, assignment_text};
+ghost use Rattle.hz_text.specs.RunPrinted.{spaced_word, all_listed};
+ghost use Rattle.hz_report.specs.Kept.{AreBits};
 ghost use Rattle.hz_report.specs.Report.{netlist_line, feedback_line, start_line, head_text};
 
 use hz_free::Free;
@@ -90,7 +92,7 @@ fn write_variables<K: Sink>(writer: &mut Writer<'_, K>, net: &Net, variables: &[
 }
 
 // Gives the value of each node at the start.
-pub(crate) fn write_start<K: Sink>(writer: &mut Writer<'_, K>, net: &Net, start: &[bool])
+fn write_start<K: Sink>(writer: &mut Writer<'_, K>, net: &Net, start: &[bool])
     requires { IsState net.now start.now }
     ensures gave { Writes K.output K.faults (start_line net.now start.now) writer.old writer.new }
     ensures none_waits { NoneWaits writer.new }
@@ -100,34 +102,118 @@ pub(crate) fn write_start<K: Sink>(writer: &mut Writer<'_, K>, net: &Net, start:
     write_bits(writer, circuit, b"start", &start[..nodes]);
 }
 
-// Gives the value of each node at the start, by words that are kept.
-pub(crate) fn write_kept_start<K: Sink>(
+// Gives the words of the first nodes with their bits, by words that are kept, and ends the line.
+pub(crate) fn write_kept_bits<K: Sink>(
     writer: &mut Writer<'_, K>,
     net: &Net,
-    start: &[bool],
+    bits: &[bool],
     text: &mut [u8],
     begins: &[usize],
+    shown: &mut [bool],
 )
-    requires start { IsState net.now start.now }
-    requires kept { AreBitParts net.now (length net.now.names) text.old begins.now }
-    ensures gave { Writes K.output K.faults (start_line net.now start.now) writer.old writer.new }
+    requires bits { length bits.now ≤ length net.now.names }
+    requires kept { AreBits net.now shown.old text.old begins.now }
+    ensures gave { Writes K.output K.faults
+        (flat_map (assignment_text net.now) (all_listed bits.now) ++ newline) writer.old writer.new }
     ensures none_waits { NoneWaits writer.new }
-    ensures kept { AreBitParts net.now (length net.now.names) text.new begins.now }
+    ensures kept { AreBits net.now shown.new text.new begins.now }
 {
-    let nodes = net.circuit().nodes() as usize;
-    set_bits(net, &start[..nodes], text, begins);
-    writer.text(b"start");
-    writer.text(text);
+    set_bits(net, bits, text, begins, shown);
+    writer.text(&text[..begins[bits.len()]]);
     writer.end();
 }
 
-// Writes other bits over those of the words of all nodes.
-fn set_bits(net: &Net, bits: &[bool], text: &mut [u8], begins: &[usize])
-    requires bits { length bits.now ≡ length net.now.names }
-    requires kept { AreBitParts net.now (length net.now.names) text.old begins.now }
-    ensures { AreBits net.now bits.now text.new begins.now }
+// Writes other bits over those of the words of the first nodes. Most bits stay.
+fn set_bits(net: &Net, bits: &[bool], text: &mut [u8], begins: &[usize], shown: &mut [bool])
+    requires bits { length bits.now ≤ length net.now.names }
+    requires kept { AreBits net.now shown.old text.old begins.now }
+    ensures kept { AreBits net.now shown.new text.new begins.now }
+    ensures shown { take (length bits.now) shown.new ≡ bits.now }
 {
-    for (node, bit) in bits.iter().enumerate() {
-        text[begins[node + 1] - 1] = if *bit { b'1' } else { b'0' };
+    let mut from = 0;
+    while from < bits.len() {
+        if sixteen_stay(bits, shown, from) {
+            from += 16;
+            continue;
+        }
+        from = set_some(net, bits, text, begins, shown, from);
     }
+}
+
+// Whether sixteen bits from one on are seen to be those that are shown. It has no branch between two of them.
+#[inline(always)]
+fn sixteen_stay(bits: &[bool], shown: &[bool], from: usize) -> bool
+    requires from { from ≤ length bits.now }
+    requires shown { length bits.now ≤ length shown.now }
+    ensures inside { IsTrue result → from + 16 ≤ length bits.now }
+    ensures stay { IsTrue result → (i : ℕ) → i < 16
+        → bit_at shown.now (from + i) ≡ bit_at bits.now (from + i) }
+{
+    if bits.len() - from < 16 {
+        return false;
+    }
+    let mut same = true;
+    for place in 0..16 {
+        same &= shown[from + place] == bits[from + place];
+    }
+    same
+}
+
+// Writes up to sixteen bits from one place on over those of words, and says where the next ones begin.
+#[inline(always)]
+fn set_some(
+    net: &Net,
+    bits: &[bool],
+    text: &mut [u8],
+    begins: &[usize],
+    shown: &mut [bool],
+    from: usize,
+) -> usize
+    requires bits { length bits.now ≤ length net.now.names }
+    requires from { from < length bits.now }
+    requires kept { AreBits net.now shown.old text.old begins.now }
+    requires so_far { take from shown.old ≡ take from bits.now }
+    ensures kept { AreBits net.now shown.new text.new begins.now }
+    ensures more { from < result }
+    ensures within { result ≤ length bits.now }
+    ensures so_far { take result shown.new ≡ take result bits.now }
+{
+    let to = block_end(from, bits.len());
+    for node in from..to {
+        set_bit(net, node, bits[node], text, begins, shown);
+    }
+    to
+}
+
+// Writes the bit of a node over that of its word, if it is another one.
+#[inline(always)]
+fn set_bit(net: &Net, node: usize, bit: bool, text: &mut [u8], begins: &[usize], shown: &mut [bool])
+    requires node { node < length net.now.names }
+    requires kept { AreBits net.now shown.old text.old begins.now }
+    ensures kept { AreBits net.now shown.new text.new begins.now }
+    ensures shown { shown.new ≡ slice_set shown.old node bit }
+{
+    if shown[node] == bit {
+        return;
+    }
+    text[begins[node + 1] - 1] = letter_of(bit);
+    shown[node] = bit;
+}
+
+// Where up to sixteen places from one on end.
+#[inline(always)]
+fn block_end(from: usize, len: usize) -> usize
+    requires { from < len }
+    ensures more { from < result }
+    ensures within { result ≤ len }
+{
+    if len - from > 16 { from + 16 } else { len }
+}
+
+// The letter of a bit.
+#[inline(always)]
+fn letter_of(bit: bool) -> u8
+    ensures { result ≡ letter_of bit }
+{
+    if bit { b'1' } else { b'0' }
 }

@@ -56,28 +56,39 @@ impl Parts {
     }
 }
 
-/// A line for each node, whose row is a common one, and the words of all nodes in the line of a start.
+/// A line for each node, whose row is a common one, and a word of each node with its bit, as the lines of a start and an input have it.
 #[derive(Drop)]
 pub(crate) struct Kept {
     pub rows: Parts,
     /// What the line of each node shows, if it is that of a node which never changes.
     pub shown: Rests,
     pub start: Parts,
+    /// The bits that these words say.
+    pub bits: Vec<bool>,
 }
 
 impl Kept {
-    // The lines of nodes that stay 0, and the words of a start at which each is 0.
+    // The lines of nodes that stay 0, and words that say that each is 0.
     pub(crate) fn new(alloc: Global, circuit: &Circuit) -> Result<Kept, Memory>
         ensures { IfOk result (IsKept circuit.now) }
     {
         let mut rows = Parts::new(alloc)?;
         let mut start = Parts::new(alloc)?;
+        let mut bits = Vec::new(alloc);
         for node in 0..circuit.nodes() {
             let name = circuit.name(node);
             rows.add(b"", name, b" start 0 A 0 B 0 changes 0 steady\n")?;
             start.add(b" ", name, b"=0")?;
+            let Ok(()) = bits.push(false) else {
+                return Err(Memory);
+            };
         }
         let shown = Rests::none(alloc, circuit.nodes() as usize)?;
-        Ok(Kept { rows, shown, start })
+        Ok(Kept {
+            rows,
+            shown,
+            start,
+            bits,
+        })
     }
 }

@@ -1,10 +1,12 @@
 //! The lines of changes, of which most bytes stay from one change to the next.
-ghost use Rattle.std.specs.Prelude.{◌≡◌, IfOk};
-ghost use Rattle.hz_net.specs.Network.{IsState, AreByVariable};
+ghost use Rattle.std.specs.Prelude.{◌≡◌, ◌≤◌, IfOk, length};
+ghost use Rattle.hz_net.specs.Network.{AreByVariable};
 ghost use Rattle.hz_write.specs.Writer.{Writes, NoneWaits};
-ghost use Rattle.hz_report.specs.Report.{row_lines, shown_rows, start_line};
+ghost use Rattle.hz_text.specs.Printed.{statement_text};
+ghost use Rattle.hz_text.specs.RunPrinted.{all_listed};
+ghost use Rattle.hz_report.specs.Report.{row_lines, shown_rows};
 
-use crate::head::{write_kept_start, write_start};
+use crate::head::write_kept_bits;
 use crate::kept::Kept;
 use crate::rows::{write_kept_rows, write_rows};
 use hz_core::Memory;
@@ -12,6 +14,7 @@ use hz_desk::Rows;
 use hz_net::Net;
 use hz_options::Show;
 use hz_outside::Sink;
+use hz_text::write_bits;
 use hz_write::Writer;
 use std::alloc::Global;
 use std::marker::Model;
@@ -24,7 +27,7 @@ use std::marker::Model;
 pub struct Plate<'n> {
     net: &'n Net,
     show: Show,
-    // A line for each node, and the words of a start. Each takes about 50 bytes and its name twice.
+    // A line and a word for each node. They take about 50 bytes and its name twice.
     kept: Option<Kept>,
 }
 
@@ -80,23 +83,32 @@ impl<'n> Plate<'n> {
         }
     }
 
-    // Gives the value of each node at the start.
-    pub(crate) fn write_start<K: Sink>(&mut self, writer: &mut Writer<'_, K>, start: &[bool])
-        requires { IsState self.old.netlist start.now }
+    // Gives a line that lists the first nodes with their bits.
+    pub(crate) fn write_bits<K: Sink>(
+        &mut self,
+        writer: &mut Writer<'_, K>,
+        keyword: &[u8],
+        bits: &[bool],
+    )
+        requires { length bits.now ≤ length self.old.netlist.names }
         ensures gave { Writes K.output K.faults
-            (start_line self.old.netlist start.now) writer.old writer.new }
+            (statement_text self.old.netlist keyword.now (all_listed bits.now)) writer.old writer.new }
         ensures none_waits { NoneWaits writer.new }
         ensures same { self.new ≡ self.old }
     {
         match &mut self.kept {
-            Some(kept) => write_kept_start(
-                writer,
-                self.net,
-                start,
-                kept.start.text.as_mut_slice(),
-                kept.start.begins.as_slice(),
-            ),
-            None => write_start(writer, self.net, start),
+            Some(kept) => {
+                writer.text(keyword);
+                write_kept_bits(
+                    writer,
+                    self.net,
+                    bits,
+                    kept.start.text.as_mut_slice(),
+                    kept.start.begins.as_slice(),
+                    kept.bits.as_mut_slice(),
+                );
+            }
+            None => write_bits(writer, self.net.circuit(), keyword, bits),
         }
     }
 }
