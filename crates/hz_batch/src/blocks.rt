@@ -71,7 +71,7 @@ pub(crate) fn write_blocks<K: Sink>(
         × (planes.new
         ≡ planes_after (loaded_by work.now.job work.now.patterns.now) planes.old blocks) }
 {
-    let _variables = work.net.len();
+    work.net.keeps_shape();
     for block in 0..work.patterns.count().div_ceil(BLOCK) {
         if writer.has_failed() {
             return;
@@ -128,7 +128,7 @@ fn load(work: &Work<'_>, first: usize, lanes: u32, planes: &mut Planes)
           (take lanes (drop first work.now.patterns.now.patterns));
     } }
 {
-    let _variables = work.net.len();
+    work.net.keeps_shape();
     let bits = work.patterns.bits(first, lanes as usize);
     planes.load_block(work.net, lanes, bits, work.held);
 }

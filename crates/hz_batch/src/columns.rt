@@ -47,7 +47,7 @@ pub(crate) fn keep_values(net: &Net, planes: &Planes, columns: &mut [LaneValues]
     ensures columns { AreColumns net.now planes.now.stage planes.now.lanes net.now.outputs
         columns.new }
 {
-    let _variables = net.len();
+    net.keeps_shape();
     let outputs = net.circuit().outputs();
     for place in 0..outputs.len() {
         columns[place] = planes.values(outputs[place]);

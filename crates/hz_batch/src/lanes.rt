@@ -69,7 +69,7 @@ pub(crate) fn write_lane<K: Sink>(
         writer.old writer.new }
     ensures none_waits { NoneWaits writer.new }
 {
-    let _variables = work.net.len();
+    work.net.keeps_shape();
     match work.job {
         Job::Batch => write_ending(writer, work.net, planes, at, columns, line),
         Job::Reset => write_values(writer, work.net, planes, at, columns, line),
@@ -102,7 +102,7 @@ fn write_ending<K: Sink>(
         × Writes K.output K.faults (ending_line net.now at.number ending) writer.old writer.new }
     ensures none_waits { NoneWaits writer.new }
 {
-    let _variables = net.len();
+    net.keeps_shape();
     match planes.fault(net, at.lane) {
         Some(LaneFault::Open { gate }) => {
             write_refused(writer, net.circuit(), at.number, b" open ", gate);
@@ -145,7 +145,7 @@ fn write_values<K: Sink>(
         (ending_line net.now at.number (PatternEnd.Settled first settled)) writer.old writer.new }
     ensures none_waits { NoneWaits writer.new }
 {
-    let _variables = net.len();
+    net.keeps_shape();
     set_line(net, columns, at.lane, line);
     line.write(writer, at.number);
     let stays = planes.is_unsettled(at.lane);

@@ -104,7 +104,7 @@ fn write_text<K: Sink>(
         × (planes.new ≡ planes_after (loaded_by job patterns.now) planes.old blocks) }
 {
     laws_hold();
-    let _variables = net.len();
+    net.keeps_shape();
     let Ok(held) = held_at_start(alloc, job, patterns.held()) else {
         return Err(PutFault::Memory);
     };

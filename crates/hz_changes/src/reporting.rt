@@ -102,8 +102,8 @@ fn write_changes<K: Sink>(
         writer.new }
     ensures none_waits { NoneWaits writer.old → NoneWaits writer.new }
 {
-    // A getter of the network says that its circuit is whole, and the law, that the changes which are left out have findings.
-    let _variables = plate.net().len();
+    // The law says that the changes which are left out have findings.
+    plate.net().keeps_shape();
     findings_exist();
     for number in 0..script.changes() {
         if writer.has_failed() {

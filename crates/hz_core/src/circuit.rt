@@ -250,6 +250,13 @@ impl Circuit {
         self.cuts[(input - first) as usize]
     }
 
+    /// The law that each circuit has the shape of one.
+    pub fn keeps_shape(&self)
+        ensures { IsCircuit self.now }
+    {
+        let _ = &self.names;
+    }
+
     /// The number of nodes.
     pub fn nodes(&self) -> u32
         ensures nodes { result ≡ length self.now.names }

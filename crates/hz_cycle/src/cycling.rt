@@ -58,8 +58,7 @@ pub fn cycle_in_order(
     ensures marked { scratch.new.marked ≡ [] }
     ensures room { Spends run.old run.new }
 {
-    // A getter of the network says that its circuit is one.
-    let _variables = net.len();
+    net.keeps_shape();
     make_pass(net, rank, b, scratch, run);
     // If no gate had a turn, none has one in a second pass.
     if run.steps() == 0 {

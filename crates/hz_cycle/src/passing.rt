@@ -29,8 +29,7 @@ pub(crate) fn make_pass(net: &Net, rank: &[u32], b: &[Tri], scratch: &mut Scratc
     ensures sorted { IsInKeyOrder rank.now scratch.new.sorted }
     ensures room { Spends run.old run.new }
 {
-    // A getter of the network says that its circuit is one.
-    let _variables = net.len();
+    net.keeps_shape();
     for place in 0..scratch.sorted().len() {
         let var = scratch.sorted()[place];
         if has_turn(net, b, var) {

@@ -101,8 +101,7 @@ pub fn settle_from(change: &Change, results: &Results, scratch: &mut Scratch, ru
     ensures goes_on { (made : List (List ℕ)) × (run.new.steps ≡ run.old.steps ++ made) }
     ensures room { Spends run.old run.new }
 {
-    // A getter of the network says that its circuit is one.
-    let _variables = change.net.len();
+    change.net.keeps_shape();
     settle_rounds(results.when, results.b, scratch, run);
     make_pass(change.net, results.ranks, results.b, scratch, run);
 }

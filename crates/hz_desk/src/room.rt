@@ -62,8 +62,7 @@ impl<'n> Room<'n> {
             (finding_of self.new.finding) }
         ensures room { IsRoomFor net.now self.new }
     {
-        // A getter of the network says that its circuit is one.
-        let _variables = net.len();
+        net.keeps_shape();
         filled_is_right();
         let change = Change { net, start, input };
         let rounds = fill_rows(
@@ -119,8 +118,8 @@ fn fill_rows(change: &Change, free: &Free, cap: u64, passes: &mut Passes, rows: 
     ensures passes { HavePassRoom change.now.net.now passes.new }
     ensures rows { AreRowsOfChange (network_of change.now.net.now) change.now.input.now change.now.start.now cap rows.new }
 {
-    // A getter of the network says that its circuit is one; the law says which words have a change.
-    let _variables = change.net.len();
+    // The law says which words have a change.
+    change.net.keeps_shape();
     words_change();
     rows.start.as_mut_slice().copy_from_slice(change.start);
     let rounds = passes.make(change, rows.a.as_mut_slice(), rows.b.as_mut_slice());

@@ -42,8 +42,8 @@ pub(crate) fn make_runs(
     ensures settle_room { HasRunRoom (2 * length (network_of change.now.net.now)) settle.new }
     ensures cycle_room { HasRunRoom (4 * length (network_of change.now.net.now)) cycle.new }
 {
-    // A getter of the network says its bound; the steps are given by how often each variable changes.
-    let _variables = change.net.len();
+    // The steps are given by how often each variable changes.
+    change.net.keeps_shape();
     run_counts();
     spread_flips();
     make_spread(change, results.a, results.ranks, scratch, spread, settle);

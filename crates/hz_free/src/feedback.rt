@@ -28,7 +28,7 @@ pub(crate) fn find_feedback(alloc: Global, net: &Net, free: &[bool]) -> Result<F
     ensures { IfOk result
         (λ feedback. AreFeedback (network_of net.now) feedback.cycles feedback.cores.items) }
 {
-    let _variables = net.len();
+    net.keeps_shape();
     if are_all_free(free) {
         return Ok(no_feedback(alloc));
     }
@@ -116,7 +116,7 @@ fn choose(net: &Net, free: &[bool], var: u32) -> Link
     ensures { MatchOption result (IsFeedbackFree (network_of net.now) var)
         (IsChoice (network_of net.now) var) }
 {
-    let _variables = net.len();
+    net.keeps_shape();
     if free[var as usize] {
         return Link::none();
     }

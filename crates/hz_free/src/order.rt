@@ -30,7 +30,7 @@ fn count_readers(net: &Net, var: u32, unread: &mut [u32])
     requires reads { AreReads (readers_of net.now) (length (network_of net.now)) var [] unread.old }
     ensures { AreReads (readers_of net.now) (length (network_of net.now)) (var + 1) [] unread.new }
 {
-    let _variables = net.len();
+    net.keeps_shape();
     for reader in net.readers(var) {
         unread[*reader as usize] += 1;
     }

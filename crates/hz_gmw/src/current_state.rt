@@ -431,7 +431,7 @@ pub(crate) fn kind_at(net: &Net, var: u32) -> VarKind
     ensures circuit { IsCircuit net.now }
     ensures bound { length (network_of net.now) ≤ most_variables }
 {
-    let _variables = net.len();
+    net.keeps_shape();
     net.kind_of(var)
 }
 

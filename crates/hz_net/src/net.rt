@@ -56,6 +56,16 @@ impl Net {
         })
     }
 
+    /// The law that a network keeps the shape of its circuit: each gate has a pin and reads nodes, and there are no more variables
+    /// than a circuit may have.
+    pub fn keeps_shape(&self)
+        ensures circuit { IsCircuit self.now }
+        ensures whole { IsWhole self.now }
+        ensures bound { length (network_of self.now) ≤ most_variables }
+    {
+        let _ = &self.circuit;
+    }
+
     /// The circuit that the network was built from.
     pub fn circuit(&self) -> &Circuit
         ensures same { result.now ≡ self.now }

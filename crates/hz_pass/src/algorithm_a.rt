@@ -86,7 +86,7 @@ pub fn spread_stable<L: Ledger>(
     ensures least_steps { steps.old + differing_count (map tri_of start.now) out.new ≤ steps.new }
     ensures most_steps { steps.new ≤ steps.old + (net.now.inputs + 2 * length (wires_of net.now)) }
 {
-    let _variables = net.len();
+    net.keeps_shape();
     let inputs = net.circuit().inputs();
     write_bits(start, out);
     let pass = Pass {

@@ -40,7 +40,7 @@ pub fn complete(alloc: Global, net: &Net, listed: &[Option<bool>]) -> Result<Vec
     let Ok(values) = forced_values(alloc, net, listed) else {
         return Err(StartFault::Memory);
     };
-    let _variables = net.len();
+    net.keeps_shape();
     if let Some(node) = least_open(net, values.as_slice()) {
         return Err(StartFault::Open { gate: node });
     }

@@ -50,7 +50,7 @@ impl Pass<'_> {
         ensures most_steps { steps.new
             ≤ steps.old + (self.now.first + 2 * length (wires_of self.now.net.now)) }
     {
-        let _variables = self.net.len();
+        self.net.keeps_shape();
         work.copy_from_slice(state);
         forget(noted);
         let round = Round {

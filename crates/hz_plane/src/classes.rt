@@ -132,7 +132,7 @@ fn file_first(net: &Net, waits: &mut [u32], ready: &mut [Vec<u32>]) -> Result<()
     requires waits { AreByVariable net.now waits.old }
     requires ready { length ready.old ≡ 24 }
 {
-    let _variables = net.len();
+    net.keeps_shape();
     let circuit = net.circuit();
     for gate in circuit.inputs()..circuit.nodes() {
         let pins = pins_on_gates(circuit.sources(gate), circuit.inputs());
@@ -178,7 +178,7 @@ fn tell_readers(
     requires waits { AreByVariable net.now waits.old }
     requires ready { length ready.old ≡ 24 }
 {
-    let _variables = net.len();
+    net.keeps_shape();
     for wire in net.readers(gate) {
         tell_gates(net, *wire, waits, ready)?;
     }

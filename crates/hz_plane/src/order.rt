@@ -14,7 +14,7 @@ pub(crate) fn order_gates(alloc: Global, net: &Net) -> Result<Vec<u32>, Memory>
     ensures few { IfOk result (λ order. length order.items < 2 ^ 32) }
 {
     let circuit = net.circuit();
-    let _variables = net.len();
+    net.keeps_shape();
     let mut placed = vec![in alloc; false; circuit.nodes() as usize]?;
     let mut order = Vec::new(alloc);
     place_by_class(alloc, net, placed.as_mut_slice(), &mut order)?;
@@ -31,7 +31,7 @@ fn order_by_search(alloc: Global, net: &Net) -> Result<Vec<u32>, Memory>
     ensures few { IfOk result (λ order. length order.items < 2 ^ 32) }
 {
     let nodes = net.circuit().nodes() as usize;
-    let _variables = net.len();
+    net.keeps_shape();
     let mut seen = vec![in alloc; false; nodes]?;
     let mut placed = vec![in alloc; false; nodes]?;
     let mut stack = Vec::new(alloc);

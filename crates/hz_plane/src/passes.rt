@@ -265,7 +265,7 @@ fn settle_forward(net: &Net, schedule: &Schedule, inputs: &[[u64; 8]], values: &
         → (last : List Tri) × HasLane values.new lane last
         × AreAllOf netlist (algorithm_b (network_of netlist) input first rest) last }
 {
-    let _variables = net.len();
+    net.keeps_shape();
     set_inputs(inputs, values);
     evaluate_all(net, schedule, values);
 }

@@ -115,7 +115,7 @@ impl Planes {
               (Some (record { input = input.now; listed = listed.now }));
         } }
     {
-        let _circuit = net.circuit();
+        net.keeps_shape();
         self.loads.load(lane, input, listed);
     }
 
@@ -142,7 +142,7 @@ impl Planes {
           }));
         } }
     {
-        let _circuit = net.circuit();
+        net.keeps_shape();
         self.loads.load_held(lane, input, first, held);
     }
 
@@ -159,7 +159,7 @@ impl Planes {
           lanes = block_loads (length net.now.names) net.now.inputs held.now lanes bits.now;
         } }
     {
-        let _circuit = net.circuit();
+        net.keeps_shape();
         self.stage = Stage::Loading;
         self.loads.load_block(lanes, bits, held);
     }
@@ -170,7 +170,7 @@ impl Planes {
         requires stage { self.old.stage ≡ Loading }
         ensures { self.new ≡ record self.old { stage = Completed } }
     {
-        let _circuit = net.circuit();
+        net.keeps_shape();
         let no_gates = self.loads.lists_no_gate();
         let are_evaluated = fill(
             net,
@@ -198,7 +198,7 @@ impl Planes {
         ensures { (loaded : Loaded) → slice_get self.now.lanes lane ≡ Some (Some loaded)
             → IsLaneFault net.now loaded.listed result }
     {
-        let _circuit = net.circuit();
+        net.keeps_shape();
         self.faults[lane as usize]
     }
 
@@ -208,7 +208,7 @@ impl Planes {
         requires stage { self.old.stage ≡ Completed }
         ensures { self.new ≡ record self.old { stage = Spread } }
     {
-        let _circuit = net.circuit();
+        net.keeps_shape();
         spread(
             net,
             &self.schedule,
@@ -227,7 +227,7 @@ impl Planes {
             ≡ record self.old
             { stage = Settled; settles = min (self.old.settles + 1) (2 ^ 64 - 1) } }
     {
-        let _circuit = net.circuit();
+        net.keeps_shape();
         let are_evaluated = settle(
             net,
             &self.schedule,

@@ -110,7 +110,7 @@ fn all_readers(
     ensures { IfOk result
         (λ lists. IsOrder net.now order.now (map (λ list. list.items) lists.items)) }
 {
-    let _circuit = net.circuit();
+    net.keeps_shape();
     let mut lists = Vec::with_capacity(alloc, order.len())?;
     for place in 0..order.len() {
         let list = copy_of(alloc, by_node.at(order[place] as usize))?;
@@ -139,7 +139,7 @@ fn all_back(alloc: Global, net: &Net, order: &[u32], readers: &Lists) -> Result<
     ensures { IfOk result
         (λ lists. IsBack net.now order.now (map (λ list. list.items) lists.items)) }
 {
-    let _circuit = net.circuit();
+    net.keeps_shape();
     let mut lists = Vec::with_capacity(alloc, order.len())?;
     for place in 0..order.len() {
         let list = places_up_to(alloc, place, readers.at(order[place] as usize))?;

@@ -367,6 +367,6 @@ fn excitation(net: &Net, gate: u32, kind: Kind, sources: &[u32], planes: &[Pair]
     requires sources { sources.now ≡ (gate_at net.now gate).sources }
     ensures { result ≡ gate_pair net.now planes.now gate }
 {
-    let _circuit = net.circuit();
+    net.keeps_shape();
     excited(kind, sources, planes)
 }

@@ -90,8 +90,7 @@ pub fn spread_in_order(
     ensures sorted { IsInKeyOrder rank.now scratch.new.sorted }
     ensures room { Spends run.old run.new }
 {
-    // A getter of the network says that its circuit is one.
-    let _variables = change.net.len();
+    change.net.keeps_shape();
     sparing_in_order(change, a, rank, scratch, run);
     if !keep_unused {
         mark_unchanged(change.net, change.start, a, scratch);
@@ -126,8 +125,7 @@ pub fn sparing_in_order(
     ensures sorted { IsInKeyOrder rank.now scratch.new.sorted }
     ensures room { Spends run.old run.new }
 {
-    // A getter of the network says that its circuit is one.
-    let _variables = change.net.len();
+    change.net.keeps_shape();
     scratch.begin(change.start);
     mark_inputs(change.net, change.start, change.input, scratch);
     scratch.step(run);
@@ -152,8 +150,7 @@ pub fn add_unused(net: &Net, start: &[bool], a: &[Tri], scratch: &mut Scratch, r
     ensures room { Spends run.old run.new }
     ensures same { scratch.new ≡ scratch.old }
 {
-    // A getter of the network says that its circuit is one.
-    let _variables = net.len();
+    net.keeps_shape();
     mark_unchanged(net, start, a, scratch);
     scratch.list_step(run);
 }

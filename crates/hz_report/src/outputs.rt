@@ -46,7 +46,7 @@ impl<'c> OutputLine<'c> {
               values = map (λ _. (Unknown, Unknown)) circuit.now.outputs;
             }) }
     {
-        let _nodes = circuit.nodes();
+        circuit.keeps_shape();
         let mut text = vec![in alloc; b' '; MAX_DIGITS]?;
         let mut places = Vec::new(alloc);
         for node in circuit.outputs() {

@@ -60,7 +60,7 @@ impl Reset {
         requires held { length held.now ≡ length net.now.names }
         ensures { self.new ≡ unknown_start (network_of net.now) held.now }
     {
-        let _variables = net.len();
+        net.keeps_shape();
         hold(held, self.values.as_mut_slice());
     }
 

@@ -119,7 +119,7 @@ impl<'n> Sequence<'n> {
         if let Some(var) = self.stopped {
             return Err(Stopped { var });
         }
-        let _variables = self.desk.net().len();
+        self.desk.net().keeps_shape();
         write_input(self.start.as_slice(), change, self.input.as_mut_slice());
         self.desk
             .change(self.start.as_slice(), self.input.as_slice(), cap);

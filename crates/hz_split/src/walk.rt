@@ -71,8 +71,7 @@ impl<'n> Walk<'n> {
         requires { IsVariable self.old.circuit var }
         ensures { self.new ≡ follower_after self.old (var ∷ []) }
     {
-        // A getter of the network says that its circuit is one.
-        let _variables = self.net.len();
+        self.net.keeps_shape();
         self.state[var as usize] = !self.state[var as usize];
         look_at(
             self.net,

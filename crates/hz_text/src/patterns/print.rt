@@ -51,7 +51,7 @@ fn write_patterns<K: Sink>(
     ensures wrote { Wrote K.output K.faults (patterns_text circuit.now patterns.now) out.old out.new
         result }
 {
-    let _nodes = circuit.nodes();
+    circuit.keeps_shape();
     let mut writer = Writer::new(out);
     write_hold(&mut writer, circuit, patterns.held());
     write_all(&mut writer, patterns);

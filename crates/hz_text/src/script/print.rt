@@ -41,7 +41,7 @@ fn write_script<K: Sink>(out: &mut K, circuit: &Circuit, script: &Script) -> Res
     ensures wrote { Wrote K.output K.faults
         (script_text circuit.now script.now) out.old out.new result }
 {
-    let _nodes = circuit.nodes();
+    circuit.keeps_shape();
     let mut writer = Writer::new(out);
     write_start(&mut writer, circuit, script.start());
     write_changes(&mut writer, circuit, script);

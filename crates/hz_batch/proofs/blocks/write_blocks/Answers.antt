@@ -18,7 +18,7 @@ pub returns-then-has_failed-clause-gave : goal.returns-then-has_failed-clause-ga
 returns-then-has_failed-clause-gave g c =
     let failed = sym c.has_failed.ensures ∙ c.if-has_failed.true in
     let lines = written-cut g.K.Sink.output g.K.Sink.faults c.args.work.now.job c.args.work.now.net.now c.args.work.now.patterns.now (c.loop-block.block * 512) c.args.writer.now c.loop-block.writer no_counts c.loop-block.room.counts
-    c.requires.laws c.len-variables.ensures.circuit c.len-variables.ensures.whole c.requires.work.patterns failed c.loop-block.invariant.0 in
+    c.requires.laws c.keeps_shape.ensures.circuit c.keeps_shape.ensures.whole c.requires.work.patterns failed c.loop-block.invariant.0 in
     (lines.endings, lines.are_endings, lines.lines, λ fine. absurd (not-both failed fine))
 
 pub write_block-requires-clause-counts : goal.write_block-requires-clause-counts

@@ -18,8 +18,8 @@ returns-in-Some-Unstable-clause-gave g c =
 pub returns-in-None-clause-gave : goal.returns-in-None-clause-gave
 returns-in-None-clause-gave g c =
     λ loaded there.
-    let circuit = c.len-variables.ensures.circuit in
-    let whole = c.len-variables.ensures.whole in
+    let circuit = c.keeps_shape.ensures.circuit in
+    let whole = c.keeps_shape.ensures.whole in
     let found = results c.args.net.now loaded c.is_unsettled.result c.requires.a_exists c.requires.b_exists (c.in-None.ensures loaded there) (c.is_unsettled.ensures.start c.args.net.now loaded circuit whole c.requires.net there) in
     let kept : HasColumns c.args.net.now.outputs c.args.columns.now.firsts.items c.args.at.lane found.a =
     λ place inside. first-of-a c.args.net.now loaded (get_or c.args.net.now.outputs place 0) (in_lane c.args.columns.now.firsts.items c.args.at.lane place) found.a found.b

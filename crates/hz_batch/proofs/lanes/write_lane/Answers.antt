@@ -35,6 +35,6 @@ returns-in-Reset-clause-gave g c =
     let loaded : Loaded = record { input = pattern.to; listed = listing_of (no_gate held) pattern } in
     let here : slice_get c.args.planes.now.lanes c.args.at.lane ≡ Some (Some loaded) =
     subst (λ (job : Job). slice_get c.args.planes.now.lanes c.args.at.lane ≡ Some (load_of (held_by job held) pattern)) c.in-Reset.is there in
-    let found = brought-about netlist c.args.work.now.patterns.now pattern c.requires.laws c.len-variables.ensures.circuit c.len-variables.ensures.whole c.requires.work.patterns right in
+    let found = brought-about netlist c.args.work.now.patterns.now pattern c.requires.laws c.keeps_shape.ensures.circuit c.keeps_shape.ensures.whole c.requires.work.patterns right in
     let said = c.write_values.ensures.gave loaded found.first found.second here found.filled found.settles in
     rw c.in-Reset.is (Settled found.first found.second, found.is, said.0, said.1)

@@ -8,8 +8,8 @@ use Rattle.hz_batch.proofs.lanes.write_values.Goals as goal
 pub returns-clause-gave : goal.returns-clause-gave
 returns-clause-gave g c =
     λ loaded first settled there filled settles.
-    let circuit = c.len-variables.ensures.circuit in
-    let whole = c.len-variables.ensures.whole in
+    let circuit = c.keeps_shape.ensures.circuit in
+    let whole = c.keeps_shape.ensures.whole in
     let kept : HasColumns c.args.net.now.outputs c.args.columns.now.firsts.items c.args.at.lane first =
     λ place inside. (c.requires.columns.firsts place inside c.args.at.lane loaded c.requires.lane there).1 first filled in
     let told : HasColumns c.args.net.now.outputs c.args.columns.now.seconds.items c.args.at.lane settled =

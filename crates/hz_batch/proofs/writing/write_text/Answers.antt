@@ -7,16 +7,16 @@ use Rattle.hz_batch.proofs.writing.write_text.Goals as goal
 
 pub held_at_start-requires : goal.held_at_start-requires
 held_at_start-requires g c =
-    few-nodes c.args.net.now (length c.held.result.now) c.len-variables.ensures.circuit (ap (λ (list : List (Option Bool)). length list) c.held.ensures ∙ c.requires.patterns.nodes)
+    few-nodes c.args.net.now (length c.held.result.now) c.keeps_shape.ensures.circuit (ap (λ (list : List (Option Bool)). length list) c.held.ensures ∙ c.requires.patterns.nodes)
 
 pub returns-in_default-clause-wrote : goal.returns-in_default-clause-wrote
 returns-in_default-clause-wrote g c =
-    let exists = text-exists c.args.job c.args.net.now c.args.patterns.now c.laws_hold.ensures c.len-variables.ensures.circuit c.len-variables.ensures.whole c.requires.patterns in
+    let exists = text-exists c.args.job c.args.net.now c.args.patterns.now c.laws_hold.ensures c.keeps_shape.ensures.circuit c.keeps_shape.ensures.whole c.requires.patterns in
     (exists.0, exists.1, stops-nothing g.K.Sink.output g.K.Sink.faults exists.0 c.args.out.now)
 
 pub returns-in_default-room_for-clause-wrote : goal.returns-in_default-room_for-clause-wrote
 returns-in_default-room_for-clause-wrote g c =
-    let exists = text-exists c.args.job c.args.net.now c.args.patterns.now c.laws_hold.ensures c.len-variables.ensures.circuit c.len-variables.ensures.whole c.requires.patterns in
+    let exists = text-exists c.args.job c.args.net.now c.args.patterns.now c.laws_hold.ensures c.keeps_shape.ensures.circuit c.keeps_shape.ensures.whole c.requires.patterns in
     (exists.0, exists.1, stops-nothing g.K.Sink.output g.K.Sink.faults exists.0 c.args.out.now)
 
 pub returns-clause-wrote : goal.returns-clause-wrote

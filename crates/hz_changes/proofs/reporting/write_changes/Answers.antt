@@ -76,7 +76,7 @@ returns-then-has_failed-clause-gave g c =
     let start = c.args.sequence.now.start in
     let so_far = c.loop-number.invariant in
     let has : HasFindings netlist c.args.cap = λ begin input stable long.
-    c.findings_exist.ensures netlist input begin c.args.cap c.requires.circuit (rw c.net.ensures at c.len-variables.ensures.whole) stable in
+    c.findings_exist.ensures netlist input begin c.args.cap c.requires.circuit (rw c.net.ensures at c.keeps_shape.ensures.whole) stable in
     let rest = with-later netlist c.args.cap c.requires.circuit has start (take number changes) (drop number changes) so_far.0 c.loop-number.sequence so_far.1 in
     let whole : take number changes ++ drop number changes ≡ changes = take-append-drop number changes in
     let failed : is_some c.loop-number.writer.fault ≡ true = sym c.has_failed.ensures ∙ c.if-has_failed.true in

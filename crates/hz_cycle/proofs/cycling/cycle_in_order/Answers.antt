@@ -9,7 +9,7 @@ use Rattle.hz_cycle.proofs.cycling.cycle_in_order.Goals as goal
 
 pub make_pass-requires : goal.make_pass-requires
 make_pass-requires c =
-    let change = of-change c.requires.change c.len-variables.ensures.circuit in
+    let change = of-change c.requires.change c.keeps_shape.ensures.circuit in
     record {
       given = fixed-and-ranked change;
       begins = turned-may-begin c.requires.turned;
@@ -21,7 +21,7 @@ make_pass-requires c =
 
 pub make_pass-requires-2 : goal.make_pass-requires-2
 make_pass-requires-2 c =
-    let change = of-change c.requires.change c.len-variables.ensures.circuit in
+    let change = of-change c.requires.change c.keeps_shape.ensures.circuit in
     let once = c.make_pass.ensures.pass.pass c.args.input.now (change-fixed change) in
     record {
       given = fixed-and-ranked change;
@@ -33,33 +33,33 @@ make_pass-requires-2 c =
 
 pub returns-clause-cycle : goal.returns-clause-cycle
 returns-clause-cycle c =
-    let fixed = change-fixed (of-change c.requires.change c.len-variables.ensures.circuit) in
+    let fixed = change-fixed (of-change c.requires.change c.keeps_shape.ensures.circuit) in
     let once = c.make_pass.ensures.pass in
     let again = c.make_pass-2.ensures.pass in
     let whole : c.make_pass-2.new.run.steps ≡ once.made ++ again.made =
     again.whole ∙ ap (λ (list : List (List ℕ)). list ++ again.made) (once.whole ∙ ap (λ (list : List (List ℕ)). list ++ once.made) c.requires.run.empty) in
     subst (IsCycleOf (network_of c.args.net.now) c.args.input.now c.args.b.now c.args.scratch.now.state) (sym whole)
-    (cycle-found (wired-network_of c.args.net.now c.len-variables.ensures.circuit) fixed c.requires.turned (once.pass c.args.input.now fixed) (again.pass c.args.input.now fixed))
+    (cycle-found (wired-network_of c.args.net.now c.keeps_shape.ensures.circuit) fixed c.requires.turned (once.pass c.args.input.now fixed) (again.pass c.args.input.now fixed))
 
 pub returns-clause-state : goal.returns-clause-state
 returns-clause-state c =
-    let fixed = change-fixed (of-change c.requires.change c.len-variables.ensures.circuit) in
-    returned (wired-network_of c.args.net.now c.len-variables.ensures.circuit) fixed c.requires.turned
+    let fixed = change-fixed (of-change c.requires.change c.keeps_shape.ensures.circuit) in
+    returned (wired-network_of c.args.net.now c.keeps_shape.ensures.circuit) fixed c.requires.turned
     (c.make_pass.ensures.pass.pass c.args.input.now fixed) (c.make_pass-2.ensures.pass.pass c.args.input.now fixed)
 
 -- If the first pass has no step, it is the second one too.
 pub returns-then-steps-eq0-clause-cycle : goal.returns-then-steps-eq0-clause-cycle
 returns-then-steps-eq0-clause-cycle c =
-    let fixed = change-fixed (of-change c.requires.change c.len-variables.ensures.circuit) in
+    let fixed = change-fixed (of-change c.requires.change c.keeps_shape.ensures.circuit) in
     let once = c.make_pass.ensures.pass in
     let pass = once.pass c.args.input.now fixed in
     let empty : c.make_pass.new.run.steps ≡ [] = nil_from_length c.make_pass.new.run.steps (sym c.steps.ensures ∙ c.if-steps-eq0.true) in
     let none : once.made ≡ [] = ap (λ (list : List (List ℕ)). list ++ once.made) (sym c.requires.run.empty) ∙ (sym once.whole ∙ empty) in
-    cycle-rests c.make_pass.new.run.steps (wired-network_of c.args.net.now c.len-variables.ensures.circuit) fixed c.requires.turned pass none empty
+    cycle-rests c.make_pass.new.run.steps (wired-network_of c.args.net.now c.keeps_shape.ensures.circuit) fixed c.requires.turned pass none empty
 
 pub returns-then-steps-eq0-clause-state : goal.returns-then-steps-eq0-clause-state
 returns-then-steps-eq0-clause-state c =
-    let fixed = change-fixed (of-change c.requires.change c.len-variables.ensures.circuit) in
+    let fixed = change-fixed (of-change c.requires.change c.keeps_shape.ensures.circuit) in
     let once = c.make_pass.ensures.pass in
     let empty : c.make_pass.new.run.steps ≡ [] = nil_from_length c.make_pass.new.run.steps (sym c.steps.ensures ∙ c.if-steps-eq0.true) in
     let none : once.made ≡ [] = ap (λ (list : List (List ℕ)). list ++ once.made) (sym c.requires.run.empty) ∙ (sym once.whole ∙ empty) in

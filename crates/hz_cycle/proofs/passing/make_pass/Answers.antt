@@ -7,7 +7,7 @@ use Rattle.hz_cycle.proofs.passing.make_pass.Goals.{then-has_turn, else-has_turn
 
 pub loop-place-init : goal.loop-place-init
 loop-place-init c = record {
-  at = passing-begin c.len-variables.ensures.circuit c.requires.given c.requires.begins c.requires.room c.requires.sorted c.requires.scratch.none_marked refl;
+  at = passing-begin c.keeps_shape.ensures.circuit c.requires.given c.requires.begins c.requires.room c.requires.sorted c.requires.scratch.none_marked refl;
   end = ap (length {A = ℕ}) c.sorted-place-end.ensures;
 }
 
@@ -51,7 +51,7 @@ pub returns : goal.returns
 returns c =
     let at = c.loop-place.invariant.at in
     record {
-      pass = passing-end c.len-variables.ensures.circuit c.requires.given at (omega (arith, c.loop-place-test.false, c.loop-place.invariant.end));
+      pass = passing-end c.keeps_shape.ensures.circuit c.requires.given at (omega (arith, c.loop-place-test.false, c.loop-place.invariant.end));
       marked = at.marked;
       sorted = at.sorted;
       room = at.spent;

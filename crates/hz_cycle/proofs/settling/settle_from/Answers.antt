@@ -9,7 +9,7 @@ use Rattle.hz_cycle.proofs.settling.settle_from.Goals as goal
 
 pub settle_rounds-requires : goal.settle_rounds-requires
 settle_rounds-requires c =
-    let change = of-both c.len-variables.ensures.circuit c.requires.change in
+    let change = of-both c.keeps_shape.ensures.circuit c.requires.change in
     let begins = c.requires.change.of_a.begins in
     let state = sym (ap (length {A = Bool}) c.requires.state ∙ (length-end_of c.args.change.now.start.now c.args.run.now.steps ∙ begins.long)) in
     let room = rounds-room c.requires.begun (record { flips = c.requires.room_for_flips; steps = c.requires.room_for_steps }) in
@@ -24,7 +24,7 @@ settle_rounds-requires c =
 
 pub make_pass-requires : goal.make_pass-requires
 make_pass-requires c =
-    let change = of-both c.len-variables.ensures.circuit c.requires.change in
+    let change = of-both c.keeps_shape.ensures.circuit c.requires.change in
     let before = before-pass c.requires.change.of_a.begins change c.requires.change.settling c.requires.begun c.requires.state (c.settle_rounds.ensures.rounds.settling _ _ _) in
     record {
       given = fixed-and-ranked change;
@@ -37,7 +37,7 @@ make_pass-requires c =
 
 pub returns : goal.returns
 returns c =
-    let change = of-both c.len-variables.ensures.circuit c.requires.change in
+    let change = of-both c.keeps_shape.ensures.circuit c.requires.change in
     let rounds = c.settle_rounds.ensures.rounds in
     let before = before-pass c.requires.change.of_a.begins change c.requires.change.settling c.requires.begun c.requires.state (rounds.settling _ _ _) in
     let passed = c.make_pass.ensures.pass in

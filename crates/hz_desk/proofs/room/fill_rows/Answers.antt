@@ -51,7 +51,7 @@ returns c =
     let passed = c.make-rounds.ensures.passed in
     let may : MayBeRows (length net) start a b words =
     may-be-rows c.words_change.ensures netlist c.args.free.now.free input start c.args.cap a passes.ranks.items b passes.when.items rounds.a rounds.b words
-    c.len-variables.ensures.circuit c.len-variables.ensures.whole c.requires.free.marks c.requires.start passed c.words_given_a.ensures in
+    c.keeps_shape.ensures.circuit c.keeps_shape.ensures.whole c.requires.free.marks c.requires.start passed c.words_given_a.ensures in
     record {
       passed = subst (λ (rows : List Row). ArePassResults netlist input start (values_a rows) passes.ranks.items (values_b rows) passes.when.items rounds.a rounds.b) (sym same)
           (results-in-rows start a b words (length net) may netlist input passes.ranks.items passes.when.items rounds.a rounds.b passed);

@@ -49,10 +49,10 @@ returns-clause-runs c =
     let spread = c.make_spread.ensures.spread in
     let settle = c.settle_from.ensures.run in
     let cycle = c.cycle_in_order.ensures.cycle in
-    let few = c.len-variables.ensures.bound in
+    let few = c.keeps_shape.ensures.bound in
     are-runs c.run_counts.ensures.steps c.spread_flips.ensures (network_of c.args.change.now.net.now) c.args.change.now.input.now c.args.change.now.start.now c.args.results.now.a.now c.args.results.now.b.now
     c.make_spread.new.spread.steps c.settle_from.new.run.steps c.cycle_in_order.new.run.steps
-    (omega (arith, few, c.len-variables.ensures.len))
+    (omega (arith, few))
     (long-a c.args.change.now.net.now c.args.change.now.input.now c.args.change.now.start.now c.args.results.now.a.now c.args.results.now.ranks.now c.args.results.now.b.now c.args.results.now.when.now passed.0 passed.1 c.requires.start passed.2)
     (long-b c.args.change.now.net.now c.args.change.now.input.now c.args.change.now.start.now c.args.results.now.a.now c.args.results.now.ranks.now c.args.results.now.b.now c.args.results.now.when.now passed.0 passed.1 c.requires.start passed.2)
     spread settle (rw c.settle_from.ensures.state at cycle)

@@ -16,11 +16,11 @@ returns-then-are_all_free c =
 pub find_cycles-requires-clause-links : goal.find_cycles-requires-clause-links
 find_cycles-requires-clause-links c =
     rw c.as_slice.ensures.value
-    (choices-AreLinks (network_of c.args.net.now) c.in_ok-choices.choices.items (wired-network_of c.args.net.now c.len-variables.ensures.circuit) c.in_ok-choices.ensures)
+    (choices-AreLinks (network_of c.args.net.now) c.in_ok-choices.choices.items (wired-network_of c.args.net.now c.keeps_shape.ensures.circuit) c.in_ok-choices.ensures)
 
 pub returns : goal.returns
 returns c =
     let choices = rw (sym c.as_slice.ensures.value) at c.in_ok-choices.ensures in
     let written = with_items_is c.in_ok-roots.roots c.find_cycles.new.roots (omega (arith, c.find_cycles.auto.roots, c.as_mut_slice-2.ensures.len)) in
     subst (λ (cores : List (Option ℕ)). AreFeedback (network_of c.args.net.now) c.in_ok-cycles.cycles cores) (sym written)
-    (c.in_ok-cycles.ensures (network_of c.args.net.now) (wired-network_of c.args.net.now c.len-variables.ensures.circuit) choices)
+    (c.in_ok-cycles.ensures (network_of c.args.net.now) (wired-network_of c.args.net.now c.keeps_shape.ensures.circuit) choices)

@@ -11,7 +11,7 @@ use Rattle.hz_pass.proofs.algorithm_a.spread_stable.Goals as goal
 
 pub make_rounds-requires-clause-pass : goal.make_rounds-requires-clause-pass
 make_rounds-requires-clause-pass g c =
-    let circuit = c.len-variables.ensures.circuit in
+    let circuit = c.keeps_shape.ensures.circuit in
     let inputs = c.inputs-inputs.ensures.inputs in
     let same = ap (λ (n : Netlist). n.inputs) c.circuit.ensures.same in record {
       input = c.requires.input;

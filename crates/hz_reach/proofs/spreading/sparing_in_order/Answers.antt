@@ -7,7 +7,7 @@ use Rattle.hz_reach.proofs.spreading.sparing_in_order.Goals as goal
 use Rattle.hz_reach.proofs.spreading.sparing_in_order.Goals.{then-is_gate, else-is_gate}
 
 pub step-requires : goal.step-requires
-step-requires c = record { room = rw c.mark_inputs.ensures.marked (inputs-room c.len-variables.ensures.circuit c.requires.change c.requires.run) }
+step-requires c = record { room = rw c.mark_inputs.ensures.marked (inputs-room c.keeps_shape.ensures.circuit c.requires.change c.requires.run) }
 
 pub loop-place-init : goal.loop-place-init
 loop-place-init c =
@@ -18,7 +18,7 @@ loop-place-init c =
     ∙ ap (state_after flips) (c.mark_inputs.ensures.state ∙ c.begin.ensures.state)) in
     let sorted = c.step.ensures.sorted ∙ (c.mark_inputs.ensures.sorted ∙ c.begin.ensures.sorted) in
     record {
-      at = spreading-begin c.len-variables.ensures.circuit c.requires.change c.requires.run (rw sorted c.requires.sorted) c.step.ensures.marked state
+      at = spreading-begin c.keeps_shape.ensures.circuit c.requires.change c.requires.run (rw sorted c.requires.sorted) c.step.ensures.marked state
           (c.step.ensures.steps ∙ ap (with_step_if_any c.args.run.now.steps) c.mark_inputs.ensures.marked) c.step.ensures.room;
       end = ap (length {A = ℕ}) c.sorted-place-end.ensures;
     }
@@ -59,7 +59,7 @@ loop-place-preserved c =
 pub returns : goal.returns
 returns c =
     let at = c.loop-place.invariant.at in
-    let made = spread-made c.len-variables.ensures.circuit c.requires.change c.requires.run at (omega (arith, c.loop-place-test.false, c.loop-place.invariant.end)) in
+    let made = spread-made c.keeps_shape.ensures.circuit c.requires.change c.requires.run at (omega (arith, c.loop-place-test.false, c.loop-place.invariant.end)) in
     record {
       sparing = made.sparing;
       whole = made.whole;

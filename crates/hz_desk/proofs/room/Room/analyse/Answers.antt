@@ -23,8 +23,8 @@ returns-clause-right c =
     let rows = c.fill_rows-rounds.new.rows in
     let found = c.count_races-races.result in
     c.filled_is_right.ensures netlist input start c.args.cap _ record {
-      circuit = c.len-variables.ensures.circuit;
-      whole = c.len-variables.ensures.whole;
+      circuit = c.keeps_shape.ensures.circuit;
+      whole = c.keeps_shape.ensures.whole;
       begins = c.requires.start;
       variables_are = c.requires.room.finding.variables_are;
       input_is = c.write.ensures;

@@ -15,10 +15,10 @@ loop-front-init g c =
     let net = network_of c.args.self.now.net.now in
     let noted_long : length c.forget.new.noted ≡ length net = omega (arith, c.forget.ensures.long, c.requires.noted) in (
       omega arith,
-      omega (arith, c.len-variables.ensures.len, c.len-variables.ensures.bound),
+      omega (arith, c.keeps_shape.ensures.bound),
       pass-begin c.requires.pass.state c.requires.pass.falls c.forget.new.noted noted_long c.forget.ensures.zero,
       c.evaluate_first.ensures.round,
-      steps-begin c.args.self.now.net.now c.len-variables.ensures.circuit c.evaluate_first.ensures.round c.requires.pass.state c.evaluate_first.ensures.steps c.evaluate_first.ensures.counted,
+      steps-begin c.args.self.now.net.now c.keeps_shape.ensures.circuit c.evaluate_first.ensures.round c.requires.pass.state c.evaluate_first.ensures.steps c.evaluate_first.ensures.counted,
       c.front.invariant.room ∙ (c.front.view_is ∙ c.requires.front),
       c.evaluate_first.ensures.room ∙ (c.front.view_is ∙ c.requires.front),
     )
@@ -87,7 +87,7 @@ loop-front-preserved g c =
           (ap (length {A = ℕ}) c.take_over.ensures.noted ∙ length-noted c.loop-front.rounds c.loop-front.noted c.as_slice.result.now)
           (noted-after long round c.loop-front.rounds c.loop-front.noted noted_long c.as_slice.ensures.value c.take_over.ensures.noted),
       c.evaluate_readers.ensures.round,
-      steps-more c.args.self.now.net.now c.len-variables.ensures.circuit c.evaluate_readers.ensures.round
+      steps-more c.args.self.now.net.now c.keeps_shape.ensures.circuit c.evaluate_readers.ensures.round
           (subst (λ (values : List Tri). StepsSoFar c.args.self.now.rule c.args.self.now.net.now c.args.state.now c.args.self.now.first c.args.steps.now c.loop-front.steps values c.loop-front.front-inside.changed.items) (sym state_is) c.loop-front.invariant.4)
           (c.evaluate_readers.ensures.steps ∙ ap (λ (list : List ℕ). c.loop-front.steps + sum_by (reader_count c.args.self.now.net.now) list) due_is)
           c.evaluate_readers.ensures.counted,

@@ -67,7 +67,7 @@ invariant_of-self c =
           (subst (λ (l : List (Option Bool)). IsLaneFault netlist l (fault_at c.note_faults.new.faults lane)) again
           (lane-fault netlist of.circuit of.whole c.listings-2.result.now values lane filled.0 inside count size c.fill-are_evaluated.ensures.planes filled.1 (subst (λ (l : List (Option Bool)). AreForcedNodes netlist l filled.0) (is ∙ sym again) filled.2)
           noted.first (fault_at c.note_faults.new.faults lane) noted.among_nodes
-          (same-unstable c.args.net.now netlist c.circuit-circuit.ensures.circuit of.circuit inputs gates c.listings-2.result.now values lane noted.first (fault_at c.note_faults.new.faults lane) noted.among_gates)));
+          (same-unstable c.args.net.now netlist c.keeps_shape.ensures.circuit of.circuit inputs gates c.listings-2.result.now values lane noted.first (fault_at c.note_faults.new.faults lane) noted.among_gates)));
       unsettled = λ settled. cc;
     }
 

@@ -21,7 +21,7 @@ invariant_of-result c =
     let same : length c.outputs-node-items.result.now ≡ length c.args.circuit.now.outputs = ap (length {A = ℕ}) c.outputs-node-items.ensures.outputs in
     let all : length c.args.circuit.now.outputs ≤ c.loop-node.node-index = omega (arith, same, c.loop-node-test.false) in
     let whole = line-whole c.args.circuit.now c.loop-node.node-index c.loop-node.text.items c.push.new.self.items c.loop-node.places.items all c.loop-node.invariant c.in-Ok.ensures.items in
-    record { circuit = c.nodes-nodes.ensures.circuit; text = whole.1; places = whole.2 }
+    record { circuit = c.keeps_shape.ensures; text = whole.1; places = whole.2 }
 
 pub returns : goal.returns
 returns c =

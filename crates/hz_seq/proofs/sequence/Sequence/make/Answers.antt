@@ -22,7 +22,7 @@ invariant_of-self c =
     ap length (with_items_is c.self.inside.input c.write_input.new.input room)
     ∙ (c.write_input.auto.input ∙ (ap length c.as_mut_slice.ensures.value ∙ c.self.invariant.input)) in
     let given : length c.as_slice-3.result.now ≡ c.self.inside.desk.netlist.inputs = ap length c.as_slice-3.ensures.value ∙ input in
-    let circuit : IsCircuit c.self.inside.desk.netlist = subst IsCircuit c.net.ensures c.len-variables.ensures.circuit in
+    let circuit : IsCircuit c.self.inside.desk.netlist = subst IsCircuit c.net.ensures c.keeps_shape.ensures.circuit in
     let values : c.values_b-values.result.now ≡ values_b (finding_of c.change.result.now).rows =
     c.values_b-values.ensures ∙ ap (λ (f : FindingOf). values_b f.rows) (c.finding.ensures.same ∙ c.change.follows.holds-at-none.1) in
     let settled : MatchOption c.settle-self-inside.result (IsSettledAt (values_b (finding_of c.change.result.now).rows) state) (IsFirstUnknown (values_b (finding_of c.change.result.now).rows)) =

@@ -30,7 +30,7 @@ invariant_of-self c =
       input = c.self.invariant.input;
       state = length-set was.state.items c.args.var (not c.index.result.now) ∙ c.self.invariant.state;
       unstable = flip-marks was.net.now was.input.items was.state.items (set was.state.items c.args.var (not c.index.result.now)) was.unstable c.look_at.new.unstable c.look_at_each.new.unstable c.args.var c.readers.result.now
-          c.len-variables.ensures.circuit inside c.self.invariant.unstable next
+          c.keeps_shape.ensures.circuit inside c.self.invariant.unstable next
           (rw (c.as_slice.ensures.value, c.as_slice-2.ensures.value) at c.look_at.ensures) c.readers.ensures.readers
           (rw (c.as_slice-3.ensures.value, c.as_slice-4.ensures.value) at c.look_at_each.ensures);
     }
