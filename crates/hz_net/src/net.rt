@@ -63,7 +63,7 @@ impl Net {
         ensures whole { IsWhole self.now }
         ensures bound { length (network_of self.now) ≤ most_variables }
     {
-        let _ = &self.circuit;
+        let _variables = self.len();
     }
 
     /// The circuit that the network was built from.
