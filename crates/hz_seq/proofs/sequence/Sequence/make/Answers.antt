@@ -8,6 +8,7 @@ use Rattle.hz_net.specs.Network.{network_of}
 use Rattle.hz_net.specs.Starts.{IsStableStart}
 use Rattle.hz_desk.specs.Finding.{FindingOf, finding_of, values_b}
 use Rattle.hz_seq.specs.Sequence.{IsSettledAt, IsFirstUnknown}
+use Rattle.hz_net.proofs.Places.{length-network_of}
 use Rattle.hz_seq.proofs.FindingEffects.{left-by, stable-left}
 use Rattle.hz_seq.proofs.sequence.Sequence.make.Goals as goal
 
@@ -53,3 +54,8 @@ returns-clause-after c =
       refl,
       left-by c.settle-self-inside.result (values_b c.change.follows.lender-at-none.finding.rows) (with_items c.self.inside.start state).items settled,
     )
+
+pub write_input-requires-clause-state : goal.write_input-requires-clause-state
+write_input-requires-clause-state c =
+    let circuit : IsCircuit c.self.inside.desk.netlist = subst IsCircuit c.net.ensures c.keeps_shape.ensures.circuit in
+    omega (arith, length-network_of c.self.inside.desk.netlist circuit, c.self.invariant.start, c.self.invariant.input, c.as_slice.ensures.len, c.as_mut_slice.ensures.len)
