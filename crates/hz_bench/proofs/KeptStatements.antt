@@ -68,48 +68,30 @@ may-kept {A} May step keeps still now (first ∷ rest) h = by_test (keeps first.
     by_test true t ih = (h.0, ih (step now (element_of first.statement)) h.1)
     by_test false t ih = ih now (subst (λ next. AreAdmissibleSteps May step next (elements rest)) (still now first.statement t) h.1)
 
--- inputs, gates and pins come of nodes alone
-inputs_still : IsStill with_input_of defines_node
-inputs_still now (Input name) h = cc
-inputs_still now (Output name) h = refl
-inputs_still now (FlipFlop name sources) h = refl
-inputs_still now (Gate name kind sources) h = refl
-
-cuts_still : IsStill with_cut_of defines_node
-cuts_still now (Input name) h = refl
-cuts_still now (Output name) h = refl
-cuts_still now (FlipFlop name sources) h = cc
-cuts_still now (Gate name kind sources) h = refl
-
-gates_still : IsStill with_gate_of defines_node
-gates_still now (Input name) h = refl
-gates_still now (Output name) h = refl
-gates_still now (FlipFlop name sources) h = refl
-gates_still now (Gate name kind sources) h = cc
-
-pins_still : IsStill with_pins_of defines_node
-pins_still now (Input name) h = refl
-pins_still now (Output name) h = refl
-pins_still now (FlipFlop name sources) h = cc
-pins_still now (Gate name kind sources) h = cc
+-- inputs, gates and pins come of nodes alone: only an output is no node
+still : {A : Type 0} (step : A → Element → A) → ((now : A) (name : List ℕ) → step now (element.Output name) ≡ now) → IsStill step defines_node
+still step same now (Input name) h = cc
+still step same now (Output name) h = same now name
+still step same now (FlipFlop name sources) h = cc
+still step same now (Gate name kind sources) h = cc
 
 inputs-kept : (statements : List (Numbered Statement)) → fold with_input_of empty_netlist (elements (nodes_among statements)) ≡ fold with_input_of empty_netlist (elements statements)
-inputs-kept statements = fold-kept with_input_of defines_node inputs_still empty_netlist statements
+inputs-kept statements = fold-kept with_input_of defines_node (still with_input_of (λ now name. refl)) empty_netlist statements
 
 inputs_of-kept : (statements : List (Numbered Statement)) → inputs_of (elements (nodes_among statements)) ≡ inputs_of (elements statements)
 inputs_of-kept statements =
     ap (λ now. fold with_cut_of now (elements (nodes_among statements))) (inputs-kept statements)
-    ∙ fold-kept with_cut_of defines_node cuts_still (fold with_input_of empty_netlist (elements statements)) statements
+    ∙ fold-kept with_cut_of defines_node (still with_cut_of (λ now name. refl)) (fold with_input_of empty_netlist (elements statements)) statements
 
 unconnected_netlist-kept : (statements : List (Numbered Statement)) → unconnected_netlist (elements (nodes_among statements)) ≡ unconnected_netlist (elements statements)
 unconnected_netlist-kept statements =
     ap (λ now. fold with_gate_of now (elements (nodes_among statements))) (inputs_of-kept statements)
-    ∙ fold-kept with_gate_of defines_node gates_still (inputs_of (elements statements)) statements
+    ∙ fold-kept with_gate_of defines_node (still with_gate_of (λ now name. refl)) (inputs_of (elements statements)) statements
 
 connected-kept : (statements : List (Numbered Statement)) → connected_netlist (unconnected_netlist (elements (nodes_among statements))) (elements (nodes_among statements)) ≡ connected_netlist (unconnected_netlist (elements statements)) (elements statements)
 connected-kept statements =
     ap (λ now. connected_netlist now (elements (nodes_among statements))) (unconnected_netlist-kept statements)
-    ∙ ap (λ (now : BuilderState). now.netlist) (fold-kept with_pins_of defines_node pins_still (initial_builder (unconnected_netlist (elements statements))) statements)
+    ∙ ap (λ (now : BuilderState). now.netlist) (fold-kept with_pins_of defines_node (still with_pins_of (λ now name. refl)) (initial_builder (unconnected_netlist (elements statements))) statements)
 
 -- outputs by their names
 outputs-kept : (now : Netlist) (statements : List Statement) → fold with_output_of now (map element.Output (output_names (elements_of statements))) ≡ fold with_output_of now (elements_of statements)
@@ -136,13 +118,13 @@ built-kept statements =
 
 may_build-kept : (statements : List (Numbered Statement)) → MayBuild (elements statements) (elements statements) → MayBuild (elements (nodes_among statements)) (map element.Output (output_names (elements_of (plain statements))))
 may_build-kept statements may = record {
-  inputs = may-kept MayAddInput with_input_of defines_node inputs_still empty_netlist statements may.inputs;
+  inputs = may-kept MayAddInput with_input_of defines_node (still with_input_of (λ now name. refl)) empty_netlist statements may.inputs;
   cuts = subst (λ now. AreAdmissibleSteps MayAddCut with_cut_of now (elements (nodes_among statements))) (sym (inputs-kept statements))
-      (may-kept MayAddCut with_cut_of defines_node cuts_still (fold with_input_of empty_netlist (elements statements)) statements may.cuts);
+      (may-kept MayAddCut with_cut_of defines_node (still with_cut_of (λ now name. refl)) (fold with_input_of empty_netlist (elements statements)) statements may.cuts);
   gates = subst (λ now. AreAdmissibleSteps MayAddGate with_gate_of now (elements (nodes_among statements))) (sym (inputs_of-kept statements))
-      (may-kept MayAddGate with_gate_of defines_node gates_still (inputs_of (elements statements)) statements may.gates);
+      (may-kept MayAddGate with_gate_of defines_node (still with_gate_of (λ now name. refl)) (inputs_of (elements statements)) statements may.gates);
   pins = subst (λ (now : Netlist). AreAdmissibleSteps MayAddPins with_pins_of (initial_builder now) (elements (nodes_among statements))) (sym (unconnected_netlist-kept statements))
-      (may-kept MayAddPins with_pins_of defines_node pins_still (initial_builder (unconnected_netlist (elements statements))) statements may.pins);
+      (may-kept MayAddPins with_pins_of defines_node (still with_pins_of (λ now name. refl)) (initial_builder (unconnected_netlist (elements statements))) statements may.pins);
   outputs_may = subst (λ now. AreAdmissibleSteps MayAddOutput with_output_of now (map element.Output (output_names (elements_of (plain statements))))) (sym (connected-kept statements))
       (outputs_may-kept (connected_netlist (unconnected_netlist (elements statements)) (elements statements)) (plain statements) may.outputs_may);
 }
