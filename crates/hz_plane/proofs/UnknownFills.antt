@@ -21,19 +21,9 @@ use Rattle.hz_plane.specs.Loads.{listed_with}
 use Rattle.hz_plane.specs.Lanes.{AreAllOf, IsFilledStart}
 use Rattle.hz_plane.specs.Steps.{all_values}
 use Rattle.hz_plane.specs.View.{ListedInputsFill}
-use Rattle.hz_plane.proofs.Wholes.{source_of, source-inside, length-all_values, at-node, at-wire, at-pins, excites-input, excites-gate, excites-wire, same-values}
+use Rattle.hz_plane.proofs.Wholes.{same-bit, unknown-no, source_of, source-inside, length-all_values, at-node, at-wire, at-pins, excites-input, excites-gate, excites-wire, same-values}
 use Rattle.hz_plane.proofs.SpreadSteps.{pin-source}
 use Rattle.hz_plane.proofs.SettleSteps.{fixed-result}
-
-same-bit : (bit other : Bool) → tri_of bit ≡ tri_of other → bit ≡ other
-same-bit false false e = refl
-same-bit false true e = cc
-same-bit true false e = cc
-same-bit true true e = refl
-
-unknown-no : (bit : Bool) → Unknown ≡ tri_of bit → ⊥
-unknown-no false e = cc
-unknown-no true e = cc
 
 module _ (netlist : Netlist) (circuit : IsCircuit netlist) (bits : List Bool) (fits : length bits ≡ netlist.inputs) where
   listed : List (Option Bool)
