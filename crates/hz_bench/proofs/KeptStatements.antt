@@ -6,6 +6,7 @@ use Rattle.std.specs.List.{AllByRecursion, list_any}
 use Rattle.std.specs.Str.{bytes_eq}
 use Rattle.std.proofs.lemmas.List.{length-map}
 use Rattle.std.proofs.lemmas.List.Sums.{sum_by-cons}
+use Rattle.hz_core.specs.declared.kind.Kind.{Kind}
 use Rattle.hz_core.specs.Netlist.{Netlist, empty_netlist}
 use Rattle.hz_line.specs.Line.{lines_of}
 use Rattle.hz_line.specs.Statement.{Numbered, first_passing_line}
@@ -166,28 +167,28 @@ buildable text statements nodes outputs may right = record {
   pins = subst HaveRightPins (nodes_read text statements nodes) (right-kept (bench_statements text) right);
 }
 
+-- a list of names that each statement but an output adds to is that of the nodes
+told-kept : (told : List Statement → List (List ℕ)) → ((name : List ℕ) (one other : List Statement) → told one ≡ told other → told (Input name ∷ one) ≡ told (Input name ∷ other))
+    → ((name : List ℕ) (sources : List (List ℕ)) (one other : List Statement) → told one ≡ told other → told (FlipFlop name sources ∷ one) ≡ told (FlipFlop name sources ∷ other))
+    → ((name : List ℕ) (kind : Option Kind) (sources : List (List ℕ)) (one other : List Statement) → told one ≡ told other → told (Gate name kind sources ∷ one) ≡ told (Gate name kind sources ∷ other))
+    → ((name : List ℕ) (rest : List Statement) → told (Output name ∷ rest) ≡ told rest)
+    → (statements : List (Numbered Statement)) → told (plain (nodes_among statements)) ≡ told (plain statements)
+told-kept told input flip_flop gate output [] = refl
+told-kept told input flip_flop gate output (first ∷ rest) = by_statement first.statement (told-kept told input flip_flop gate output rest)
+  where
+    by_statement : (statement : Statement) → told (plain (nodes_among rest)) ≡ told (plain rest)
+        → told (plain (cond (defines_node statement) (record { line = first.line; statement = statement } ∷ nodes_among rest) (nodes_among rest))) ≡ told (statement ∷ plain rest)
+    by_statement (Input name) ih = input name (plain (nodes_among rest)) (plain rest) ih
+    by_statement (Output name) ih = ih ∙ sym (output name (plain rest))
+    by_statement (FlipFlop name sources) ih = flip_flop name sources (plain (nodes_among rest)) (plain rest) ih
+    by_statement (Gate name kind sources) ih = gate name kind sources (plain (nodes_among rest)) (plain rest) ih
+
 -- the inputs and the flip-flops are nodes
 input_names-kept : (statements : List (Numbered Statement)) → input_names (elements_of (plain (nodes_among statements))) ≡ input_names (elements_of (plain statements))
-input_names-kept [] = refl
-input_names-kept (first ∷ rest) = by_statement first.statement (input_names-kept rest)
-  where
-    by_statement : (statement : Statement) → input_names (elements_of (plain (nodes_among rest))) ≡ input_names (elements_of (plain rest))
-        → input_names (elements_of (plain (cond (defines_node statement) (record { line = first.line; statement = statement } ∷ nodes_among rest) (nodes_among rest)))) ≡ input_names (elements_of (statement ∷ plain rest))
-    by_statement (Input name) ih = ap (λ names. name ∷ names) ih
-    by_statement (Output name) ih = ih
-    by_statement (FlipFlop name sources) ih = ih
-    by_statement (Gate name kind sources) ih = ih
+input_names-kept = told-kept (λ all. input_names (elements_of all)) (λ name one other e. ap (λ names. name ∷ names) e) (λ name sources one other e. e) (λ name kind sources one other e. e) (λ name rest. refl)
 
 cut_names-kept : (statements : List (Numbered Statement)) → cut_names (elements_of (plain (nodes_among statements))) ≡ cut_names (elements_of (plain statements))
-cut_names-kept [] = refl
-cut_names-kept (first ∷ rest) = by_statement first.statement (cut_names-kept rest)
-  where
-    by_statement : (statement : Statement) → cut_names (elements_of (plain (nodes_among rest))) ≡ cut_names (elements_of (plain rest))
-        → cut_names (elements_of (plain (cond (defines_node statement) (record { line = first.line; statement = statement } ∷ nodes_among rest) (nodes_among rest)))) ≡ cut_names (elements_of (statement ∷ plain rest))
-    by_statement (Input name) ih = ih
-    by_statement (Output name) ih = ih
-    by_statement (FlipFlop name sources) ih = ap (λ names. name ∷ names) ih
-    by_statement (Gate name kind sources) ih = ih
+cut_names-kept = told-kept (λ all. cut_names (elements_of all)) (λ name one other e. e) (λ name sources one other e. ap (λ names. name ∷ names) e) (λ name kind sources one other e. e) (λ name rest. refl)
 
 -- those that were noted are those among the nodes
 inputs-sorted : (text : List ℕ) (statements : Statements) → IsParsed text statements → numbered_list statements.nodes.items ≡ nodes_among (bench_statements text) → statements.notes.inputs ≡ length (input_names (elements_of (statement_list statements.nodes.items)))
@@ -204,26 +205,10 @@ cuts-sorted text statements parsed nodes =
     ∙ ap (λ list. length (cut_names (elements_of list))) (nodes_read text statements nodes)
 
 gate_names-kept : (statements : List (Numbered Statement)) → gate_names (elements_of (plain (nodes_among statements))) ≡ gate_names (elements_of (plain statements))
-gate_names-kept [] = refl
-gate_names-kept (first ∷ rest) = by_statement first.statement (gate_names-kept rest)
-  where
-    by_statement : (statement : Statement) → gate_names (elements_of (plain (nodes_among rest))) ≡ gate_names (elements_of (plain rest))
-        → gate_names (elements_of (plain (cond (defines_node statement) (record { line = first.line; statement = statement } ∷ nodes_among rest) (nodes_among rest)))) ≡ gate_names (elements_of (statement ∷ plain rest))
-    by_statement (Input name) ih = ih
-    by_statement (Output name) ih = ih
-    by_statement (FlipFlop name sources) ih = ih
-    by_statement (Gate name kind sources) ih = ap (λ names. name ∷ names) ih
+gate_names-kept = told-kept (λ all. gate_names (elements_of all)) (λ name one other e. e) (λ name sources one other e. e) (λ name kind sources one other e. ap (λ names. name ∷ names) e) (λ name rest. refl)
 
 read_names-kept : (statements : List (Numbered Statement)) → read_names (plain (nodes_among statements)) ≡ read_names (plain statements)
-read_names-kept [] = refl
-read_names-kept (first ∷ rest) = by_statement first.statement (read_names-kept rest)
-  where
-    by_statement : (statement : Statement) → read_names (plain (nodes_among rest)) ≡ read_names (plain rest)
-        → read_names (plain (cond (defines_node statement) (record { line = first.line; statement = statement } ∷ nodes_among rest) (nodes_among rest))) ≡ read_names (statement ∷ plain rest)
-    by_statement (Input name) ih = ih
-    by_statement (Output name) ih = ih
-    by_statement (FlipFlop name sources) ih = ap (λ names. sources ++ names) ih
-    by_statement (Gate name kind sources) ih = ap (λ names. sources ++ names) ih
+read_names-kept = told-kept read_names (λ name one other e. e) (λ name sources one other e. ap (λ names. sources ++ names) e) (λ name kind sources one other e. ap (λ names. sources ++ names) e) (λ name rest. refl)
 
 node_names-kept : (statements : List (Numbered Statement)) → node_names (elements_of (plain (nodes_among statements))) ≡ node_names (elements_of (plain statements))
 node_names-kept statements =
@@ -233,15 +218,7 @@ node_names-kept statements =
 
 -- the names that nodes define are all names that are defined
 defined_names-kept : (statements : List (Numbered Statement)) → defined_names (plain (nodes_among statements)) ≡ defined_names (plain statements)
-defined_names-kept [] = refl
-defined_names-kept (first ∷ rest) = by_statement first.statement (defined_names-kept rest)
-  where
-    by_statement : (statement : Statement) → defined_names (plain (nodes_among rest)) ≡ defined_names (plain rest)
-        → defined_names (plain (cond (defines_node statement) (record { line = first.line; statement = statement } ∷ nodes_among rest) (nodes_among rest))) ≡ defined_names (statement ∷ plain rest)
-    by_statement (Input name) ih = ap (λ names. name ∷ names) ih
-    by_statement (Output name) ih = ih
-    by_statement (FlipFlop name sources) ih = ap (λ names. name ∷ names) ih
-    by_statement (Gate name kind sources) ih = ap (λ names. name ∷ names) ih
+defined_names-kept = told-kept defined_names (λ name one other e. ap (λ names. name ∷ names) e) (λ name sources one other e. ap (λ names. name ∷ names) e) (λ name kind sources one other e. ap (λ names. name ∷ names) e) (λ name rest. refl)
 
 -- there are no more nodes than variables
 nodes_few : (statements : List (Numbered Statement)) → length (nodes_among statements) ≤ variable_total (elements_of (plain statements))
