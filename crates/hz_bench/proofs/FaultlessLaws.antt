@@ -2,10 +2,9 @@
 use Rattle.std.proofs.Common.{◌≡◌, ℕ, suc, Bool, true, false, cond, List, [], ◌∷◌, Option, Some, None, option_map, map, refl, subst, IfSome}
 use Rattle.std.specs.List.{AllByRecursion}
 use Rattle.hz_core.specs.Netlist.{IsCircuit, IsWhole}
-use Rattle.hz_line.specs.declared.bytes.Punctuation.TheVariants.{Open, Close, Comma, Equals}
 use Rattle.hz_line.specs.Line.{lines_of}
 use Rattle.hz_line.specs.Statement.{Meaning, Nothing, Malformed, Means, Numbered, with_meaning, meaning_by, meaning_of_tokens, numbered_from, first_malformed}
-use Rattle.hz_line.specs.Token.{TokenOf, WordOf, PunctuationOf, tokens_of, IsWordToken, AreWordTokens}
+use Rattle.hz_line.specs.Token.{TokenOf, tokens_of, IsWordToken, AreWordTokens}
 use Rattle.hz_line.proofs.TokenLemmas.{tokens_of-AreWordTokens}
 use Rattle.hz_netlist.specs.Build.{AreWired}
 use Rattle.hz_netlist.proofs.Admissible.{whole}

@@ -134,6 +134,7 @@ module _ (netlist : Netlist) (circuit : IsCircuit netlist) (whole : IsWhole netl
           opens = λ node few unknown. absurd (never-unknown (has_lane (pair_at planes node).one lane) (sym (at-known node few) ∙ unknown));
         },
       )
+
       -- a state that is its own excitations under the inputs of the lane
       module _ (input : List Bool) (has : (node : ℕ) → node < netlist.inputs → HasValue (pair_at planes node) lane (tri_of (bit_at input node))) (state : List Tri) (same : excitations (network_of netlist) input state ≡ state) (count : length state ≡ length (network_of netlist)) where
         excited-is : (i : ℕ) → i < length (network_of netlist) → excitation3 (network_of netlist) input state i ≡ value_at state i
