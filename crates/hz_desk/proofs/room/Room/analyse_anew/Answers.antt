@@ -6,7 +6,7 @@ use Rattle.hz_net.specs.Network.{network_of}
 use Rattle.hz_desk.specs.declared.finding.Row.{Row}
 use Rattle.hz_desk.specs.Finding.{values_a, values_b}
 use Rattle.hz_desk.specs.Filled.{AreRacesOf}
-use Rattle.hz_desk.proofs.room.Room.analyse.Goals as goal
+use Rattle.hz_desk.proofs.room.Room.analyse_anew.Goals as goal
 
 pub make_runs-common-requires-clause-passed : goal.make_runs-common-requires-clause-passed
 make_runs-common-requires-clause-passed c =
