@@ -2,6 +2,7 @@
 use Rattle.std.proofs.Common.{◌≡◌, ◌∙◌, refl, sym, ap, subst, ℕ, zero, suc, ◌<◌, ◌≤◌, Bool, true, false, Option, Some, None, List, [], length, map, get_or, arith, inl, inr}
 use Rattle.std.specs.Prelude.{if◌then◌else◌}
 use Rattle.std.proofs.lemmas.Bool.{cases_Bool, true≢false}
+use Rattle.std.proofs.Math.Dec.{leb-zero}
 use Rattle.std.proofs.lemmas.List.{get_or-map}
 use Rattle.std.proofs.lemmas.Option.{get_or_from_slice_get, slice_get-get_or}
 use Rattle.hz_core.specs.declared.tri.Tri.{Tri}
@@ -34,6 +35,9 @@ use Rattle.hz_desk.proofs.RowFacts.{WordsChange}
 abbrev pub count_at_rest : Bool → Option Count
 count_at_rest counted = if counted then Some (Exact 0) else None
 
+capped-none : (most : ℕ) → capped_count most 0 ≡ Exact 0
+capped-none most = rw (leb-zero most) refl
+
 none-or-some : (n : ℕ) → (1 ≤ n → ⊥) → n ≡ 0
 none-or-some zero none = refl
 none-or-some (suc n) none = absurd (none (omega arith))
@@ -43,16 +47,16 @@ pub counted-at-rest :
     WordsChange → (netlist : Netlist) (free input start : List Bool) (cap : ℕ) (a : List Tri) (told : List (Option Word)) (i : ℕ) → IsCircuit netlist → IsWhole netlist →
     AreMarks (network_of netlist) free → IsStableStart netlist start → IsResult (algorithm_a (network_of netlist) input start) a →
     AreCappedWords (network_of netlist) input start cap told → i < length (network_of netlist) → IsKnown (value_at a i) → changes_of (get_or told i None) ≡ count_at_rest (bit_at free i)
-counted-at-rest change netlist free input start cap a told i circuit whole marks begins result words below known =
+counted-at-rest change netlist free input start most a told i circuit whole marks begins result words below known =
     elim (cases_Bool (bit_at free i)) [
       | inl marked ↦ (
           let is_free : IsFeedbackFree (network_of netlist) i = (marks.exact i below).0 marked in
           let word : List Bool = get_or words.words i [] in
-          let told_is : get_or told i None ≡ Some (capped_word cap word) = get_or_from_slice_get told i (Some (capped_word cap word)) None (words.free i below is_free) in
+          let told_is : get_or told i None ≡ Some (capped_word most word) = get_or_from_slice_get told i (Some (capped_word most word)) None (words.free i below is_free) in
           let none : change_count word ≡ 0 =
           none-or-some (change_count word) (λ some. known ((change netlist input start words.words a i circuit whole begins words.are_words result below is_free).0 some)) in
           ap changes_of told_is
-          ∙ (ap (λ (n : ℕ). Some (capped_count cap n)) none ∙ sym (ap count_at_rest marked))
+          ∙ (ap (λ (n : ℕ). Some (capped_count most n)) none ∙ (ap (λ (n : Count). Some n) (capped-none most) ∙ sym (ap count_at_rest marked)))
           )
       | inr clear ↦ (
           let not_free : IsFeedbackFree (network_of netlist) i → ⊥ = λ is_free. true≢false (sym ((marks.exact i below).1 is_free) ∙ clear) in

@@ -52,7 +52,7 @@ module _ (net : List Driver) (input start : List Bool) (cap : ℕ) (finding : Fi
   ]
 
   module _ (i : ℕ) (inside : i < length finding.rows) (none : changes_in finding.spread i ≡ 0) where
-    row : Row
+    abbrev row : Row
     row = get_or finding.rows i some_row
 
     pub start-kept : row.start ≡ bit_at start i

@@ -1,8 +1,11 @@
 -- All variables rest but those that some steps change: what is left of that once one of them rests, and once a step has none left.
-use Rattle.std.proofs.Common.{◌≡◌, ◌≢◌, ◌∙◌, refl, sym, ap, subst, ℕ, suc, ◌+◌, ◌<◌, ◌≤◌, Bool, true, false, Some, List, [], ◌∷◌, length, drop, drop-cons, set, get_or, get_or-set_same, get_or-set_other, length-set, arith, inl, inr}
+use Rattle.std.proofs.Common.{◌≡◌, ◌≢◌, ◌∙◌, refl, sym, ap, subst, ℕ, suc, ◌+◌, ◌<◌, ◌≤◌, Bool, true, false, Some, List, [], ◌∷◌, length, cond, drop, set, get_or, length-set, arith, inl, inr}
+use lib.Pointwise.{pointwise}
+use Rattle.std.specs.Bool.{beq}
 use Rattle.std.specs.List.{slice_get}
 use Rattle.std.proofs.lemmas.Bool.{cases_Bool, cases_eq}
-use Rattle.std.proofs.lemmas.List.{drop_all}
+use Rattle.std.proofs.Math.Seq.{drop-cons}
+use Rattle.std.proofs.lemmas.List.{drop_all, get_or-set_same, get_or-set_other}
 use Rattle.std.proofs.lemmas.Option.{slice_get-get_or, get_or_from_slice_get}
 use Rattle.hz_lists.specs.Listed.{is_listed}
 use Rattle.hz_lists.proofs.ListedLemmas.{listed-head, listed-tail, listed-other}
@@ -13,6 +16,16 @@ use Rattle.hz_desk.specs.declared.finding.Rest.{Rest}
 use Rattle.hz_desk.specs.declared.finding.Row.{Row}
 use Rattle.hz_desk.specs.RowsOf.{row_at_rest}
 use Rattle.hz_desk.specs.Resting.{OthersRest, HasRowAtRest}
+
+-- lists of bits that a comparison finds equal
+pub same-lists : (xs ys : List Bool) → pointwise beq xs ys ≡ true → xs ≡ ys
+same-lists [] [] same = refl
+same-lists [] (y ∷ ys) same = cc
+same-lists (x ∷ xs) [] same = cc
+same-lists (false ∷ xs) (false ∷ ys) same = ap (λ (list : List Bool). false ∷ list) (same-lists xs ys same)
+same-lists (false ∷ xs) (true ∷ ys) same = cc
+same-lists (true ∷ xs) (false ∷ ys) same = cc
+same-lists (true ∷ xs) (true ∷ ys) same = ap (λ (list : List Bool). true ∷ list) (same-lists xs ys same)
 
 listed-one : (flips : List ℕ) (i : ℕ) → is_listed flips i ≡ true → listed flips i ≡ 1
 listed-one flips i there = rw there refl
@@ -35,6 +48,12 @@ changes-other : (x : ℕ) (flips : List ℕ) (steps : List (List ℕ)) (i : ℕ)
 changes-other x flips steps i ne =
     changes-more (x ∷ flips) steps i
     ∙ (ap (λ (b : Bool). cond b 1 0 + changes_in steps i) (listed-other i x flips ne) ∙ sym (changes-more flips steps i))
+
+-- the first item that is left
+pub drop-one : {T : Type 0} (list : List T) (at : ℕ) (d : T) → at < length list → drop at list ≡ get_or list at d ∷ drop (at + 1) list
+drop-one list at d below =
+    let next : suc at ≡ at + 1 = omega arith in
+    drop-cons list at d below ∙ ap (λ (n : ℕ). get_or list at d ∷ drop n list) next
 
 module _ (free : List Bool) (rows : List Row) where
   -- what a first step lists is inside
@@ -66,7 +85,7 @@ module _ (free : List Bool) (rows : List Row) where
                   (let was = others.rest i there (changes-other x flips steps i ne ∙ none) in (
                     was.0,
                     slice_get-get_or now i row within
-                    ∙ (ap (λ (r : Row). Some r) (get_or-set_other rows x row i row (λ same. ne (sym same)))
+                    ∙ (ap (λ (r : Row). Some r) (get_or-set_other rows x i row row ne)
                     ∙ (sym (slice_get-get_or rows i row there) ∙ was.1)),
                   ))
             ];
@@ -80,10 +99,14 @@ module _ (free : List Bool) (rows : List Row) where
     rest = λ i within none. others.rest i within (omega (arith, none, changes-more [] steps i));
   }
 
+  -- if all rest, those do that no steps change
+  pub all-rest : (steps : List (List ℕ)) → OthersRest free rows [] → ((i : ℕ) → 1 ≤ changes_in steps i → i < length rows) → OthersRest free rows steps
+  all-rest steps all inside = record { long = all.long; inside = inside; rest = λ i within none. all.rest i within refl }
+
   -- steps that are left
   pub next-step : (steps : List (List ℕ)) (number : ℕ) → number < length steps → OthersRest free rows (drop number steps) → OthersRest free rows (get_or steps number [] ∷ drop (number + 1) steps)
   next-step steps number below others =
-      subst (OthersRest free rows) (drop-cons number steps [] below ∙ ap (λ (n : ℕ). get_or steps number [] ∷ drop n steps) (omega arith)) others
+      subst (OthersRest free rows) (drop-one steps number [] below) others
 
   pub no-step : (steps : List (List ℕ)) (number : ℕ) → length steps ≤ number → OthersRest free rows (drop number steps) → OthersRest free rows []
   no-step steps number all others = subst (OthersRest free rows) (drop_all number steps all) others

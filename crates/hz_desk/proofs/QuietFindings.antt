@@ -11,7 +11,7 @@ use Rattle.hz_core.specs.declared.tri.Tri.{Tri}
 use Rattle.hz_core.specs.declared.tri.Tri.TheVariants.{Zero, Unknown}
 use Rattle.hz_core.specs.Extension.{extension}
 use Rattle.hz_core.specs.Netlist.{Netlist, IsCircuit, IsWhole}
-use Rattle.hz_core.specs.Ternary.{tri_of, is_unknown, unknown_count}
+use Rattle.hz_core.specs.Ternary.{tri_of, is_unknown, unknown_count, Refines}
 use Rattle.hz_core.proofs.Extensions.{extension-map}
 use Rattle.hz_core.proofs.Refinements.{Refines-map}
 use Rattle.hz_net.specs.Network.{Driver, External, Function, Source, network_of, driver_at, bit_at, value_at, driver_value, driver_value3, excitation, IsStable}
@@ -51,8 +51,8 @@ tri_of-known true e = cc
 
 known-count : (bits : List Bool) → unknown_count (map tri_of bits) ≡ 0
 known-count [] = refl
-known-count (false ∷ bits) = sum_by-cons (λ (v : Tri). cond (is_unknown v) 1 0) Zero (map tri_of bits) ∙ known-count bits
-known-count (true ∷ bits) = sum_by-cons (λ (v : Tri). cond (is_unknown v) 1 0) (tri_of true) (map tri_of bits) ∙ known-count bits
+known-count (false ∷ bits) = omega (arith, sum_by-cons (λ (v : Tri). cond (is_unknown v) 1 0) Zero (map tri_of bits), known-count bits)
+known-count (true ∷ bits) = omega (arith, sum_by-cons (λ (v : Tri). cond (is_unknown v) 1 0) (tri_of true) (map tri_of bits), known-count bits)
 
 join-same : (bits : List Bool) → join_each (map tri_of bits) (map tri_of bits) ≡ map tri_of bits
 join-same [] = refl
@@ -126,7 +126,7 @@ module _ (netlist : Netlist) (input state : List Bool) (stable : IsStable (netwo
   }
 
   module _ (long : length state ≡ length (network_of netlist)) where
-    values : List Tri
+    abbrev values : List Tri
     values = map tri_of state
 
     -- each variable has its excitation

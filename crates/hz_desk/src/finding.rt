@@ -284,7 +284,8 @@ impl Finding {
     // Room for the finding of a change, in which nothing is found.
     pub(crate) fn with_room(alloc: Global, variables: u32, inputs: u32) -> Result<Finding, Memory>
         requires { variables ≤ most_variables }
-        ensures { IfOk result (HasRooms variables inputs) }
+        ensures rooms { IfOk result (HasRooms variables inputs) }
+        ensures none { IfOk result (λ finding. finding.rounds_a ≡ 0) }
     {
         let room = variables as usize;
         Ok(Finding {

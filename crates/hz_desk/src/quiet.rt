@@ -28,6 +28,7 @@ pub(crate) fn is_quiet(change: &Change, free: &Free, finding: &mut Finding) -> b
         change.now.start.now finding.new.rows }
     ensures rooms { HasRooms (length (network_of change.now.net.now)) change.now.net.now.inputs
         finding.new }
+    ensures others { OthersRestOnceFound free.now.free (finding_of finding.new) }
 {
     change.net.keeps_shape();
     let same = &change.start[..change.input.len()] == change.input;

@@ -72,7 +72,7 @@ module _ (values : List Tri) (state : List Bool) (first x : ℕ) (flips : List �
           inl (subst (λ (n : ℕ). value_at values n ≡ tri_of (bit_at (set state x bit) n)) (sym same)
           (bit-known (value_at values x) bit known ∙ ap tri_of (sym (get_or-set_same state x bit false (omega (arith, x-inside, settled.long))))))
       | inr ne ↦ elim (settled.has i inside (changes-other x flips steps i ne ∙ none)) [
-        | inl has ↦ inl (has ∙ ap tri_of (sym (get_or-set_other state x bit i false (λ same. ne (sym same)))))
+        | inl has ↦ inl (has ∙ ap tri_of (sym (get_or-set_other state x i bit false ne)))
         | inr unknown ↦ inr unknown
       ]
     ];

@@ -58,4 +58,7 @@ returns-clause-room c =
         settle = c.make_runs-common.ensures.settle_room;
         cycle = c.make_runs-common.ensures.cycle_room;
       };
+      others = λ some.
+          c.others_rest.ensures c.args.net.now c.args.self.now.free.free c.args.input.now c.args.start.now c.args.cap _ c.keeps_shape.ensures.circuit c.keeps_shape.ensures.whole c.requires.room.free.marks c.requires.start
+          (returns-clause-right c);
     }
