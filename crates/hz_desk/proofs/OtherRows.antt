@@ -38,13 +38,13 @@ pub changes-first : (flips : List ℕ) (steps : List (List ℕ)) (i : ℕ) → i
 changes-first flips steps i there = omega (arith, changes-more flips steps i, listed-one flips i there)
 
 -- a variable that is listed more
-changes-fewer : (x : ℕ) (flips : List ℕ) (steps : List (List ℕ)) (i : ℕ) → changes_in (flips ∷ steps) i ≤ changes_in ((x ∷ flips) ∷ steps) i
+pub changes-fewer : (x : ℕ) (flips : List ℕ) (steps : List (List ℕ)) (i : ℕ) → changes_in (flips ∷ steps) i ≤ changes_in ((x ∷ flips) ∷ steps) i
 changes-fewer x flips steps i = elim (cases_Bool (is_listed flips i)) [
   | inl there ↦ omega (arith, changes-more flips steps i, changes-more (x ∷ flips) steps i, listed-one flips i there, listed-one (x ∷ flips) i (listed-tail i x flips there))
   | inr out ↦ omega (arith, changes-more flips steps i, changes-more (x ∷ flips) steps i, listed-none flips i out)
 ]
 
-changes-other : (x : ℕ) (flips : List ℕ) (steps : List (List ℕ)) (i : ℕ) → i ≢ x → changes_in ((x ∷ flips) ∷ steps) i ≡ changes_in (flips ∷ steps) i
+pub changes-other : (x : ℕ) (flips : List ℕ) (steps : List (List ℕ)) (i : ℕ) → i ≢ x → changes_in ((x ∷ flips) ∷ steps) i ≡ changes_in (flips ∷ steps) i
 changes-other x flips steps i ne =
     changes-more (x ∷ flips) steps i
     ∙ (ap (λ (b : Bool). cond b 1 0 + changes_in steps i) (listed-other i x flips ne) ∙ sym (changes-more flips steps i))

@@ -1,8 +1,8 @@
 -- What is left to settle once a variable more has its value, and once a step has none left.
-use Rattle.std.proofs.Common.{◌≡◌, ◌≢◌, ℕ, suc, ◌+◌, ◌<◌, ◌≤◌, ◌⊎◌, min, Bool, true, false, List, [], ◌∷◌, length, map, drop, drop-cons, get_or, set, Some, None, Option, refl, sym, ap, ◌∙◌, subst, arith, inl, inr, get_or-set_same, get_or-set_other, length-set}
+use Rattle.std.proofs.Common.{◌≡◌, ◌≢◌, ℕ, suc, ◌+◌, ◌<◌, ◌≤◌, ◌⊎◌, min, Bool, true, false, List, [], ◌∷◌, length, map, drop, get_or, set, Some, None, Option, refl, sym, ap, ◌∙◌, subst, arith, inl, inr, length-set}
 use Rattle.std.specs.Prelude.{MatchOption}
 use Rattle.std.proofs.lemmas.Bool.{cases_eq, cases_lt}
-use Rattle.std.proofs.lemmas.List.{drop_all, ext_get_or, get_or_past, length-map}
+use Rattle.std.proofs.lemmas.List.{drop_all, ext_get_or, get_or_default, get_or-set_same, get_or-set_other, get_or_past, length-map}
 use Rattle.hz_core.specs.declared.tri.Tri.{Tri}
 use Rattle.hz_core.specs.declared.tri.Tri.TheVariants.{Zero, One, Unknown}
 use Rattle.hz_core.specs.Ternary.{tri_of, known_bit}
@@ -17,7 +17,7 @@ use Rattle.hz_desk.specs.Finding.{FindingOf, values_b}
 use Rattle.hz_desk.specs.RightFinding.{IsRightFinding}
 use Rattle.hz_desk.specs.declared.finding.Row.{Row}
 use Rattle.hz_desk.proofs.KeptValues.{length-found, found-inside, b-kept}
-use Rattle.hz_desk.proofs.OtherRows.{changes-first, changes-fewer, changes-other}
+use Rattle.hz_desk.proofs.OtherRows.{changes-first, changes-fewer, changes-other, drop-one}
 use Rattle.hz_seq.specs.Sequence.{IsSettledAt, IsFirstUnknown}
 use Rattle.hz_seq.specs.Settling.{IsSettledBut}
 
@@ -37,6 +37,10 @@ none-unknown Unknown known = refl
 bit-not_unknown : (bit : Bool) → tri_of bit ≡ Unknown → ⊥
 bit-not_unknown false e = cc
 bit-not_unknown true e = cc
+
+-- what is found at a place
+pub at-place : (values : List Tri) (x : ℕ) (value : Tri) (found : Option Bool) → x < length values → found ≡ known_bit (get_or values x value) → found ≡ known_bit (value_at values x)
+at-place values x value found inside is = is ∙ ap known_bit (sym (get_or_default values x Zero value inside))
 
 -- In a right finding all variables have their values at the start, but for those that the spread run changes.
 pub begun :
@@ -112,7 +116,7 @@ step-settled steps settled = record {
 -- steps that are left
 pub next-step : {values : List Tri} {state : List Bool} {first : ℕ} (steps : List (List ℕ)) (number : ℕ) → number < length steps → IsSettledBut values (drop number steps) state first → IsSettledBut values (get_or steps number [] ∷ drop (number + 1) steps) state first
 next-step {values} {state} {first} steps number below settled =
-    subst (λ (list : List (List ℕ)). IsSettledBut values list state first) (drop-cons number steps [] below ∙ ap (λ (n : ℕ). get_or steps number [] ∷ drop n steps) (omega arith)) settled
+    subst (λ (list : List (List ℕ)). IsSettledBut values list state first) (drop-one steps number [] below) settled
 
 -- no step is left
 module _ {values : List Tri} {state : List Bool} {first : ℕ} (steps : List (List ℕ)) (number : ℕ) (all : length steps ≤ number) (settled : IsSettledBut values (drop number steps) state first) where
