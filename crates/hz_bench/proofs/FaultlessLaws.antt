@@ -2,10 +2,9 @@
 use Rattle.std.proofs.Common.{◌≡◌, ℕ, suc, Bool, true, false, cond, List, [], ◌∷◌, Option, Some, None, option_map, map, refl, subst, IfSome}
 use Rattle.std.specs.List.{AllByRecursion}
 use Rattle.hz_core.specs.Netlist.{IsCircuit, IsWhole}
-use Rattle.hz_line.specs.declared.bytes.Punctuation.TheVariants.{Open, Close, Comma, Equals}
 use Rattle.hz_line.specs.Line.{lines_of}
 use Rattle.hz_line.specs.Statement.{Meaning, Nothing, Malformed, Means, Numbered, with_meaning, meaning_by, meaning_of_tokens, numbered_from, first_malformed}
-use Rattle.hz_line.specs.Token.{TokenOf, WordOf, PunctuationOf, tokens_of, IsWordToken, AreWordTokens}
+use Rattle.hz_line.specs.Token.{TokenOf, tokens_of, IsWordToken, AreWordTokens}
 use Rattle.hz_line.proofs.TokenLemmas.{tokens_of-AreWordTokens}
 use Rattle.hz_netlist.specs.Build.{AreWired}
 use Rattle.hz_netlist.proofs.Admissible.{whole}
@@ -20,6 +19,7 @@ use Rattle.hz_bench.specs.Text.{bench_meaning, bench_statements, statements_of}
 use Rattle.hz_bench.proofs.CheckedLemmas.{checked}
 use Rattle.hz_bench.proofs.ElementLemmas.{Worded, wired}
 use Rattle.hz_bench.proofs.FaultLaws.{Outcome, form-least, form-none, first_fault-outcome}
+use Rattle.hz_bench.proofs.StatementLemmas.{by_form}
 
 port_worded : (name : List ℕ) (made : Option Port) (statement : Statement) → option_map (port_of name) made ≡ Some statement → IsWordToken name → Worded statement
 port_worded name None statement h word = cc
@@ -35,29 +35,8 @@ defined_worded name kind (Some names) statement h word = by_word (is_flip_flop k
     by_word false h = let is : Gate name (kind_named kind) names ≡ statement = cc h in subst Worded is word
 
 tokens_worded : (tokens : List TokenOf) (statement : Statement) → statement_of tokens ≡ Some statement → AreWordTokens tokens → Worded statement
-tokens_worded [] statement h words = cc
-tokens_worded (PunctuationOf punctuation ∷ rest) statement h words = cc
-tokens_worded (WordOf first ∷ []) statement h words = cc
-tokens_worded (WordOf first ∷ WordOf second ∷ rest) statement h words = cc
-tokens_worded (WordOf first ∷ PunctuationOf Close ∷ rest) statement h words = cc
-tokens_worded (WordOf first ∷ PunctuationOf Comma ∷ rest) statement h words = cc
-tokens_worded (WordOf first ∷ PunctuationOf Open ∷ []) statement h words = cc
-tokens_worded (WordOf first ∷ PunctuationOf Open ∷ PunctuationOf punctuation ∷ rest) statement h words = cc
-tokens_worded (WordOf first ∷ PunctuationOf Open ∷ WordOf second ∷ []) statement h words = cc
-tokens_worded (WordOf first ∷ PunctuationOf Open ∷ WordOf second ∷ WordOf third ∷ rest) statement h words = cc
-tokens_worded (WordOf first ∷ PunctuationOf Open ∷ WordOf second ∷ PunctuationOf Open ∷ rest) statement h words = cc
-tokens_worded (WordOf first ∷ PunctuationOf Open ∷ WordOf second ∷ PunctuationOf Comma ∷ rest) statement h words = cc
-tokens_worded (WordOf first ∷ PunctuationOf Open ∷ WordOf second ∷ PunctuationOf Equals ∷ rest) statement h words = cc
-tokens_worded (WordOf first ∷ PunctuationOf Open ∷ WordOf second ∷ PunctuationOf Close ∷ []) statement h words = port_worded second (port_word first) statement h words.1.0
-tokens_worded (WordOf first ∷ PunctuationOf Open ∷ WordOf second ∷ PunctuationOf Close ∷ token ∷ rest) statement h words = cc
-tokens_worded (WordOf first ∷ PunctuationOf Equals ∷ []) statement h words = cc
-tokens_worded (WordOf first ∷ PunctuationOf Equals ∷ PunctuationOf punctuation ∷ rest) statement h words = cc
-tokens_worded (WordOf first ∷ PunctuationOf Equals ∷ WordOf second ∷ []) statement h words = cc
-tokens_worded (WordOf first ∷ PunctuationOf Equals ∷ WordOf second ∷ WordOf third ∷ rest) statement h words = cc
-tokens_worded (WordOf first ∷ PunctuationOf Equals ∷ WordOf second ∷ PunctuationOf Close ∷ rest) statement h words = cc
-tokens_worded (WordOf first ∷ PunctuationOf Equals ∷ WordOf second ∷ PunctuationOf Comma ∷ rest) statement h words = cc
-tokens_worded (WordOf first ∷ PunctuationOf Equals ∷ WordOf second ∷ PunctuationOf Equals ∷ rest) statement h words = cc
-tokens_worded (WordOf first ∷ PunctuationOf Equals ∷ WordOf second ∷ PunctuationOf Open ∷ rest) statement h words = defined_worded first second (name_list_of rest) statement h words.0
+tokens_worded = by_form (λ tokens statement. AreWordTokens tokens → Worded statement) (λ word name statement h words. port_worded name (port_word word) statement h words.1.0)
+    (λ name kind rest statement h words. defined_worded name kind (name_list_of rest) statement h words.0)
 
 found_worded : (tokens : List TokenOf) (found : Option Statement) (statement : Statement) → found ≡ statement_of tokens → meaning_by found ≡ Means statement → AreWordTokens tokens → Worded statement
 found_worded tokens None statement same h words = cc

@@ -6,6 +6,7 @@ use Rattle.std.specs.List.{AllByRecursion, list_any}
 use Rattle.std.specs.Str.{bytes_eq}
 use Rattle.std.proofs.lemmas.List.{length-map}
 use Rattle.std.proofs.lemmas.List.Sums.{sum_by-cons}
+use Rattle.hz_core.specs.declared.kind.Kind.{Kind}
 use Rattle.hz_core.specs.Netlist.{Netlist, empty_netlist}
 use Rattle.hz_line.specs.Line.{lines_of}
 use Rattle.hz_line.specs.Statement.{Numbered, first_passing_line}
@@ -68,48 +69,30 @@ may-kept {A} May step keeps still now (first ∷ rest) h = by_test (keeps first.
     by_test true t ih = (h.0, ih (step now (element_of first.statement)) h.1)
     by_test false t ih = ih now (subst (λ next. AreAdmissibleSteps May step next (elements rest)) (still now first.statement t) h.1)
 
--- inputs, gates and pins come of nodes alone
-inputs_still : IsStill with_input_of defines_node
-inputs_still now (Input name) h = cc
-inputs_still now (Output name) h = refl
-inputs_still now (FlipFlop name sources) h = refl
-inputs_still now (Gate name kind sources) h = refl
-
-cuts_still : IsStill with_cut_of defines_node
-cuts_still now (Input name) h = refl
-cuts_still now (Output name) h = refl
-cuts_still now (FlipFlop name sources) h = cc
-cuts_still now (Gate name kind sources) h = refl
-
-gates_still : IsStill with_gate_of defines_node
-gates_still now (Input name) h = refl
-gates_still now (Output name) h = refl
-gates_still now (FlipFlop name sources) h = refl
-gates_still now (Gate name kind sources) h = cc
-
-pins_still : IsStill with_pins_of defines_node
-pins_still now (Input name) h = refl
-pins_still now (Output name) h = refl
-pins_still now (FlipFlop name sources) h = cc
-pins_still now (Gate name kind sources) h = cc
+-- inputs, gates and pins come of nodes alone: only an output is no node
+still : {A : Type 0} (step : A → Element → A) → ((now : A) (name : List ℕ) → step now (element.Output name) ≡ now) → IsStill step defines_node
+still step same now (Input name) h = cc
+still step same now (Output name) h = same now name
+still step same now (FlipFlop name sources) h = cc
+still step same now (Gate name kind sources) h = cc
 
 inputs-kept : (statements : List (Numbered Statement)) → fold with_input_of empty_netlist (elements (nodes_among statements)) ≡ fold with_input_of empty_netlist (elements statements)
-inputs-kept statements = fold-kept with_input_of defines_node inputs_still empty_netlist statements
+inputs-kept statements = fold-kept with_input_of defines_node (still with_input_of (λ now name. refl)) empty_netlist statements
 
 inputs_of-kept : (statements : List (Numbered Statement)) → inputs_of (elements (nodes_among statements)) ≡ inputs_of (elements statements)
 inputs_of-kept statements =
     ap (λ now. fold with_cut_of now (elements (nodes_among statements))) (inputs-kept statements)
-    ∙ fold-kept with_cut_of defines_node cuts_still (fold with_input_of empty_netlist (elements statements)) statements
+    ∙ fold-kept with_cut_of defines_node (still with_cut_of (λ now name. refl)) (fold with_input_of empty_netlist (elements statements)) statements
 
 unconnected_netlist-kept : (statements : List (Numbered Statement)) → unconnected_netlist (elements (nodes_among statements)) ≡ unconnected_netlist (elements statements)
 unconnected_netlist-kept statements =
     ap (λ now. fold with_gate_of now (elements (nodes_among statements))) (inputs_of-kept statements)
-    ∙ fold-kept with_gate_of defines_node gates_still (inputs_of (elements statements)) statements
+    ∙ fold-kept with_gate_of defines_node (still with_gate_of (λ now name. refl)) (inputs_of (elements statements)) statements
 
 connected-kept : (statements : List (Numbered Statement)) → connected_netlist (unconnected_netlist (elements (nodes_among statements))) (elements (nodes_among statements)) ≡ connected_netlist (unconnected_netlist (elements statements)) (elements statements)
 connected-kept statements =
     ap (λ now. connected_netlist now (elements (nodes_among statements))) (unconnected_netlist-kept statements)
-    ∙ ap (λ (now : BuilderState). now.netlist) (fold-kept with_pins_of defines_node pins_still (initial_builder (unconnected_netlist (elements statements))) statements)
+    ∙ ap (λ (now : BuilderState). now.netlist) (fold-kept with_pins_of defines_node (still with_pins_of (λ now name. refl)) (initial_builder (unconnected_netlist (elements statements))) statements)
 
 -- outputs by their names
 outputs-kept : (now : Netlist) (statements : List Statement) → fold with_output_of now (map element.Output (output_names (elements_of statements))) ≡ fold with_output_of now (elements_of statements)
@@ -136,13 +119,13 @@ built-kept statements =
 
 may_build-kept : (statements : List (Numbered Statement)) → MayBuild (elements statements) (elements statements) → MayBuild (elements (nodes_among statements)) (map element.Output (output_names (elements_of (plain statements))))
 may_build-kept statements may = record {
-  inputs = may-kept MayAddInput with_input_of defines_node inputs_still empty_netlist statements may.inputs;
+  inputs = may-kept MayAddInput with_input_of defines_node (still with_input_of (λ now name. refl)) empty_netlist statements may.inputs;
   cuts = subst (λ now. AreAdmissibleSteps MayAddCut with_cut_of now (elements (nodes_among statements))) (sym (inputs-kept statements))
-      (may-kept MayAddCut with_cut_of defines_node cuts_still (fold with_input_of empty_netlist (elements statements)) statements may.cuts);
+      (may-kept MayAddCut with_cut_of defines_node (still with_cut_of (λ now name. refl)) (fold with_input_of empty_netlist (elements statements)) statements may.cuts);
   gates = subst (λ now. AreAdmissibleSteps MayAddGate with_gate_of now (elements (nodes_among statements))) (sym (inputs_of-kept statements))
-      (may-kept MayAddGate with_gate_of defines_node gates_still (inputs_of (elements statements)) statements may.gates);
+      (may-kept MayAddGate with_gate_of defines_node (still with_gate_of (λ now name. refl)) (inputs_of (elements statements)) statements may.gates);
   pins = subst (λ (now : Netlist). AreAdmissibleSteps MayAddPins with_pins_of (initial_builder now) (elements (nodes_among statements))) (sym (unconnected_netlist-kept statements))
-      (may-kept MayAddPins with_pins_of defines_node pins_still (initial_builder (unconnected_netlist (elements statements))) statements may.pins);
+      (may-kept MayAddPins with_pins_of defines_node (still with_pins_of (λ now name. refl)) (initial_builder (unconnected_netlist (elements statements))) statements may.pins);
   outputs_may = subst (λ now. AreAdmissibleSteps MayAddOutput with_output_of now (map element.Output (output_names (elements_of (plain statements))))) (sym (connected-kept statements))
       (outputs_may-kept (connected_netlist (unconnected_netlist (elements statements)) (elements statements)) (plain statements) may.outputs_may);
 }
@@ -184,28 +167,28 @@ buildable text statements nodes outputs may right = record {
   pins = subst HaveRightPins (nodes_read text statements nodes) (right-kept (bench_statements text) right);
 }
 
+-- a list of names that each statement but an output adds to is that of the nodes
+told-kept : (told : List Statement → List (List ℕ)) → ((name : List ℕ) (one other : List Statement) → told one ≡ told other → told (Input name ∷ one) ≡ told (Input name ∷ other))
+    → ((name : List ℕ) (sources : List (List ℕ)) (one other : List Statement) → told one ≡ told other → told (FlipFlop name sources ∷ one) ≡ told (FlipFlop name sources ∷ other))
+    → ((name : List ℕ) (kind : Option Kind) (sources : List (List ℕ)) (one other : List Statement) → told one ≡ told other → told (Gate name kind sources ∷ one) ≡ told (Gate name kind sources ∷ other))
+    → ((name : List ℕ) (rest : List Statement) → told (Output name ∷ rest) ≡ told rest)
+    → (statements : List (Numbered Statement)) → told (plain (nodes_among statements)) ≡ told (plain statements)
+told-kept told input flip_flop gate output [] = refl
+told-kept told input flip_flop gate output (first ∷ rest) = by_statement first.statement (told-kept told input flip_flop gate output rest)
+  where
+    by_statement : (statement : Statement) → told (plain (nodes_among rest)) ≡ told (plain rest)
+        → told (plain (cond (defines_node statement) (record { line = first.line; statement = statement } ∷ nodes_among rest) (nodes_among rest))) ≡ told (statement ∷ plain rest)
+    by_statement (Input name) ih = input name (plain (nodes_among rest)) (plain rest) ih
+    by_statement (Output name) ih = ih ∙ sym (output name (plain rest))
+    by_statement (FlipFlop name sources) ih = flip_flop name sources (plain (nodes_among rest)) (plain rest) ih
+    by_statement (Gate name kind sources) ih = gate name kind sources (plain (nodes_among rest)) (plain rest) ih
+
 -- the inputs and the flip-flops are nodes
 input_names-kept : (statements : List (Numbered Statement)) → input_names (elements_of (plain (nodes_among statements))) ≡ input_names (elements_of (plain statements))
-input_names-kept [] = refl
-input_names-kept (first ∷ rest) = by_statement first.statement (input_names-kept rest)
-  where
-    by_statement : (statement : Statement) → input_names (elements_of (plain (nodes_among rest))) ≡ input_names (elements_of (plain rest))
-        → input_names (elements_of (plain (cond (defines_node statement) (record { line = first.line; statement = statement } ∷ nodes_among rest) (nodes_among rest)))) ≡ input_names (elements_of (statement ∷ plain rest))
-    by_statement (Input name) ih = ap (λ names. name ∷ names) ih
-    by_statement (Output name) ih = ih
-    by_statement (FlipFlop name sources) ih = ih
-    by_statement (Gate name kind sources) ih = ih
+input_names-kept = told-kept (λ all. input_names (elements_of all)) (λ name one other e. ap (λ names. name ∷ names) e) (λ name sources one other e. e) (λ name kind sources one other e. e) (λ name rest. refl)
 
 cut_names-kept : (statements : List (Numbered Statement)) → cut_names (elements_of (plain (nodes_among statements))) ≡ cut_names (elements_of (plain statements))
-cut_names-kept [] = refl
-cut_names-kept (first ∷ rest) = by_statement first.statement (cut_names-kept rest)
-  where
-    by_statement : (statement : Statement) → cut_names (elements_of (plain (nodes_among rest))) ≡ cut_names (elements_of (plain rest))
-        → cut_names (elements_of (plain (cond (defines_node statement) (record { line = first.line; statement = statement } ∷ nodes_among rest) (nodes_among rest)))) ≡ cut_names (elements_of (statement ∷ plain rest))
-    by_statement (Input name) ih = ih
-    by_statement (Output name) ih = ih
-    by_statement (FlipFlop name sources) ih = ap (λ names. name ∷ names) ih
-    by_statement (Gate name kind sources) ih = ih
+cut_names-kept = told-kept (λ all. cut_names (elements_of all)) (λ name one other e. e) (λ name sources one other e. ap (λ names. name ∷ names) e) (λ name kind sources one other e. e) (λ name rest. refl)
 
 -- those that were noted are those among the nodes
 inputs-sorted : (text : List ℕ) (statements : Statements) → IsParsed text statements → numbered_list statements.nodes.items ≡ nodes_among (bench_statements text) → statements.notes.inputs ≡ length (input_names (elements_of (statement_list statements.nodes.items)))
@@ -222,26 +205,10 @@ cuts-sorted text statements parsed nodes =
     ∙ ap (λ list. length (cut_names (elements_of list))) (nodes_read text statements nodes)
 
 gate_names-kept : (statements : List (Numbered Statement)) → gate_names (elements_of (plain (nodes_among statements))) ≡ gate_names (elements_of (plain statements))
-gate_names-kept [] = refl
-gate_names-kept (first ∷ rest) = by_statement first.statement (gate_names-kept rest)
-  where
-    by_statement : (statement : Statement) → gate_names (elements_of (plain (nodes_among rest))) ≡ gate_names (elements_of (plain rest))
-        → gate_names (elements_of (plain (cond (defines_node statement) (record { line = first.line; statement = statement } ∷ nodes_among rest) (nodes_among rest)))) ≡ gate_names (elements_of (statement ∷ plain rest))
-    by_statement (Input name) ih = ih
-    by_statement (Output name) ih = ih
-    by_statement (FlipFlop name sources) ih = ih
-    by_statement (Gate name kind sources) ih = ap (λ names. name ∷ names) ih
+gate_names-kept = told-kept (λ all. gate_names (elements_of all)) (λ name one other e. e) (λ name sources one other e. e) (λ name kind sources one other e. ap (λ names. name ∷ names) e) (λ name rest. refl)
 
 read_names-kept : (statements : List (Numbered Statement)) → read_names (plain (nodes_among statements)) ≡ read_names (plain statements)
-read_names-kept [] = refl
-read_names-kept (first ∷ rest) = by_statement first.statement (read_names-kept rest)
-  where
-    by_statement : (statement : Statement) → read_names (plain (nodes_among rest)) ≡ read_names (plain rest)
-        → read_names (plain (cond (defines_node statement) (record { line = first.line; statement = statement } ∷ nodes_among rest) (nodes_among rest))) ≡ read_names (statement ∷ plain rest)
-    by_statement (Input name) ih = ih
-    by_statement (Output name) ih = ih
-    by_statement (FlipFlop name sources) ih = ap (λ names. sources ++ names) ih
-    by_statement (Gate name kind sources) ih = ap (λ names. sources ++ names) ih
+read_names-kept = told-kept read_names (λ name one other e. e) (λ name sources one other e. ap (λ names. sources ++ names) e) (λ name kind sources one other e. ap (λ names. sources ++ names) e) (λ name rest. refl)
 
 node_names-kept : (statements : List (Numbered Statement)) → node_names (elements_of (plain (nodes_among statements))) ≡ node_names (elements_of (plain statements))
 node_names-kept statements =
@@ -251,15 +218,7 @@ node_names-kept statements =
 
 -- the names that nodes define are all names that are defined
 defined_names-kept : (statements : List (Numbered Statement)) → defined_names (plain (nodes_among statements)) ≡ defined_names (plain statements)
-defined_names-kept [] = refl
-defined_names-kept (first ∷ rest) = by_statement first.statement (defined_names-kept rest)
-  where
-    by_statement : (statement : Statement) → defined_names (plain (nodes_among rest)) ≡ defined_names (plain rest)
-        → defined_names (plain (cond (defines_node statement) (record { line = first.line; statement = statement } ∷ nodes_among rest) (nodes_among rest))) ≡ defined_names (statement ∷ plain rest)
-    by_statement (Input name) ih = ap (λ names. name ∷ names) ih
-    by_statement (Output name) ih = ih
-    by_statement (FlipFlop name sources) ih = ap (λ names. name ∷ names) ih
-    by_statement (Gate name kind sources) ih = ap (λ names. name ∷ names) ih
+defined_names-kept = told-kept defined_names (λ name one other e. ap (λ names. name ∷ names) e) (λ name sources one other e. ap (λ names. name ∷ names) e) (λ name kind sources one other e. ap (λ names. name ∷ names) e) (λ name rest. refl)
 
 -- there are no more nodes than variables
 nodes_few : (statements : List (Numbered Statement)) → length (nodes_among statements) ≤ variable_total (elements_of (plain statements))

@@ -5,10 +5,9 @@ use Rattle.hz_netlist.specs.Names.{AreNamesOf, Names, seen_names}
 use Rattle.std.specs.List.{IsDistinct}
 use Rattle.std.specs.Str.{bytes_eq}
 use Rattle.std.proofs.lemmas.List.{append-nil}
-use Rattle.hz_line.specs.declared.bytes.Punctuation.TheVariants.{Open, Close, Comma, Equals}
 use Rattle.hz_line.specs.Line.{lines_of, lines_of_rest, rest_length}
 use Rattle.hz_line.specs.Statement.{Nothing, Means, Numbered, with_meaning, meaning_by, meaning_of_tokens, numbered_from, malformed_before, first_malformed}
-use Rattle.hz_line.specs.Token.{TokenOf, WordOf, PunctuationOf, tokens_of}
+use Rattle.hz_line.specs.Token.{TokenOf, tokens_of}
 use Rattle.hz_line.proofs.TokenLemmas.{tokens_of-length}
 use Rattle.hz_bench.specs.declared.notes.Notes.{Notes}
 use Rattle.hz_bench.specs.declared.parse.Statements.{Statements}
@@ -23,7 +22,7 @@ use Rattle.hz_bench.specs.Statement.{Statement, Input, Output, FlipFlop, Gate, s
 use Rattle.hz_bench.specs.Text.{bench_meaning, bench_statements, plain}
 use Rattle.hz_bench.proofs.ReaderLemmas.{gathered-more}
 use Rattle.hz_bench.proofs.NoteLemmas.{inputs_few, variables-push}
-use Rattle.hz_bench.proofs.StatementLemmas.{IsNameList-from_some}
+use Rattle.hz_bench.proofs.StatementLemmas.{IsNameList-from_some, by_form}
 
 -- what was read so far, before the rest of the text
 pub record IsParsing (text : List ℕ) (statements : Statements) (line : ℕ) (left : Option (Bor (List ℕ))) : Type 0 where
@@ -96,30 +95,8 @@ gate_weight name word rest (Some names) statement same h = by_word (is_flip_flop
 
 -- only a head of two words, each with punctuation after it, begins a statement
 statement_weight : (tokens : List TokenOf) (statement : Statement) → statement_of tokens ≡ Some statement → element_variables (element_of statement) ≤ length tokens
-statement_weight [] statement h = cc
-statement_weight (PunctuationOf punctuation ∷ rest) statement h = cc
-statement_weight (WordOf first ∷ []) statement h = cc
-statement_weight (WordOf first ∷ WordOf second ∷ rest) statement h = cc
-statement_weight (WordOf first ∷ PunctuationOf Close ∷ rest) statement h = cc
-statement_weight (WordOf first ∷ PunctuationOf Comma ∷ rest) statement h = cc
-statement_weight (WordOf first ∷ PunctuationOf Open ∷ []) statement h = cc
-statement_weight (WordOf first ∷ PunctuationOf Open ∷ PunctuationOf punctuation ∷ rest) statement h = cc
-statement_weight (WordOf first ∷ PunctuationOf Open ∷ WordOf second ∷ []) statement h = cc
-statement_weight (WordOf first ∷ PunctuationOf Open ∷ WordOf second ∷ WordOf third ∷ rest) statement h = cc
-statement_weight (WordOf first ∷ PunctuationOf Open ∷ WordOf second ∷ PunctuationOf Open ∷ rest) statement h = cc
-statement_weight (WordOf first ∷ PunctuationOf Open ∷ WordOf second ∷ PunctuationOf Comma ∷ rest) statement h = cc
-statement_weight (WordOf first ∷ PunctuationOf Open ∷ WordOf second ∷ PunctuationOf Equals ∷ rest) statement h = cc
-statement_weight (WordOf first ∷ PunctuationOf Open ∷ WordOf second ∷ PunctuationOf Close ∷ []) statement h = port_weight second (port_word first) statement h
-statement_weight (WordOf first ∷ PunctuationOf Open ∷ WordOf second ∷ PunctuationOf Close ∷ token ∷ rest) statement h = cc
-statement_weight (WordOf first ∷ PunctuationOf Equals ∷ []) statement h = cc
-statement_weight (WordOf first ∷ PunctuationOf Equals ∷ PunctuationOf punctuation ∷ rest) statement h = cc
-statement_weight (WordOf first ∷ PunctuationOf Equals ∷ WordOf second ∷ []) statement h = cc
-statement_weight (WordOf first ∷ PunctuationOf Equals ∷ WordOf second ∷ WordOf third ∷ rest) statement h = cc
-statement_weight (WordOf first ∷ PunctuationOf Equals ∷ WordOf second ∷ PunctuationOf Close ∷ rest) statement h = cc
-statement_weight (WordOf first ∷ PunctuationOf Equals ∷ WordOf second ∷ PunctuationOf Comma ∷ rest) statement h = cc
-statement_weight (WordOf first ∷ PunctuationOf Equals ∷ WordOf second ∷ PunctuationOf Equals ∷ rest) statement h = cc
-statement_weight (WordOf first ∷ PunctuationOf Equals ∷ WordOf second ∷ PunctuationOf Open ∷ rest) statement h =
-    let few = gate_weight first second rest (name_list_of rest) statement refl h in omega arith
+statement_weight = by_form (λ tokens statement. element_variables (element_of statement) ≤ length tokens) (λ word name statement h. port_weight name (port_word word) statement h)
+    (λ name kind rest statement h. (let few = gate_weight name kind rest (name_list_of rest) statement refl h in omega arith))
 
 found_weight : (tokens : List TokenOf) (found : Option Statement) (statement : Statement) → found ≡ statement_of tokens → meaning_by found ≡ Means statement → element_variables (element_of statement) ≤ length tokens
 found_weight tokens None statement same h = cc

@@ -1,5 +1,5 @@
 -- A printed text, line by line.
-use Rattle.std.proofs.Common.{◌≡◌, ◌∙◌, ℕ, ◌+◌, ◌-◌, ◌<◌, ◌≤◌, suc, List, [], ◌∷◌, ◌++◌, Option, None, length, map, take, get_or, sym, ap, arith, append_assoc, codes, add-zero}
+use Rattle.std.proofs.Common.{◌≡◌, ◌∙◌, ℕ, ◌+◌, ◌-◌, ◌<◌, ◌≤◌, suc, List, [], ◌∷◌, ◌++◌, Option, None, length, refl, map, take, get_or, sym, ap, arith, append_assoc, codes, add-zero}
 use Rattle.std.proofs.lemmas.List.{take_more, map_push, append-nil, length-take-le}
 use Rattle.hz_core.specs.Netlist.{Gate, node_name}
 use Rattle.hz_bench.specs.Printed.{port_line, port_lines, more_sources, cut_lines, cut_text, gate_line, gate_texts}
@@ -25,40 +25,33 @@ more_sources-push names (first ∷ sources) source = ap (λ rest. (codes ", " ++
 pub sources_more : (names : List (List ℕ)) (sources : List ℕ) (index : ℕ) → index < length sources → more_sources names (take (index + 1) sources) ≡ more_sources names (take index sources) ++ (codes ", " ++ node_name names (get_or sources index 0))
 sources_more names sources index inside = ap (more_sources names) (take_more sources index 0 inside) ∙ more_sources-push names (take index sources) (get_or sources index 0)
 
-gate_texts-push : (names : List (List ℕ)) (node : ℕ) (gates : List Gate) (gate : Gate) → gate_texts names node (gates ++ gate ∷ []) ≡ gate_texts names node gates ++ gate_line names (node_name names (node + length gates)) gate
-gate_texts-push names node [] gate = append-nil (gate_line names (node_name names node) gate) ∙ ap (λ place. gate_line names (node_name names place) gate) (sym (add-zero node))
-gate_texts-push names node (first ∷ gates) gate =
-    ap (λ rest. gate_line names (node_name names node) first ++ rest) (gate_texts-push names (suc node) gates gate ∙ ap (λ place. gate_texts names (suc node) gates ++ gate_line names (node_name names place) gate) (shift node (length gates)))
-    ∙ sym (append_assoc (gate_line names (node_name names node) first) (gate_texts names (suc node) gates) (gate_line names (node_name names (node + suc (length gates))) gate))
-  where
-    shift : (a b : ℕ) → suc a + b ≡ a + suc b
-    shift a b = omega arith
+-- texts of items that are numbered from a first node
+module _ {X : Type 0} (text : ℕ → X → List ℕ) (texts : ℕ → List X → List ℕ) (none : (node : ℕ) → texts node [] ≡ []) (next : (node : ℕ) (item : X) (rest : List X) → texts node (item ∷ rest) ≡ text node item ++ texts (suc node) rest) where
+  texts-push : (node : ℕ) (items : List X) (item : X) → texts node (items ++ item ∷ []) ≡ texts node items ++ text (node + length items) item
+  texts-push node [] item =
+      next node item [] ∙ ap (λ rest. text node item ++ rest) (none (suc node)) ∙ append-nil (text node item)
+      ∙ ap (λ place. text place item) (sym (add-zero node)) ∙ ap (λ before. before ++ text (node + 0) item) (sym (none node))
+  texts-push node (first ∷ items) item =
+      next node first (items ++ item ∷ []) ∙ ap (λ rest. text node first ++ rest) (texts-push (suc node) items item ∙ ap (λ place. texts (suc node) items ++ text place item) (shift node (length items)))
+      ∙ sym (append_assoc (text node first) (texts (suc node) items) (text (node + suc (length items)) item)) ∙ ap (λ before. before ++ text (node + suc (length items)) item) (sym (next node first items))
+    where
+      shift : (a b : ℕ) → suc a + b ≡ a + suc b
+      shift a b = omega arith
+
+  texts_more : (first : ℕ) (items : List X) (node : ℕ) (other : X) → first ≤ node → node < first + length items
+      → texts first (take (node + 1 - first) items) ≡ texts first (take (node - first) items) ++ text node (get_or items (node - first) other)
+  texts_more first items node other low high =
+      let inside : node - first < length items = omega arith in
+      let next : node + 1 - first ≡ (node - first) + 1 = omega arith in
+      let place : first + length (take (node - first) items) ≡ node = let short = length-take-le (node - first) items (omega arith) in omega arith in
+      ap (λ count. texts first (take count items)) next ∙ ap (texts first) (take_more items (node - first) other inside)
+      ∙ texts-push first (take (node - first) items) (get_or items (node - first) other)
+      ∙ ap (λ at. texts first (take (node - first) items) ++ text at (get_or items (node - first) other)) place
 
 pub gates_more : (names : List (List ℕ)) (inputs : ℕ) (gates : List Gate) (node : ℕ) (other : Gate) → inputs ≤ node → node < inputs + length gates
     → gate_texts names inputs (take (node + 1 - inputs) gates) ≡ gate_texts names inputs (take (node - inputs) gates) ++ gate_line names (node_name names node) (get_or gates (node - inputs) other)
-gates_more names inputs gates node other low high =
-    let inside : node - inputs < length gates = omega arith in
-    let next : node + 1 - inputs ≡ (node - inputs) + 1 = omega arith in
-    let place : inputs + length (take (node - inputs) gates) ≡ node = let short = length-take-le (node - inputs) gates (omega arith) in omega arith in
-    ap (λ count. gate_texts names inputs (take count gates)) next ∙ ap (gate_texts names inputs) (take_more gates (node - inputs) other inside)
-    ∙ gate_texts-push names inputs (take (node - inputs) gates) (get_or gates (node - inputs) other)
-    ∙ ap (λ at. gate_texts names inputs (take (node - inputs) gates) ++ gate_line names (node_name names at) (get_or gates (node - inputs) other)) place
-
-cut_lines-push : (names : List (List ℕ)) (node : ℕ) (cuts : List (Option ℕ)) (cut : Option ℕ) → cut_lines names node (cuts ++ cut ∷ []) ≡ cut_lines names node cuts ++ cut_text names (node_name names (node + length cuts)) cut
-cut_lines-push names node [] cut = append-nil (cut_text names (node_name names node) cut) ∙ ap (λ place. cut_text names (node_name names place) cut) (sym (add-zero node))
-cut_lines-push names node (first ∷ cuts) cut =
-    ap (λ rest. cut_text names (node_name names node) first ++ rest) (cut_lines-push names (suc node) cuts cut ∙ ap (λ place. cut_lines names (suc node) cuts ++ cut_text names (node_name names place) cut) (shift node (length cuts)))
-    ∙ sym (append_assoc (cut_text names (node_name names node) first) (cut_lines names (suc node) cuts) (cut_text names (node_name names (node + suc (length cuts))) cut))
-  where
-    shift : (a b : ℕ) → suc a + b ≡ a + suc b
-    shift a b = omega arith
+gates_more names = texts_more (λ node gate. gate_line names (node_name names node) gate) (gate_texts names) (λ node. refl) (λ node gate rest. refl)
 
 pub cuts_more : (names : List (List ℕ)) (first : ℕ) (cuts : List (Option ℕ)) (node : ℕ) → first ≤ node → node < first + length cuts
     → cut_lines names first (take (node + 1 - first) cuts) ≡ cut_lines names first (take (node - first) cuts) ++ cut_text names (node_name names node) (get_or cuts (node - first) None)
-cuts_more names first cuts node low high =
-    let inside : node - first < length cuts = omega arith in
-    let next : node + 1 - first ≡ (node - first) + 1 = omega arith in
-    let place : first + length (take (node - first) cuts) ≡ node = let short = length-take-le (node - first) cuts (omega arith) in omega arith in
-    ap (λ count. cut_lines names first (take count cuts)) next ∙ ap (cut_lines names first) (take_more cuts (node - first) None inside)
-    ∙ cut_lines-push names first (take (node - first) cuts) (get_or cuts (node - first) None)
-    ∙ ap (λ at. cut_lines names first (take (node - first) cuts) ++ cut_text names (node_name names at) (get_or cuts (node - first) None)) place
+cuts_more names first cuts node = texts_more (λ node cut. cut_text names (node_name names node) cut) (cut_lines names) (λ node. refl) (λ node cut rest. refl) first cuts node None

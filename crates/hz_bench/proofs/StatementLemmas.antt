@@ -11,7 +11,7 @@ use Rattle.hz_bench.specs.declared.statement.Head.{Head}
 use Rattle.hz_bench.specs.declared.statement.NameList.{NameList}
 use Rattle.hz_bench.specs.Head.{has_punctuated_first, head_tokens, names_by, name_list_with, no_name_list}
 use Rattle.hz_bench.specs.Form.{form_named, statement_with}
-use Rattle.hz_bench.specs.Statement.{Gate, statement_of, name_list_of, words_of, Port, port_word, port_of, kind_named, has_long_name, is_long, words_by, are_punctuated, are_punctuated_words, FlipFlop, name_of, sources_of, defined_by, is_flip_flop, words_in}
+use Rattle.hz_bench.specs.Statement.{Statement, Gate, statement_of, name_list_of, words_of, Port, port_word, port_of, kind_named, has_long_name, is_long, words_by, are_punctuated, are_punctuated_words, FlipFlop, name_of, sources_of, defined_by, is_flip_flop, words_in}
 use Rattle.hz_bench.specs.Text.{bench_meaning}
 
 or_false : (a : Bool) → (a || false) ≡ a
@@ -31,28 +31,21 @@ stated_by name word part = by_word (is_flip_flop word)
     by_word false = refl
 
 -- it reads these words
-sources_by : (name word : List ℕ) (sources : List (List ℕ)) → sources_of (defined_by name word sources) ≡ sources
-sources_by name word sources = by_word (is_flip_flop word)
+fields_by : (name word : List ℕ) (sources : List (List ℕ)) → (sources_of (defined_by name word sources) ≡ sources) × (name_of (defined_by name word sources) ≡ name)
+fields_by name word sources = by_word (is_flip_flop word)
   where
-    by_word : (b : Bool) → sources_of (cond b (FlipFlop name sources) (Gate name (kind_named word) sources)) ≡ sources
-    by_word true = refl
-    by_word false = refl
-
-named_by : (name word : List ℕ) (sources : List (List ℕ)) → name_of (defined_by name word sources) ≡ name
-named_by name word sources = by_word (is_flip_flop word)
-  where
-    by_word : (b : Bool) → name_of (cond b (FlipFlop name sources) (Gate name (kind_named word) sources)) ≡ name
-    by_word true = refl
-    by_word false = refl
+    by_word : (b : Bool) → let made = cond b (FlipFlop name sources) (Gate name (kind_named word) sources) in (sources_of made ≡ sources) × (name_of made ≡ name)
+    by_word true = (refl, refl)
+    by_word false = (refl, refl)
 
 pub sources_with : (name word part : List ℕ) → sources_of (statement_with name (form_named word) part) ≡ words_in part
-sources_with name word part = ap sources_of (stated_by name word part) ∙ sources_by name word (words_in part)
+sources_with name word part = ap sources_of (stated_by name word part) ∙ (fields_by name word (words_in part)).0
 
 pub long_with : (name word part : List ℕ) → has_long_name (statement_with name (form_named word) part) ≡ (is_long name || list_any is_long (words_in part))
 long_with name word part =
     ap has_long_name (stated_by name word part)
-    ∙ ap (λ first. is_long first || list_any is_long (sources_of (defined_by name word (words_in part)))) (named_by name word (words_in part))
-    ∙ ap (λ sources. is_long name || list_any is_long sources) (sources_by name word (words_in part))
+    ∙ ap (λ first. is_long first || list_any is_long (sources_of (defined_by name word (words_in part)))) (fields_by name word (words_in part)).1
+    ∙ ap (λ sources. is_long name || list_any is_long sources) (fields_by name word (words_in part)).0
 
 -- a list of names in words
 pub record IsNameList (tokens : List TokenOf) : Type 0 where
@@ -174,3 +167,31 @@ none_marked (Some (PunctuationOf punctuation ∷ rest)) e h = cc
 none_marked (Some (WordOf word ∷ [])) e h = cc
 none_marked (Some (WordOf word ∷ WordOf next ∷ rest)) e h = cc
 none_marked (Some (WordOf word ∷ PunctuationOf punctuation ∷ rest)) e h = cc
+
+-- what holds of the two forms of a statement holds of each statement
+pub by_form : (P : List TokenOf → Statement → Type 0) → ((word name : List ℕ) (statement : Statement) → option_map (port_of name) (port_word word) ≡ Some statement → P (WordOf word ∷ PunctuationOf Open ∷ WordOf name ∷ PunctuationOf Close ∷ []) statement)
+    → ((name kind : List ℕ) (rest : List TokenOf) (statement : Statement) → option_map (defined_by name kind) (name_list_of rest) ≡ Some statement → P (WordOf name ∷ PunctuationOf Equals ∷ WordOf kind ∷ PunctuationOf Open ∷ rest) statement)
+    → (tokens : List TokenOf) (statement : Statement) → statement_of tokens ≡ Some statement → P tokens statement
+by_form P port defined [] statement h = cc
+by_form P port defined (PunctuationOf punctuation ∷ rest) statement h = cc
+by_form P port defined (WordOf first ∷ []) statement h = cc
+by_form P port defined (WordOf first ∷ WordOf second ∷ rest) statement h = cc
+by_form P port defined (WordOf first ∷ PunctuationOf Close ∷ rest) statement h = cc
+by_form P port defined (WordOf first ∷ PunctuationOf Comma ∷ rest) statement h = cc
+by_form P port defined (WordOf first ∷ PunctuationOf Open ∷ []) statement h = cc
+by_form P port defined (WordOf first ∷ PunctuationOf Open ∷ PunctuationOf punctuation ∷ rest) statement h = cc
+by_form P port defined (WordOf first ∷ PunctuationOf Open ∷ WordOf second ∷ []) statement h = cc
+by_form P port defined (WordOf first ∷ PunctuationOf Open ∷ WordOf second ∷ WordOf third ∷ rest) statement h = cc
+by_form P port defined (WordOf first ∷ PunctuationOf Open ∷ WordOf second ∷ PunctuationOf Open ∷ rest) statement h = cc
+by_form P port defined (WordOf first ∷ PunctuationOf Open ∷ WordOf second ∷ PunctuationOf Comma ∷ rest) statement h = cc
+by_form P port defined (WordOf first ∷ PunctuationOf Open ∷ WordOf second ∷ PunctuationOf Equals ∷ rest) statement h = cc
+by_form P port defined (WordOf first ∷ PunctuationOf Open ∷ WordOf second ∷ PunctuationOf Close ∷ []) statement h = port first second statement h
+by_form P port defined (WordOf first ∷ PunctuationOf Open ∷ WordOf second ∷ PunctuationOf Close ∷ token ∷ rest) statement h = cc
+by_form P port defined (WordOf first ∷ PunctuationOf Equals ∷ []) statement h = cc
+by_form P port defined (WordOf first ∷ PunctuationOf Equals ∷ PunctuationOf punctuation ∷ rest) statement h = cc
+by_form P port defined (WordOf first ∷ PunctuationOf Equals ∷ WordOf second ∷ []) statement h = cc
+by_form P port defined (WordOf first ∷ PunctuationOf Equals ∷ WordOf second ∷ WordOf third ∷ rest) statement h = cc
+by_form P port defined (WordOf first ∷ PunctuationOf Equals ∷ WordOf second ∷ PunctuationOf Close ∷ rest) statement h = cc
+by_form P port defined (WordOf first ∷ PunctuationOf Equals ∷ WordOf second ∷ PunctuationOf Comma ∷ rest) statement h = cc
+by_form P port defined (WordOf first ∷ PunctuationOf Equals ∷ WordOf second ∷ PunctuationOf Equals ∷ rest) statement h = cc
+by_form P port defined (WordOf first ∷ PunctuationOf Equals ∷ WordOf second ∷ PunctuationOf Open ∷ rest) statement h = defined first second rest statement h

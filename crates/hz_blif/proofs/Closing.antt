@@ -218,6 +218,12 @@ holds-excess read one old count at right small large held =
     gone : this ≡ None → ⊥
     gone e = cc
 
+-- a cover that is not too large
+excess-stays : (read : Read) (one : Cover) → read.current ≡ Some one → is_too_large one ≡ false → excess_found (find is_too_large read.done) ≡ excess_found (find is_too_large (covers_with read.done read.current))
+excess-stays read one at large =
+    sym (ap (λ current. excess_found (find is_too_large (covers_with read.done current))) at ∙ ap excess_found (find-last read.done one)
+    ∙ ap (λ large. excess_found (option_or (find is_too_large read.done) (cond large (Some one) None))) large ∙ ap excess_found (or-none (find is_too_large read.done)))
+
 -- a constant cover
 uses-constant : (constant : Bool) (one : Cover) (used : List (Numbered (List ℕ))) → is_constant one ≡ constant → constant ≡ true → used ++ cover_uses one ≡ used
 uses-constant false one used is h = let e : false ≡ true = h in cc
@@ -285,9 +291,7 @@ holds-constant read one old constants pins vec constants_at pins_at same at righ
       wrong_row_is = held.wrong_row_is;
       is_open = refl;
       current = λ right. tt;
-      excess_is = λ right. held.excess_is right
-          ∙ sym (ap (λ covers. excess_found (find is_too_large covers)) all ∙ ap excess_found (find-last read.done one)
-          ∙ ap (λ large. excess_found (option_or (find is_too_large read.done) (cond large (Some one) None))) large ∙ ap excess_found (or-none (find is_too_large read.done)));
+      excess_is = λ right. held.excess_is right ∙ excess-stays read one at large;
       few = (let was = held.few in let more = varying-last read.done one in let same = ap (λ covers. variable_total (flat_map cover_gates (varying covers))) all in omega (arith, was, more, same));
       uses = λ right small. held.uses right small ∙ sym uses;
       covers = λ right small. retold (covers_with read.done read.current) (read.done ++ one ∷ []) (record old { constants = vec.constants; constant_pins = vec.constant_pins }) all kept;
@@ -336,9 +340,7 @@ holds-grown read one old gates variables at right small large varies counted hol
       wrong_row_is = held.wrong_row_is;
       is_open = refl;
       current = λ right. tt;
-      excess_is = λ right. held.excess_is right
-          ∙ sym (ap (λ covers. excess_found (find is_too_large covers)) all ∙ ap excess_found (find-last read.done one)
-          ∙ ap (λ large. excess_found (option_or (find is_too_large read.done) (cond large (Some one) None))) large ∙ ap excess_found (or-none (find is_too_large read.done)));
+      excess_is = λ right. held.excess_is right ∙ excess-stays read one at large;
       few = (let same = ap (λ covers. variable_total (flat_map cover_gates (varying covers))) all in omega (arith, total, same));
       uses = λ right small. held.uses right small ∙ sym uses;
       covers = λ right small. subst (λ covers. HoldsCovers covers (record old { gates = gates; variables = variables; is_open = false })) (sym all) kept;

@@ -285,31 +285,26 @@ one-source before (first ∷ []) one single at = ap (λ (one : Source). one ∷ 
 one-source before (first ∷ second ∷ rest) one single at = absurd (omega (arith, single))
 
 -- the loops over pins and over rows, one step on
+pins-step : {X : Type 0} (from : ℕ → List (List ℕ) → List X) → ((before : ℕ) (pins : List (List ℕ)) (pin : List ℕ) → from before (pins ++ pin ∷ []) ≡ from before pins ++ from (before + length pins) (pin ∷ []))
+    → (name : ℕ → List ℕ) (pins : List ℕ) (i pin : ℕ) → i < length pins → pin ≡ get_or pins i 0 → from 0 (map name (take i pins)) ++ from i (name pin ∷ []) ≡ from 0 (map name (take (i + 1) pins))
+pins-step from more name pins i pin there is =
+    let front = map name (take i pins) in
+    let place : 0 + length front ≡ i = omega (arith, there, length-map (take i pins) name, length-take-le i pins (omega (arith, there))) in
+    sym (ap (λ (pins : List ℕ). from 0 (map name pins)) (take_more pins i 0 there)
+    ∙ (ap (from 0) (map_push name (take i pins) (get_or pins i 0))
+    ∙ (more 0 front (name (get_or pins i 0))
+    ∙ (ap (λ (n : ℕ). from 0 front ++ from n (name (get_or pins i 0) ∷ [])) place
+    ∙ ap (λ (pin : ℕ). from 0 front ++ from i (name pin ∷ [])) (sym is)))))
+
 pub inverters-step : (name : ℕ → List ℕ) (cover : Cover) (i pin : ℕ) → i < length cover.pins.items → pin ≡ get_or cover.pins.items i 0
     → inverters_from (name cover.output) (planes_by cover) 0 (map name (take i cover.pins.items)) ++ inverters_from (name cover.output) (planes_by cover) i (name pin ∷ [])
     ≡ inverters_from (name cover.output) (planes_by cover) 0 (map name (take (i + 1) cover.pins.items))
-inverters-step name cover i pin there is =
-    let pins = cover.pins.items in
-    let front = map name (take i pins) in
-    let place : 0 + length front ≡ i = omega (arith, there, length-map (take i pins) name, length-take-le i pins (omega (arith, there))) in
-    sym (ap (λ (pins : List ℕ). inverters_from (name cover.output) (planes_by cover) 0 (map name pins)) (take_more pins i 0 there)
-    ∙ (ap (inverters_from (name cover.output) (planes_by cover) 0) (map_push name (take i pins) (get_or pins i 0))
-    ∙ (inverters-more (name cover.output) (planes_by cover) 0 front (name (get_or pins i 0))
-    ∙ (ap (λ (n : ℕ). inverters_from (name cover.output) (planes_by cover) 0 front ++ inverters_from (name cover.output) (planes_by cover) n (name (get_or pins i 0) ∷ [])) place
-    ∙ ap (λ (pin : ℕ). inverters_from (name cover.output) (planes_by cover) 0 front ++ inverters_from (name cover.output) (planes_by cover) i (name pin ∷ [])) (sym is)))))
+inverters-step name cover = pins-step (inverters_from (name cover.output) (planes_by cover)) (inverters-more (name cover.output) (planes_by cover)) name cover.pins.items
 
 pub inverted-step : (name : ℕ → List ℕ) (cover : Cover) (i pin : ℕ) → i < length cover.pins.items → pin ≡ get_or cover.pins.items i 0
     → inverted_from (name cover.output) (planes_by cover) 0 (map name (take i cover.pins.items)) ++ inverted_from (name cover.output) (planes_by cover) i (name pin ∷ [])
     ≡ inverted_from (name cover.output) (planes_by cover) 0 (map name (take (i + 1) cover.pins.items))
-inverted-step name cover i pin there is =
-    let pins = cover.pins.items in
-    let front = map name (take i pins) in
-    let place : 0 + length front ≡ i = omega (arith, there, length-map (take i pins) name, length-take-le i pins (omega (arith, there))) in
-    sym (ap (λ (pins : List ℕ). inverted_from (name cover.output) (planes_by cover) 0 (map name pins)) (take_more pins i 0 there)
-    ∙ (ap (inverted_from (name cover.output) (planes_by cover) 0) (map_push name (take i pins) (get_or pins i 0))
-    ∙ (inverted-more (name cover.output) (planes_by cover) 0 front (name (get_or pins i 0))
-    ∙ (ap (λ (n : ℕ). inverted_from (name cover.output) (planes_by cover) 0 front ++ inverted_from (name cover.output) (planes_by cover) n (name (get_or pins i 0) ∷ [])) place
-    ∙ ap (λ (pin : ℕ). inverted_from (name cover.output) (planes_by cover) 0 front ++ inverted_from (name cover.output) (planes_by cover) i (name pin ∷ [])) (sym is)))))
+inverted-step name cover = pins-step (inverted_from (name cover.output) (planes_by cover)) (inverted-more (name cover.output) (planes_by cover)) name cover.pins.items
 
 take-bytes : (words : List (Bor (List ℕ))) (i : ℕ) (d : Bor (List ℕ)) → i < length words → take (i + 1) (bytes_of words) ≡ take i (bytes_of words) ++ (get_or words i d).now ∷ []
 take-bytes words i d there =

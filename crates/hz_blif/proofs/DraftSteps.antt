@@ -42,17 +42,19 @@ covers-kept covers old names kept is = record {
   pin_numbers = numbers-kept old.names names old.constant_pins.items kept is.pin_numbers;
 }
 
--- names that define and use the same
-pub holds-seen : (read : Read) (old : Draft) (name : List ℕ) (names : Names) → names ≡ with_sight old.names name → Holds read old → Holds read (record old { names = names })
-holds-seen read old name names is held =
-    let kept : KeepsNames old.names names = subst (KeepsNames old.names) (sym is) (sight-keeps old.names name) in
+-- what is kept where there are more names, or more is said of these
+holds-renamed : (read : Read) (old : Draft) (names : Names) (definitions used told : List (Numbered (List ℕ))) (again : Option Redefinition)
+    → KeepsNames old.names names → IsDistinct bytes_eq (seen_names names) → AreNamesOf definitions used names → option_map twice_fault again ≡ twice_after [] definitions
+    → (held : Holds read old) → (held.used ≡ read.used → used ≡ told)
+    → Holds (record read { definitions = definitions; used = told }) (record old { names = names; notes = record old.notes { again = again } })
+holds-renamed read old names definitions used told again kept distinct named twice held uses =
     record {
       long_name = held.long_name;
       construct = held.construct;
-      distinct = subst (λ names. IsDistinct bytes_eq (seen_names names)) (sym is) (sight-distinct old.names name held.distinct);
-      used = held.used;
-      named = subst (AreNamesOf read.definitions held.used) (sym is) (sight-named read.definitions held.used old.names name held.named);
-      again = held.again;
+      distinct = distinct;
+      used = used;
+      named = named;
+      again = twice;
       inputs = names-kept old.names names old.inputs.items kept held.input_numbers ∙ held.inputs;
       input_numbers = numbers-kept old.names names old.inputs.items kept held.input_numbers;
       outputs = names-kept old.names names old.outputs.items kept held.output_numbers ∙ held.outputs;
@@ -62,9 +64,16 @@ holds-seen read old name names is held =
       current = λ right. current-kept old.names names read.current old.cover kept (held.current right);
       excess_is = held.excess_is;
       few = held.few;
-      uses = held.uses;
-      covers = λ right small. covers-kept read.done old names kept (held.covers right small);
+      uses = λ right small. uses (held.uses right small);
+      covers = λ right small. (let is = covers-kept read.done old names kept (held.covers right small) in record { gates = is.gates; holds = is.holds; gate_numbers = is.gate_numbers; counted = is.counted; constants = is.constants; constant_numbers = is.constant_numbers; pins = is.pins; pin_numbers = is.pin_numbers });
     }
+
+-- names that define and use the same
+pub holds-seen : (read : Read) (old : Draft) (name : List ℕ) (names : Names) → names ≡ with_sight old.names name → Holds read old → Holds read (record old { names = names })
+holds-seen read old name names is held =
+    holds-renamed read old names read.definitions held.used read.used old.notes.again (subst (KeepsNames old.names) (sym is) (sight-keeps old.names name))
+    (subst (λ names. IsDistinct bytes_eq (seen_names names)) (sym is) (sight-distinct old.names name held.distinct))
+    (subst (AreNamesOf read.definitions held.used) (sym is) (sight-named read.definitions held.used old.names name held.named)) held.again held (λ same. same)
 
 -- the names as they are
 pub holds-same : (read : Read) (old : Draft) (names : Names) → names ≡ old.names → Holds read old → Holds read (record old { names = names })
@@ -105,28 +114,12 @@ holds-defined read old number line names again few is noted held =
     let same : seen_names names ≡ seen_names old.names = ap seen_names is ∙ definition-names old.names number line few in
     let kept : KeepsNames old.names names = keeps-same old.names names same in
     let first : (seen_at old.names number).definer ≡ first_passing_line (bytes_eq name) read.definitions = definer-at old.names number held.distinct few ∙ held.named.definer name in
-    record {
-      long_name = held.long_name;
-      construct = held.construct;
-      distinct = subst (IsDistinct bytes_eq) (sym same) held.distinct;
-      used = held.used;
-      named = subst (AreNamesOf (read.definitions ++ record { line = line; statement = name } ∷ []) held.used) (sym is) (names-define read.definitions held.used old.names name line held.named);
-      again = ap (option_map twice_fault) noted ∙ again-told old.notes.again line (seen_at old.names number).definer
-          ∙ ap (λ first. option_or (option_map twice_fault old.notes.again) (twice_or line first None)) first
-          ∙ ap (λ again. option_or again (twice_or line (first_passing_line (bytes_eq name) read.definitions) None)) held.again
-          ∙ sym (twice-push [] read.definitions (record { line = line; statement = name }));
-      inputs = names-kept old.names names old.inputs.items kept held.input_numbers ∙ held.inputs;
-      input_numbers = numbers-kept old.names names old.inputs.items kept held.input_numbers;
-      outputs = names-kept old.names names old.outputs.items kept held.output_numbers ∙ held.outputs;
-      output_numbers = numbers-kept old.names names old.outputs.items kept held.output_numbers;
-      wrong_row_is = held.wrong_row_is;
-      is_open = held.is_open;
-      current = λ right. current-kept old.names names read.current old.cover kept (held.current right);
-      excess_is = held.excess_is;
-      few = held.few;
-      uses = held.uses;
-      covers = λ right small. (let is = covers-kept read.done old names kept (held.covers right small) in record { gates = is.gates; holds = is.holds; gate_numbers = is.gate_numbers; counted = is.counted; constants = is.constants; constant_numbers = is.constant_numbers; pins = is.pins; pin_numbers = is.pin_numbers });
-    }
+    let twice = ap (option_map twice_fault) noted ∙ again-told old.notes.again line (seen_at old.names number).definer
+    ∙ ap (λ first. option_or (option_map twice_fault old.notes.again) (twice_or line first None)) first
+    ∙ ap (λ again. option_or again (twice_or line (first_passing_line (bytes_eq name) read.definitions) None)) held.again
+    ∙ sym (twice-push [] read.definitions (record { line = line; statement = name })) in
+    holds-renamed read old names (read.definitions ++ record { line = line; statement = name } ∷ []) held.used read.used again kept (subst (IsDistinct bytes_eq) (sym same) held.distinct)
+    (subst (AreNamesOf (read.definitions ++ record { line = line; statement = name } ∷ []) held.used) (sym is) (names-define read.definitions held.used old.names name line held.named)) twice held (λ same. same)
 
 -- one use more
 pub holds-used : (read : Read) (old : Draft) (number line : ℕ) (names : Names) → number < length old.names → names ≡ with_use old.names (name_at old.names number) line
@@ -135,25 +128,8 @@ holds-used read old number line names few is held =
     let name = name_at old.names number in
     let same : seen_names names ≡ seen_names old.names = ap seen_names is ∙ use-names old.names number line few in
     let kept : KeepsNames old.names names = keeps-same old.names names same in
-    record {
-      long_name = held.long_name;
-      construct = held.construct;
-      distinct = subst (IsDistinct bytes_eq) (sym same) held.distinct;
-      used = held.used ++ record { line = line; statement = name } ∷ [];
-      named = subst (AreNamesOf read.definitions (held.used ++ record { line = line; statement = name } ∷ [])) (sym is) (names-use read.definitions held.used old.names name line held.named);
-      again = held.again;
-      inputs = names-kept old.names names old.inputs.items kept held.input_numbers ∙ held.inputs;
-      input_numbers = numbers-kept old.names names old.inputs.items kept held.input_numbers;
-      outputs = names-kept old.names names old.outputs.items kept held.output_numbers ∙ held.outputs;
-      output_numbers = numbers-kept old.names names old.outputs.items kept held.output_numbers;
-      wrong_row_is = held.wrong_row_is;
-      is_open = held.is_open;
-      current = λ right. current-kept old.names names read.current old.cover kept (held.current right);
-      excess_is = held.excess_is;
-      few = held.few;
-      uses = λ right small. ap (λ used. used ++ record { line = line; statement = name } ∷ []) (held.uses right small);
-      covers = λ right small. covers-kept read.done old names kept (held.covers right small);
-    }
+    holds-renamed read old names read.definitions (held.used ++ record { line = line; statement = name } ∷ []) (read.used ++ record { line = line; statement = name } ∷ []) old.notes.again kept (subst (IsDistinct bytes_eq) (sym same) held.distinct)
+    (subst (AreNamesOf read.definitions (held.used ++ record { line = line; statement = name } ∷ [])) (sym is) (names-use read.definitions held.used old.names name line held.named)) held.again held (ap (λ used. used ++ record { line = line; statement = name } ∷ []))
 
 pub names-push : (names : Names) (numbers more : List ℕ) (number : ℕ) (told : List (List ℕ)) → more ≡ numbers ++ number ∷ [] → names_at names numbers ≡ told → names_at names more ≡ told ++ name_at names number ∷ []
 names-push names numbers more number told is are =
@@ -162,54 +138,45 @@ names-push names numbers more number told is are =
 pub numbers-push : (names : Names) (numbers more : List ℕ) (number : ℕ) → more ≡ numbers ++ number ∷ [] → number < length names → AreNumbers names numbers → AreNumbers names more
 numbers-push names numbers more number is few are = All-same (λ number. number < length names) more (numbers ++ number ∷ []) is (All-push (λ number. number < length names) numbers number are few)
 
+-- other inputs and outputs
+holds-ports : (read : Read) (old more : Draft) (inputs outputs : List (List ℕ)) → names_at old.names more.inputs.items ≡ inputs → AreNumbers old.names more.inputs.items
+    → names_at old.names more.outputs.items ≡ outputs → AreNumbers old.names more.outputs.items
+    → Holds read old → Holds (record read { inputs = inputs; outputs = outputs }) (record old { inputs = more.inputs; outputs = more.outputs })
+holds-ports read old more inputs outputs ins in_numbers outs out_numbers held =
+    record {
+      long_name = held.long_name;
+      construct = held.construct;
+      distinct = held.distinct;
+      used = held.used;
+      named = held.named;
+      again = held.again;
+      inputs = ins;
+      input_numbers = in_numbers;
+      outputs = outs;
+      output_numbers = out_numbers;
+      wrong_row_is = held.wrong_row_is;
+      is_open = held.is_open;
+      current = held.current;
+      excess_is = held.excess_is;
+      few = held.few;
+      uses = held.uses;
+      covers = λ right small. (let is = held.covers right small in record { gates = is.gates; holds = is.holds; gate_numbers = is.gate_numbers; counted = is.counted; constants = is.constants; constant_numbers = is.constant_numbers; pins = is.pins; pin_numbers = is.pin_numbers });
+    }
+
 -- an input more
 pub holds-input : (read : Read) (old new : Draft) (number : ℕ) → new ≡ record old { inputs = new.inputs } → new.inputs.items ≡ old.inputs.items ++ number ∷ [] → number < length old.names
     → Holds read old → Holds (record read { inputs = read.inputs ++ name_at old.names number ∷ [] }) new
 holds-input read old new number same is few held =
     subst (Holds (record read { inputs = read.inputs ++ name_at old.names number ∷ [] })) (sym same)
-    (record {
-      long_name = held.long_name;
-      construct = held.construct;
-      distinct = held.distinct;
-      used = held.used;
-      named = held.named;
-      again = held.again;
-      inputs = names-push old.names old.inputs.items new.inputs.items number read.inputs is held.inputs;
-      input_numbers = numbers-push old.names old.inputs.items new.inputs.items number is few held.input_numbers;
-      outputs = held.outputs;
-      output_numbers = held.output_numbers;
-      wrong_row_is = held.wrong_row_is;
-      is_open = held.is_open;
-      current = held.current;
-      excess_is = held.excess_is;
-      few = held.few;
-      uses = held.uses;
-      covers = λ right small. (let is = held.covers right small in record { gates = is.gates; holds = is.holds; gate_numbers = is.gate_numbers; counted = is.counted; constants = is.constants; constant_numbers = is.constant_numbers; pins = is.pins; pin_numbers = is.pin_numbers });
-    })
+    (holds-ports read old (record old { inputs = new.inputs }) (read.inputs ++ name_at old.names number ∷ []) read.outputs (names-push old.names old.inputs.items new.inputs.items number read.inputs is held.inputs)
+    (numbers-push old.names old.inputs.items new.inputs.items number is few held.input_numbers) held.outputs held.output_numbers held)
 
 pub holds-output : (read : Read) (old new : Draft) (number : ℕ) → new ≡ record old { outputs = new.outputs } → new.outputs.items ≡ old.outputs.items ++ number ∷ [] → number < length old.names
     → Holds read old → Holds (record read { outputs = read.outputs ++ name_at old.names number ∷ [] }) new
 holds-output read old new number same is few held =
     subst (Holds (record read { outputs = read.outputs ++ name_at old.names number ∷ [] })) (sym same)
-    (record {
-      long_name = held.long_name;
-      construct = held.construct;
-      distinct = held.distinct;
-      used = held.used;
-      named = held.named;
-      again = held.again;
-      inputs = held.inputs;
-      input_numbers = held.input_numbers;
-      outputs = names-push old.names old.outputs.items new.outputs.items number read.outputs is held.outputs;
-      output_numbers = numbers-push old.names old.outputs.items new.outputs.items number is few held.output_numbers;
-      wrong_row_is = held.wrong_row_is;
-      is_open = held.is_open;
-      current = held.current;
-      excess_is = held.excess_is;
-      few = held.few;
-      uses = held.uses;
-      covers = λ right small. (let is = held.covers right small in record { gates = is.gates; holds = is.holds; gate_numbers = is.gate_numbers; counted = is.counted; constants = is.constants; constant_numbers = is.constant_numbers; pins = is.pins; pin_numbers = is.pin_numbers });
-    })
+    (holds-ports read old (record old { outputs = new.outputs }) read.inputs (read.outputs ++ name_at old.names number ∷ []) held.inputs held.input_numbers
+    (names-push old.names old.outputs.items new.outputs.items number read.outputs is held.outputs) (numbers-push old.names old.outputs.items new.outputs.items number is few held.output_numbers) held)
 
 -- inputs and outputs one after the other
 pub inputs-twice : (line : ℕ) (names more : List (List ℕ)) (read : Read) → with_inputs line more (with_inputs line names read) ≡ with_inputs line (names ++ more) read

@@ -227,31 +227,20 @@ undefined-least defined (first ∷ rest) =
     (IsLeastOf-either (IsHere defined first) (IsUndefinedIn defined rest) (undefined_use defined first) (least_of (map (undefined_use defined) rest))
     (here-least defined first (is_among defined first.statement) refl) (undefined-least defined rest)))
 
+-- the numbers begin with 1 and end with 9
+number-bounds : (text : List ℕ) (one : BlifFault) → HasFault text one → (1 ≤ fault_number one) × (fault_number one < 10)
+number-bounds text (fault.Form line) p = (lit≤ tt, lit≤ tt)
+number-bounds text (fault.Name line) p = (lit≤ tt, lit≤ tt)
+number-bounds text (fault.Construct line) p = (lit≤ tt, lit≤ tt)
+number-bounds text (fault.Twice line first) p = (lit≤ tt, lit≤ tt)
+number-bounds text (fault.Cover line) p = (lit≤ tt, lit≤ tt)
+number-bounds text (fault.Pins line count) p = (lit≤ tt, lit≤ tt)
+number-bounds text (fault.Constant line) p = (lit≤ tt, lit≤ tt)
+number-bounds text (fault.Undefined line) p = (lit≤ tt, lit≤ tt)
+number-bounds text (fault.TooMany variables) p = (lit≤ tt, lit≤ tt)
+number-bounds text fault.Memory p = absurd p
+
 -- too many variables
-last-number : (text : List ℕ) (one : BlifFault) → HasFault text one → fault_number one < 10
-last-number text (fault.Form line) p = lit≤ tt
-last-number text (fault.Name line) p = lit≤ tt
-last-number text (fault.Construct line) p = lit≤ tt
-last-number text (fault.Twice line first) p = lit≤ tt
-last-number text (fault.Cover line) p = lit≤ tt
-last-number text (fault.Pins line count) p = lit≤ tt
-last-number text (fault.Constant line) p = lit≤ tt
-last-number text (fault.Undefined line) p = lit≤ tt
-last-number text (fault.TooMany variables) p = lit≤ tt
-last-number text fault.Memory p = absurd p
-
-first-number : (text : List ℕ) (one : BlifFault) → HasFault text one → 1 ≤ fault_number one
-first-number text (fault.Form line) p = lit≤ tt
-first-number text (fault.Name line) p = lit≤ tt
-first-number text (fault.Construct line) p = lit≤ tt
-first-number text (fault.Twice line first) p = lit≤ tt
-first-number text (fault.Cover line) p = lit≤ tt
-first-number text (fault.Pins line count) p = lit≤ tt
-first-number text (fault.Constant line) p = lit≤ tt
-first-number text (fault.Undefined line) p = lit≤ tt
-first-number text (fault.TooMany variables) p = lit≤ tt
-first-number text fault.Memory p = absurd p
-
 found-many : (text : List ℕ) (variables : ℕ) (many : Bool) → nat_lt most_variables variables ≡ many → variable_total (elements_of (lines_in text)) ≡ variables
     → AreFound (blif_faults text) 9 (cond many (Some (fault.TooMany variables)) None ∷ [])
 found-many text variables true t is = record {
@@ -261,7 +250,7 @@ found-many text variables true t is = record {
 }
 found-many text variables false t is =
     let few : variables ≤ most_variables = grind (arith, nat_tests, t) in
-    (λ other p same. (let it = at_number text other 9 p same in omega (arith, few, is, it.1, it.2)), last-number text)
+    (λ other p same. (let it = at_number text other 9 p same in omega (arith, few, is, it.1, it.2)), λ one p. (number-bounds text one p).1)
 
 -- all of them
 pub are-found : (text : List ℕ) → AreFound (blif_faults text) 1 (faults_in text)
@@ -286,7 +275,7 @@ are-found text =
     (found-many text (variable_total (elements_of lines)) (nat_lt most_variables (variable_total (elements_of lines))) refl refl))))))))
 
 pub first-answer : (text : List ℕ) → IsAnswer (blif_faults text) (first_fault text)
-first-answer text = found-least (blif_faults text) 1 (faults_in text) (first-number text) (are-found text)
+first-answer text = found-least (blif_faults text) 1 (faults_in text) (λ one p. (number-bounds text one p).0) (are-found text)
 
 -- what is answered
 pub answer-least : (text : List ℕ) (one : BlifFault) → first_fault text ≡ Some one → IsLeastFault text one

@@ -141,21 +141,20 @@ apart-at name [] number all few = absurd (omega (arith, few))
 apart-at name (seen ∷ rest) zero all few = all.0
 apart-at name (seen ∷ rest) (suc number) all few = apart-at name rest number all.1 (omega (arith, few))
 
-pub definer-at : (names : Names) (number : ℕ) → IsDistinct bytes_eq (seen_names names) → number < length names → (seen_at names number).definer ≡ definer_in names (name_at names number)
-definer-at [] number distinct few = absurd (omega (arith, few))
-definer-at (seen ∷ rest) zero distinct few = ap (λ same. cond same seen.definer (definer_in rest seen.name)) (sym ((bytes_eq-Decides seen.name seen.name).1 refl))
-definer-at (seen ∷ rest) (suc number) distinct few =
+told-at : (told : Names → List ℕ → Option ℕ) (of : Seen → Option ℕ) → ((seen : Seen) (rest : Names) (name : List ℕ) → told (seen ∷ rest) name ≡ cond (bytes_eq seen.name name) (of seen) (told rest name))
+    → (names : Names) (number : ℕ) → IsDistinct bytes_eq (seen_names names) → number < length names → of (seen_at names number) ≡ told names (name_at names number)
+told-at told of next [] number distinct few = absurd (omega (arith, few))
+told-at told of next (seen ∷ rest) zero distinct few = sym (next seen rest seen.name ∙ ap (λ same. cond same (of seen) (told rest seen.name)) ((bytes_eq-Decides seen.name seen.name).1 refl))
+told-at told of next (seen ∷ rest) (suc number) distinct few =
     let apart = apart-at seen.name rest number (IsDistinct-head bytes_eq seen.name (seen_names rest) distinct) (omega (arith, few)) in
-    definer-at rest number (IsDistinct-tail bytes_eq seen.name (seen_names rest) distinct) (omega (arith, few))
-    ∙ ap (λ same. cond same seen.definer (definer_in rest (name_at rest number))) (sym apart)
+    told-at told of next rest number (IsDistinct-tail bytes_eq seen.name (seen_names rest) distinct) (omega (arith, few))
+    ∙ sym (next seen rest (name_at rest number) ∙ ap (λ same. cond same (of seen) (told rest (name_at rest number))) apart)
+
+pub definer-at : (names : Names) (number : ℕ) → IsDistinct bytes_eq (seen_names names) → number < length names → (seen_at names number).definer ≡ definer_in names (name_at names number)
+definer-at = told-at definer_in (λ (seen : Seen). seen.definer) (λ seen rest name. refl)
 
 pub user-at : (names : Names) (number : ℕ) → IsDistinct bytes_eq (seen_names names) → number < length names → (seen_at names number).user ≡ user_in names (name_at names number)
-user-at [] number distinct few = absurd (omega (arith, few))
-user-at (seen ∷ rest) zero distinct few = ap (λ same. cond same seen.user (user_in rest seen.name)) (sym ((bytes_eq-Decides seen.name seen.name).1 refl))
-user-at (seen ∷ rest) (suc number) distinct few =
-    let apart = apart-at seen.name rest number (IsDistinct-head bytes_eq seen.name (seen_names rest) distinct) (omega (arith, few)) in
-    user-at rest number (IsDistinct-tail bytes_eq seen.name (seen_names rest) distinct) (omega (arith, few))
-    ∙ ap (λ same. cond same seen.user (user_in rest (name_at rest number))) (sym apart)
+user-at = told-at user_in (λ (seen : Seen). seen.user) (λ seen rest name. refl)
 
 -- two numbers of one name are one
 pub one-number : (names : Names) (one other : ℕ) → IsDistinct bytes_eq (seen_names names) → one < length names → other < length names → name_at names one ≡ name_at names other → one ≡ other

@@ -52,6 +52,22 @@ ended-uses used (Some cover) more =
     append_assoc used (cover_uses cover) more
     ∙ ap (λ uses. used ++ (uses ++ more)) (ap (λ rows. cover_uses (record cover { rows = rows })) (sym (append-nil cover.rows)) ∙ sym (append-nil (cover_uses (record cover { rows = cover.rows ++ [] }))))
 
+-- a line that ends the cover that is read, and says nothing else
+reads-closing : (read all : Read) (line : ℕ) (it : Line) (rest : List (Numbered Line)) → let lines = record { line = line; statement = it } ∷ rest in
+    definitions_of lines ≡ definitions_of rest → inputs_of lines ≡ inputs_of rest → outputs_of lines ≡ outputs_of rest → uses_in_order lines ≡ uses_in_order rest → covers_of lines ≡ covers_of rest → leading_rows lines ≡ []
+    → ReadsOn (closed (noting line it read)) all rest → ReadsOn read all lines
+reads-closing read all line it rest definitions inputs outputs uses covers rows is = record {
+  long_name = is.long_name ∙ first-cons has_long_name read.long_name (record { line = line; statement = it }) rest;
+  construct = is.construct ∙ first-cons is_construct read.construct (record { line = line; statement = it }) rest;
+  definitions = is.definitions ∙ ap (λ more. read.definitions ++ more) (sym definitions);
+  inputs = is.inputs ∙ ap (λ more. read.inputs ++ more) (sym inputs);
+  outputs = is.outputs ∙ ap (λ more. read.outputs ++ names_of more) (sym outputs);
+  used = is.used ∙ ended-uses read.used read.current (uses_in_order rest)
+      ∙ ap (λ rows. read.used ++ (flat_map cover_uses (with_rows read.current rows) ++ uses_in_order rest)) (sym rows) ∙ ap (λ more. read.used ++ (flat_map cover_uses (with_rows read.current (leading_rows (record { line = line; statement = it } ∷ rest))) ++ more)) (sym uses);
+  done = is.done ∙ ended-covers read.done read.current (covers_of rest)
+      ∙ ap (λ rows. read.done ++ (with_rows read.current rows ++ covers_of rest)) (sym rows) ∙ ap (λ more. read.done ++ (with_rows read.current (leading_rows (record { line = line; statement = it } ∷ rest)) ++ more)) (sym covers);
+}
+
 -- one line more in front
 reads-step : (read all : Read) (line : ℕ) (it : Line) (rest : List (Numbered Line)) → ReadsOn (taking line it (noting line it read)) all rest → ReadsOn read all (record { line = line; statement = it } ∷ rest)
 reads-step read all line Blank rest is = record {
@@ -76,33 +92,9 @@ reads-step read all line (Row tokens) rest is = record {
     by_current : (current : Option Cover) → with_rows (row_added line tokens current) (leading_rows rest) ≡ with_rows current (record { line = line; statement = tokens } ∷ leading_rows rest)
     by_current None = refl
     by_current (Some cover) = ap (λ rows. record cover { rows = rows } ∷ []) (append_assoc cover.rows (record { line = line; statement = tokens } ∷ []) (leading_rows rest))
-reads-step read all line (Model names) rest is = record {
-  long_name = is.long_name ∙ first-cons has_long_name read.long_name (record { line = line; statement = Model names }) rest;
-  construct = is.construct ∙ first-cons is_construct read.construct (record { line = line; statement = Model names }) rest;
-  definitions = is.definitions;
-  inputs = is.inputs;
-  outputs = is.outputs;
-  used = is.used ∙ ended-uses read.used read.current (uses_in_order rest);
-  done = is.done ∙ ended-covers read.done read.current (covers_of rest);
-}
-reads-step read all line (End tokens) rest is = record {
-  long_name = is.long_name ∙ first-cons has_long_name read.long_name (record { line = line; statement = End tokens }) rest;
-  construct = is.construct ∙ first-cons is_construct read.construct (record { line = line; statement = End tokens }) rest;
-  definitions = is.definitions;
-  inputs = is.inputs;
-  outputs = is.outputs;
-  used = is.used ∙ ended-uses read.used read.current (uses_in_order rest);
-  done = is.done ∙ ended-covers read.done read.current (covers_of rest);
-}
-reads-step read all line Construct rest is = record {
-  long_name = is.long_name ∙ first-cons has_long_name read.long_name (record { line = line; statement = Construct }) rest;
-  construct = is.construct ∙ first-cons is_construct read.construct (record { line = line; statement = Construct }) rest;
-  definitions = is.definitions;
-  inputs = is.inputs;
-  outputs = is.outputs;
-  used = is.used ∙ ended-uses read.used read.current (uses_in_order rest);
-  done = is.done ∙ ended-covers read.done read.current (covers_of rest);
-}
+reads-step read all line (Model names) rest is = reads-closing read all line (Model names) rest refl refl refl refl refl refl is
+reads-step read all line (End tokens) rest is = reads-closing read all line (End tokens) rest refl refl refl refl refl refl is
+reads-step read all line Construct rest is = reads-closing read all line Construct rest refl refl refl refl refl refl is
 reads-step read all line (Inputs names) rest is = record {
   long_name = is.long_name ∙ first-cons has_long_name read.long_name (record { line = line; statement = Inputs names }) rest;
   construct = is.construct ∙ first-cons is_construct read.construct (record { line = line; statement = Inputs names }) rest;
@@ -126,15 +118,7 @@ reads-step read all line (Outputs names) rest is = record {
     names-on_line : (line : ℕ) (names : List (List ℕ)) → names_of (on_line line names) ≡ names
     names-on_line line [] = refl
     names-on_line line (name ∷ names) = ap (λ (all : List (List ℕ)). name ∷ all) (names-on_line line names)
-reads-step read all line (Names []) rest is = record {
-  long_name = is.long_name ∙ first-cons has_long_name read.long_name (record { line = line; statement = Names [] }) rest;
-  construct = is.construct ∙ first-cons is_construct read.construct (record { line = line; statement = Names [] }) rest;
-  definitions = is.definitions;
-  inputs = is.inputs;
-  outputs = is.outputs;
-  used = is.used ∙ ended-uses read.used read.current (uses_in_order rest);
-  done = is.done ∙ ended-covers read.done read.current (covers_of rest);
-}
+reads-step read all line (Names []) rest is = reads-closing read all line (Names []) rest refl refl refl refl refl refl is
 reads-step read all line (Names (name ∷ names)) rest is = record {
   long_name = is.long_name ∙ first-cons has_long_name read.long_name (record { line = line; statement = Names (name ∷ names) }) rest;
   construct = is.construct ∙ first-cons is_construct read.construct (record { line = line; statement = Names (name ∷ names) }) rest;

@@ -19,7 +19,7 @@ use Rattle.std.proofs.lemmas.List.Elements.{recursion_from_All}
 use Rattle.hz_net.proofs.Ranks.{at-tri_of}
 use Rattle.hz_plane.specs.Steps.{gate_excitation, all_values}
 use Rattle.hz_plane.specs.Lanes.{AreForcedNodes}
-use Rattle.hz_plane.proofs.Wholes.{same-values, source_of, source-inside, length-all_values, at-node, at-wire, at-pins}
+use Rattle.hz_plane.proofs.Wholes.{same-bit, same-values, source_of, source-inside, length-all_values, at-node, at-wire, at-pins}
 
 -- the bit of a known value
 bit_of : Tri → Bool
@@ -142,9 +142,3 @@ module _ (netlist : Netlist) (circuit : IsCircuit netlist) (listed : List (Optio
         ]
       ];
     }
-      where
-        same-bit : (bit other : Bool) → tri_of bit ≡ tri_of other → bit ≡ other
-        same-bit false false e = refl
-        same-bit false true e = cc
-        same-bit true false e = cc
-        same-bit true true e = refl

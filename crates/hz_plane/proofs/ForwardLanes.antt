@@ -1,5 +1,5 @@
 -- What gates without feedback, each evaluated once, hold in a lane: the forced start, and the result of Algorithm B.
-use Rattle.std.proofs.Common.{◌≡◌, ℕ, zero, suc, ◌+◌, ◌<◌, ◌≤◌, Bool, true, false, Option, Some, List, [], ◌∷◌, length, map, get_or, slice_get, refl, sym, ap, ◌∙◌, subst, arith, inl, inr}
+use Rattle.std.proofs.Common.{◌≡◌, ℕ, zero, suc, ◌+◌, ◌<◌, ◌≤◌, Bool, true, false, Option, Some, List, [], ◌∷◌, length, map, get_or, slice_get, sym, ap, ◌∙◌, subst, arith, inl, inr}
 use Rattle.std.specs.List.{AllByRecursion}
 use Rattle.std.proofs.lemmas.Bool.{cases_lt}
 use Rattle.std.proofs.lemmas.List.{length-map, get_or-map, get_or_default}
@@ -30,7 +30,7 @@ use Rattle.hz_plane.specs.Forward.{IsForward, AreEvaluated}
 use Rattle.hz_plane.proofs.Bits.{one_value}
 use Rattle.hz_plane.proofs.LaneSets.{lane_bit-lt}
 use Rattle.hz_plane.proofs.LaneSteps.{value-of_gate}
-use Rattle.hz_plane.proofs.Wholes.{same-values, source_of, source-inside, length-all_values, at-node, at-wire, excites-input, excites-gate, excites-wire}
+use Rattle.hz_plane.proofs.Wholes.{same-bit, same-values, source_of, source-inside, length-all_values, at-node, at-wire, excites-input, excites-gate, excites-wire}
 use Rattle.hz_plane.proofs.SpreadSteps.{pin-source}
 use Rattle.hz_plane.proofs.SettleSteps.{fixed-result}
 use Rattle.hz_plane.proofs.PassLanes.{known-planes, known-value, same-gate}
@@ -134,12 +134,6 @@ module _ (netlist : Netlist) (circuit : IsCircuit netlist) (whole : IsWhole netl
           opens = λ node few unknown. absurd (never-unknown (has_lane (pair_at planes node).one lane) (sym (at-known node few) ∙ unknown));
         },
       )
-        where
-          same-bit : (bit other : Bool) → tri_of bit ≡ tri_of other → bit ≡ other
-          same-bit false false e = refl
-          same-bit false true e = cc
-          same-bit true false e = cc
-          same-bit true true e = refl
 
       -- a state that is its own excitations under the inputs of the lane
       module _ (input : List Bool) (has : (node : ℕ) → node < netlist.inputs → HasValue (pair_at planes node) lane (tri_of (bit_at input node))) (state : List Tri) (same : excitations (network_of netlist) input state ≡ state) (count : length state ≡ length (network_of netlist)) where

@@ -24,33 +24,35 @@ odd_words words others = or_words (and_words (not_words words) others) (and_word
 pub plane-odd : (a b : List ℕ) → IsPlane a → IsPlane b → IsPlane (odd_words a b)
 plane-odd a b pa pb = plane-or _ _ (plane-and _ _ (plane-not a pa) pb) (plane-and _ _ pa (plane-not b pb))
 
+not-not : (a : List ℕ) → IsPlane a → a ≡ not_words (not_words a)
+not-not a pa =
+    let na = plane-not a pa in
+    same-plane a _ pa (plane-not _ na) (λ lane inside.
+    let few = lane_bit-lt a lane in
+    let law : lane_bit a lane ≡ 1 - (1 - lane_bit a lane) = omega (arith, few) in
+    law ∙ sym (lane-not lane inside (not_words a) na ∙ ap (λ (n : ℕ). 1 - n) (lane-not lane inside a pa)))
+
+not-or : (a b : List ℕ) → IsPlane a → IsPlane b → and_words (not_words a) (not_words b) ≡ not_words (or_words a b)
+not-or a b pa pb =
+    let na = plane-not a pa in
+    let nb = plane-not b pb in
+    let ab = plane-or a b pa pb in
+    same-plane _ _ (plane-and _ _ na nb) (plane-not _ ab) (λ lane inside.
+    let x = lane_bit a lane in
+    let y = lane_bit b lane in
+    let law : min (1 - x) (1 - y) ≡ 1 - max x y = omega arith in
+    lane-and lane inside (not_words a) (not_words b) na nb
+    ∙ (both min _ _ _ _ (lane-not lane inside a pa) (lane-not lane inside b pb)
+    ∙ (law ∙ sym (lane-not lane inside (or_words a b) ab ∙ ap (λ (n : ℕ). 1 - n) (lane-or lane inside a b pa pb)))))
+
+not-and : (a b : List ℕ) → IsPlane a → IsPlane b → or_words (not_words a) (not_words b) ≡ not_words (and_words a b)
+not-and a b pa pb =
+    let na = plane-not a pa in
+    let nb = plane-not b pb in
+    let both : and_words (not_words (not_words a)) (not_words (not_words b)) ≡ and_words a b = ap (λ words. and_words words (not_words (not_words b))) (sym (not-not a pa)) ∙ ap (and_words a) (sym (not-not b pb)) in
+    not-not (or_words (not_words a) (not_words b)) (plane-or _ _ na nb) ∙ ap not_words (sym (not-or (not_words a) (not_words b) na nb) ∙ both)
+
 module _ (a b : List ℕ) (pa : IsPlane a) (pb : IsPlane b) where
-  not-and : or_words (not_words a) (not_words b) ≡ not_words (and_words a b)
-  not-and =
-      let na = plane-not a pa in
-      let nb = plane-not b pb in
-      let ab = plane-and a b pa pb in
-      same-plane _ _ (plane-or _ _ na nb) (plane-not _ ab) (λ lane inside.
-      let x = lane_bit a lane in
-      let y = lane_bit b lane in
-      let law : max (1 - x) (1 - y) ≡ 1 - min x y = omega arith in
-      lane-or lane inside (not_words a) (not_words b) na nb
-      ∙ (both max _ _ _ _ (lane-not lane inside a pa) (lane-not lane inside b pb)
-      ∙ (law ∙ sym (lane-not lane inside (and_words a b) ab ∙ ap (λ (n : ℕ). 1 - n) (lane-and lane inside a b pa pb)))))
-
-  not-or : and_words (not_words a) (not_words b) ≡ not_words (or_words a b)
-  not-or =
-      let na = plane-not a pa in
-      let nb = plane-not b pb in
-      let ab = plane-or a b pa pb in
-      same-plane _ _ (plane-and _ _ na nb) (plane-not _ ab) (λ lane inside.
-      let x = lane_bit a lane in
-      let y = lane_bit b lane in
-      let law : min (1 - x) (1 - y) ≡ 1 - max x y = omega arith in
-      lane-and lane inside (not_words a) (not_words b) na nb
-      ∙ (both min _ _ _ _ (lane-not lane inside a pa) (lane-not lane inside b pb)
-      ∙ (law ∙ sym (lane-not lane inside (or_words a b) ab ∙ ap (λ (n : ℕ). 1 - n) (lane-or lane inside a b pa pb)))))
-
   not-odd : or_words (and_words (not_words a) (not_words b)) (and_words a b) ≡ not_words (odd_words a b)
   not-odd =
       let na = plane-not a pa in
@@ -70,14 +72,6 @@ module _ (a b : List ℕ) (pa : IsPlane a) (pb : IsPlane b) where
       ∙ (not-xor-bits x y (lane_bit-lt a lane) (lane_bit-lt b lane)
       ∙ sym (lane-not lane inside (odd_words a b) odd ∙ ap (λ (n : ℕ). 1 - n) (lane-or lane inside _ _ left right
       ∙ both max _ _ _ _ (lane-and lane inside _ _ na pb ∙ ap (λ (n : ℕ). min n y) nx) (lane-and lane inside _ _ pa nb ∙ ap (min x) ny))))))
-
-not-not : (a : List ℕ) → IsPlane a → a ≡ not_words (not_words a)
-not-not a pa =
-    let na = plane-not a pa in
-    same-plane a _ pa (plane-not _ na) (λ lane inside.
-    let few = lane_bit-lt a lane in
-    let law : lane_bit a lane ≡ 1 - (1 - lane_bit a lane) = omega (arith, few) in
-    law ∙ sym (lane-not lane inside (not_words a) na ∙ ap (λ (n : ℕ). 1 - n) (lane-not lane inside a pa)))
 
 pub known_and : (words : List ℕ) (pair : Pair) → IsPlane words → IsKnownPair pair → and_pair (known_pair words) pair ≡ known_pair (and_words words pair.one)
 known_and words pair is known =

@@ -75,41 +75,26 @@ module _ (words : List ℕ) (lane : ℕ) (inside : lane < 512) (long : length wo
       ap (λ (n : ℕ). nat_eq n 1) (there _ other differ (λ i few apart. bit_at_clear_other w64 (get_or words (lane / 64) 0) (lane % 64) (omega arith) i few apart))
 
 -- a bit of a set into which others are taken, and of one out of which they are taken
+two-bits : (P : ℕ → ℕ → Type 0) → P 0 0 → P 0 1 → P 1 0 → P 1 1 → (bit put : ℕ) → bit < 2 → put < 2 → P bit put
+two-bits P a b c d zero zero e f = a
+two-bits P a b c d zero (suc zero) e f = b
+two-bits P a b c d (suc zero) zero e f = c
+two-bits P a b c d (suc zero) (suc zero) e f = d
+two-bits P a b c d (suc (suc n)) put e f = absurd (omega (arith, e))
+two-bits P a b c d zero (suc (suc n)) e f = absurd (omega (arith, f))
+two-bits P a b c d (suc zero) (suc (suc n)) e f = absurd (omega (arith, f))
+
 taken-in : (bit put : ℕ) → bit < 2 → put < 2 → nat_eq put 1 ≡ true → nat_eq (max bit put) 1 ≡ true
-taken-in zero zero a b e = cc
-taken-in zero (suc zero) a b e = refl
-taken-in (suc zero) zero a b e = cc
-taken-in (suc zero) (suc zero) a b e = refl
-taken-in (suc (suc n)) put a b e = absurd (omega (arith, a))
-taken-in zero (suc (suc n)) a b e = absurd (omega (arith, b))
-taken-in (suc zero) (suc (suc n)) a b e = absurd (omega (arith, b))
+taken-in = two-bits (λ bit put. nat_eq put 1 ≡ true → nat_eq (max bit put) 1 ≡ true) (λ e. cc) (λ e. refl) (λ e. cc) (λ e. refl)
 
 left-in : (bit put : ℕ) → bit < 2 → put < 2 → nat_eq put 1 ≡ false → nat_eq (max bit put) 1 ≡ nat_eq bit 1
-left-in zero zero a b e = refl
-left-in zero (suc zero) a b e = cc
-left-in (suc zero) zero a b e = refl
-left-in (suc zero) (suc zero) a b e = refl
-left-in (suc (suc n)) put a b e = absurd (omega (arith, a))
-left-in zero (suc (suc n)) a b e = absurd (omega (arith, b))
-left-in (suc zero) (suc (suc n)) a b e = absurd (omega (arith, b))
+left-in = two-bits (λ bit put. nat_eq put 1 ≡ false → nat_eq (max bit put) 1 ≡ nat_eq bit 1) (λ e. refl) (λ e. cc) (λ e. refl) (λ e. refl)
 
 taken-out : (bit put : ℕ) → bit < 2 → put < 2 → nat_eq put 1 ≡ true → nat_eq (min bit (1 - put)) 1 ≡ false
-taken-out zero zero a b e = refl
-taken-out zero (suc zero) a b e = refl
-taken-out (suc zero) zero a b e = cc
-taken-out (suc zero) (suc zero) a b e = refl
-taken-out (suc (suc n)) put a b e = absurd (omega (arith, a))
-taken-out zero (suc (suc n)) a b e = absurd (omega (arith, b))
-taken-out (suc zero) (suc (suc n)) a b e = absurd (omega (arith, b))
+taken-out = two-bits (λ bit put. nat_eq put 1 ≡ true → nat_eq (min bit (1 - put)) 1 ≡ false) (λ e. refl) (λ e. refl) (λ e. cc) (λ e. refl)
 
 left-out : (bit put : ℕ) → bit < 2 → put < 2 → nat_eq put 1 ≡ false → nat_eq (min bit (1 - put)) 1 ≡ nat_eq bit 1
-left-out zero zero a b e = refl
-left-out zero (suc zero) a b e = refl
-left-out (suc zero) zero a b e = refl
-left-out (suc zero) (suc zero) a b e = cc
-left-out (suc (suc n)) put a b e = absurd (omega (arith, a))
-left-out zero (suc (suc n)) a b e = absurd (omega (arith, b))
-left-out (suc zero) (suc (suc n)) a b e = absurd (omega (arith, b))
+left-out = two-bits (λ bit put. nat_eq put 1 ≡ false → nat_eq (min bit (1 - put)) 1 ≡ nat_eq bit 1) (λ e. refl) (λ e. refl) (λ e. refl) (λ e. cc)
 
 -- many lanes are taken into a set, or out of it
 module _ (words lanes : List ℕ) (lane : ℕ) (inside : lane < 512) (one : IsPlane words) (two : IsPlane lanes) where

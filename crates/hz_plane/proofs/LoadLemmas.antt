@@ -127,11 +127,19 @@ held-none nodes first held node empty past inside =
     ∙ (get_or-append_right bits (replicate (nodes - length first) nothing) (length first) node nothing (length-map first (λ (b : Bool). Some b)) past
     ∙ get_or-replicate (nodes - length first) (node - length first) nothing nothing (omega (arith, past, inside)))
 
--- a slice of a whole vector, written back
-pub written-back : {X : Type 0} (count : ℕ) (new items : List X) → length new ≡ count → length items ≤ count → take count (new ++ drop (length new) items) ≡ new
-written-back count new items long few =
-    ap (λ rest. take count (new ++ rest)) (drop_all (length new) items (omega (arith, long, few))) ∙
-    (ap (take count) (append-nil new) ∙ take_all count new (omega (arith, long)))
+-- a whole vector that was lent as a slice: what was written is its items then
+pub record IsBack {X : Type 0} (count : ℕ) (new items : List X) : Type 0 where
+  pub are : take count (new ++ drop (length new) items) ≡ new
+  pub long : length new ≡ length items
+
+pub written-back : {X : Type 0} {count : ℕ} {slice items : List X} (new : List X) → length new ≡ length slice → slice ≡ items → length slice ≡ count → IsBack count new items
+written-back {X} {count} {slice} {items} new kept lent whole =
+    let long : length new ≡ length items = kept ∙ ap (length {A = X}) lent in
+    let all : length new ≡ count = kept ∙ whole in
+    record {
+      are = ap (λ rest. take count (new ++ rest)) (drop_all (length new) items (omega (arith, long))) ∙ (ap (take count) (append-nil new) ∙ take_all count new (omega (arith, all)));
+      long = long;
+    }
 
 -- no lane is loaded
 pub no-loads : (loaded : List ℕ) (inputs : List (List ℕ)) (listings : List Listing) → ((lane : ℕ) → has_lane loaded lane ≡ false) → lane_loads loaded inputs listings ≡ replicate 512 None

@@ -1,5 +1,5 @@
 -- What listed inputs force, with nothing else listed, is what Algorithm B makes of a state that is X everywhere.
-use Rattle.std.proofs.Common.{◌≡◌, ℕ, zero, suc, ◌+◌, ◌-◌, ◌<◌, ◌≤◌, Bool, true, false, Option, Some, None, List, [], ◌∷◌, length, map, take, replicate, get_or, slice_get, refl, sym, ap, ◌∙◌, subst, arith, inl, inr}
+use Rattle.std.proofs.Common.{◌≡◌, ℕ, zero, suc, ◌+◌, ◌-◌, ◌<◌, ◌≤◌, Bool, false, Option, Some, None, List, [], ◌∷◌, length, map, take, replicate, get_or, slice_get, sym, ap, ◌∙◌, subst, arith, inl, inr}
 use Rattle.std.proofs.lemmas.Bool.{cases_lt}
 use Rattle.std.proofs.lemmas.Option.{slice_get_past, slice_get-get_or}
 use Rattle.std.proofs.lemmas.List.{length-map, length-append, length-replicate, length-take, get_or-map, get_or-take, get_or-replicate, get_or_append_left, get_or-append_right}
@@ -21,19 +21,9 @@ use Rattle.hz_plane.specs.Loads.{listed_with}
 use Rattle.hz_plane.specs.Lanes.{AreAllOf, IsFilledStart}
 use Rattle.hz_plane.specs.Steps.{all_values}
 use Rattle.hz_plane.specs.View.{ListedInputsFill}
-use Rattle.hz_plane.proofs.Wholes.{source_of, source-inside, length-all_values, at-node, at-wire, at-pins, excites-input, excites-gate, excites-wire, same-values}
+use Rattle.hz_plane.proofs.Wholes.{same-bit, unknown-no, source_of, source-inside, length-all_values, at-node, at-wire, at-pins, excites-input, excites-gate, excites-wire, same-values}
 use Rattle.hz_plane.proofs.SpreadSteps.{pin-source}
 use Rattle.hz_plane.proofs.SettleSteps.{fixed-result}
-
-same-bit : (bit other : Bool) → tri_of bit ≡ tri_of other → bit ≡ other
-same-bit false false e = refl
-same-bit false true e = cc
-same-bit true false e = cc
-same-bit true true e = refl
-
-unknown-no : (bit : Bool) → Unknown ≡ tri_of bit → ⊥
-unknown-no false e = cc
-unknown-no true e = cc
 
 module _ (netlist : Netlist) (circuit : IsCircuit netlist) (bits : List Bool) (fits : length bits ≡ netlist.inputs) where
   listed : List (Option Bool)

@@ -1,7 +1,7 @@
 -- The lines and words that are kept, node by node, and what is written of them.
-use Rattle.std.proofs.Common.{◌≡◌, ◌∙◌, refl, sym, ap, subst, ℕ, zero, suc, ◌+◌, ◌-◌, ◌<◌, ◌≤◌, Bool, true, false, List, [], ◌∷◌, ◌++◌, length, map, take, drop, set, get_or, get_or-set_same, length-set, slice_get, Some, append_assoc, arith, codes, inl, inr, add-one}
+use Rattle.std.proofs.Common.{◌≡◌, ◌∙◌, refl, sym, ap, subst, ℕ, zero, suc, ◌+◌, ◌-◌, ◌<◌, ◌≤◌, Bool, true, false, List, [], ◌∷◌, ◌++◌, length, map, take, drop, set, get_or, get_or-set_same, length-set, slice_get, Some, append_assoc, arith, codes, add-one}
 use Rattle.std.specs.List.{between, flat_map}
-use Rattle.std.proofs.lemmas.List.{append-nil, take-take, take-append-drop, length-take-le, length-map, map-append, map-set, set-get_or, take_more, take_more_set}
+use Rattle.std.proofs.lemmas.List.{take-take, take-append-drop, length-take-le, length-map, map-append, map-set, set-get_or, take_more, take_more_set}
 use Rattle.std.proofs.lemmas.List.Edits.{sets-eq, length-between}
 use Rattle.std.specs.Bool.{beq}
 use Rattle.std.proofs.lemmas.Bool.{false≢true}
@@ -14,7 +14,7 @@ use Rattle.hz_text.specs.RunPrinted.{variable_word}
 use Rattle.hz_text.proofs.VariableWords.{variable_word-node}
 use Rattle.hz_desk.specs.declared.finding.Row.{Row}
 use Rattle.hz_report.specs.Report.{row_line, row_lines, row_text}
-use Rattle.hz_report.specs.Kept.{parts_text, ArePartsOf, AreRowParts, AreBitParts, AreBits, bit_stem, AreLines}
+use Rattle.hz_report.specs.Kept.{parts_text, ArePartsOf, AreRowParts, AreBitParts, AreBits, bit_stem}
 use Rattle.hz_report.proofs.PartLemmas.{IsUnder, parts-none, parts-more, parts-longer, under-text, length-begins, middle-within, begin-within, begin-at, written-one}
 
 -- the line of one node more, which stays 0
@@ -61,17 +61,6 @@ rows-parts netlist node [] within = refl
 rows-parts netlist node (row ∷ rows) within =
     ap (λ (line : List ℕ). line ++ row_lines netlist (node + 1) rows) (row-part netlist node row (omega (arith, within)))
     ∙ ap (λ (rest : List ℕ). (node_name netlist.names node ++ (row_text row ++ newline)) ++ rest) (rows-parts netlist (node + 1) rows (omega (arith, within)))
-
--- such parts are whole lines
-pub parts-lines : (stem : ℕ → List ℕ) (node : ℕ) (middles : List (List ℕ)) → AreLines (parts_text stem newline node middles)
-parts-lines stem node [] = inl refl
-parts-lines stem node (middle ∷ middles) =
-    let part = stem node ++ (middle ++ newline) in
-    let rest = parts_text stem newline (node + 1) middles in
-    elim (parts-lines stem (node + 1) middles) [
-      | inl none ↦ inr (stem node ++ middle, ap (λ (list : List ℕ). part ++ list) none ∙ append-nil part ∙ sym (append_assoc (stem node) middle newline))
-      | inr some ↦ inr (part ++ some.0, ap (λ (list : List ℕ). part ++ list) some.1 ∙ sym (append_assoc part some.0 newline))
-    ]
 
 -- lines after lines
 row_lines-both : (netlist : Netlist) (node : ℕ) (xs ys : List Row) → row_lines netlist node (xs ++ ys) ≡ row_lines netlist node xs ++ row_lines netlist (node + length xs) ys
@@ -222,13 +211,10 @@ words-front netlist bits shown text begins are within same =
 -- what is kept from one node up to another, if its rows are written over it
 pub kept-lines : (netlist : Netlist) (rows : List Row) (from upto : ℕ) (text begins : List ℕ) → length netlist.names ≤ length rows → upto ≤ length netlist.names
     → IsUnder row_text (node_name netlist.names) newline 33 (length netlist.names) rows from upto text begins
-    → (between (get_or begins from 0) (get_or begins upto 0) text ≡ row_lines netlist from (between from upto rows))
-    × AreLines (between (get_or begins from 0) (get_or begins upto 0) text)
+    → between (get_or begins from 0) (get_or begins upto 0) text ≡ row_lines netlist from (between from upto rows)
 kept-lines netlist rows from upto text begins enough within under =
     let count = length netlist.names in
-    let parts = under-text row_text (node_name netlist.names) newline 33 count rows from upto text begins under within enough in
     let few : from + length (between from upto rows) ≤ count =
-    omega (arith, under.ordered, within, length-between rows from upto (omega (arith, within, enough))) in (
-      parts ∙ sym (rows-parts netlist from (between from upto rows) few),
-      subst AreLines (sym parts) (parts-lines (node_name netlist.names) from (map row_text (between from upto rows))),
-    )
+    omega (arith, under.ordered, within, length-between rows from upto (omega (arith, within, enough))) in
+    under-text row_text (node_name netlist.names) newline 33 count rows from upto text begins under within enough
+    ∙ sym (rows-parts netlist from (between from upto rows) few)

@@ -1,6 +1,6 @@
 -- Texts of parts, one a node, that are kept as bytes: in each part only the middle changes, and not its length. Words about the
 -- inside of hz_report.
-use Rattle.std.specs.Prelude.{◌≡◌, ℕ, zero, suc, ◌+◌, ◌<◌, ◌≤◌, ◌⊎◌, Bool, Option, Some, None, List, [], ◌∷◌, ◌++◌, length, map}
+use Rattle.std.specs.Prelude.{◌≡◌, ℕ, zero, suc, ◌+◌, ◌<◌, ◌≤◌, Bool, Option, Some, None, List, [], ◌∷◌, ◌++◌, length, map}
 use Rattle.std.specs.List.{range_with_len, slice_index_or, slice_get}
 use Rattle.hz_core.specs.Netlist.{Netlist, node_name}
 use Rattle.hz_desk.specs.declared.finding.Rest.{Rest}
@@ -81,7 +81,3 @@ AreShown rows shown from upto = (i : ℕ) → from ≤ i → i < upto → (rest 
 pub record IsKept (netlist : Netlist) (kept : Kept) : Type 0 where
   pub rows : AreRowLines netlist kept.rows.text.items kept.rows.begins.items kept.shown
   pub bits : AreBits netlist kept.bits.items kept.start.text.items kept.start.begins.items
-
--- whole lines: if there are any, the last one has its end
-abbrev pub AreLines : List ℕ → Type 0
-AreLines lines = (lines ≡ []) ⊎ ((front : List ℕ) × (lines ≡ front ++ newline))

@@ -19,7 +19,6 @@
 -- PlateOf: what contracts see of the lines that are kept from change to change
 -- parts_text stem tail node middles, part_place stem size node: a text of parts, one a node, and where the part of a node begins
 -- AreParts stem tail width count text begins, IsKept netlist kept: such a text whose middles have a fixed length
--- AreLines lines: whole lines
 -- AreRowLines netlist text begins shown: lines of all nodes, and what those show that never change
 
 pub mod Words

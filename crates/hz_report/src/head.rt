@@ -178,7 +178,7 @@ fn set_some(
     ensures within { result ≤ length bits.now }
     ensures so_far { take result shown.new ≡ take result bits.now }
 {
-    let to = block_end(from, bits.len());
+    let to = (from + 16).min(bits.len());
     for node in from..to {
         set_bit(net, node, bits[node], text, begins, shown);
     }
@@ -198,16 +198,6 @@ fn set_bit(net: &Net, node: usize, bit: bool, text: &mut [u8], begins: &[usize],
     }
     text[begins[node + 1] - 1] = letter_of(bit);
     shown[node] = bit;
-}
-
-// Where up to sixteen places from one on end.
-#[inline(always)]
-fn block_end(from: usize, len: usize) -> usize
-    requires { from < len }
-    ensures more { from < result }
-    ensures within { result ≤ len }
-{
-    if len - from > 16 { from + 16 } else { len }
 }
 
 // The letter of a bit.

@@ -5,8 +5,7 @@ ghost use Rattle.hz_core.specs.Netlist.{IsCircuit};
 ghost use Rattle.hz_net.specs.Network.{AreByVariable, IsVariable};
 ghost use Rattle.hz_text.specs.Printed.{letter_of};
 ghost use Rattle.hz_write.specs.Writer.{Writes, NoneWaits};
-ghost use Rattle.hz_desk.specs.declared.class.Class.TheVariants.{Steady};
-ghost use Rattle.hz_report.specs.Kept.{AreRowParts, AreRowLines, AreShown, AreLines};
+ghost use Rattle.hz_report.specs.Kept.{AreRowParts, AreRowLines, AreShown};
 ghost use Rattle.hz_desk.specs.declared.finding.Rest.{Rest};
 ghost use Rattle.hz_desk.specs.declared.finding.Row.{Row};
 ghost use Rattle.hz_desk.specs.RowsOf.{row_at_rest};
@@ -16,7 +15,7 @@ ghost use Rattle.hz_report.specs.Words.{tri_letter};
 use crate::kept::COMMON;
 use hz_core::Tri;
 use hz_core::Tri::{One, Unknown, Zero};
-use hz_desk::Class::{Single, Steady};
+use hz_desk::Class::Single;
 use hz_desk::{Class, Rest, Rests, Row, Rows};
 use hz_net::Net;
 use hz_options::Show;
@@ -40,7 +39,7 @@ pub(crate) fn write_rows<K: Sink>(writer: &mut Writer<'_, K>, net: &Net, rows: &
 {
     let count = shown_count(net, show);
     for var in 0..count {
-        write_row(writer, net, var, rows.row(var as usize));
+        write_row(writer, net, rows, var);
     }
 }
 
@@ -74,14 +73,14 @@ pub(crate) fn write_kept_rows<K: Sink>(
                 shown.set(var, rest);
             }
             None => {
-                write_lines(writer, kept_lines(net, text, begins, from, var));
+                writer.end_by(kept_lines(net, text, begins, from, var));
                 write_rare_row(writer, net, var as u32, rows.row(var));
                 from = var + 1;
             }
         }
         var = first_not_shown(rows, shown, var + 1, count);
     }
-    write_lines(writer, kept_lines(net, text, begins, from, count));
+    writer.end_by(kept_lines(net, text, begins, from, count));
 }
 
 // The first node from one on that is not seen to rest at what is shown, or the end if there is none.
@@ -199,20 +198,6 @@ fn bytes_between(text: &[u8], begin: usize, end: usize) -> &[u8]
     &text[begin..end]
 }
 
-// Gives whole lines.
-fn write_lines<K: Sink>(writer: &mut Writer<'_, K>, lines: &[u8])
-    requires lines { AreLines lines.now }
-    requires none_waits { NoneWaits writer.old }
-    ensures gave { Writes K.output K.faults lines.now writer.old writer.new }
-    ensures none_waits { NoneWaits writer.new }
-{
-    if lines.is_empty() {
-        return;
-    }
-    writer.text(&lines[..lines.len() - 1]);
-    writer.end();
-}
-
 // How many variables are shown. The nodes come first.
 fn shown_count(net: &Net, show: Show) -> u32
     ensures shown { result ≡ shown_count net.now show }
@@ -225,13 +210,15 @@ fn shown_count(net: &Net, show: Show) -> u32
 }
 
 // Gives a variable with its values, its number of changes and its class.
-pub(crate) fn write_row<K: Sink>(writer: &mut Writer<'_, K>, net: &Net, var: u32, row: Row)
-    requires { IsVariable net.now var }
-    ensures gave { Writes K.output K.faults (row_line net.now var row) writer.old writer.new }
+fn write_row<K: Sink>(writer: &mut Writer<'_, K>, net: &Net, rows: &Rows, var: u32)
+    requires rows { AreByVariable net.now rows.now }
+    requires var { IsVariable net.now var }
+    ensures gave { (row : Row) → slice_get rows.now var ≡ Some row →
+        Writes K.output K.faults (row_line net.now var row) writer.old writer.new }
     ensures none_waits { NoneWaits writer.new }
 {
     write_variable(writer, net, var);
-    write_row_text(writer, row);
+    write_row_text(writer, rows, var as usize);
     writer.end();
 }
 
@@ -293,39 +280,14 @@ fn digit_of(number: u64) -> u8
 
 // Gives what stands after the variable of a row. It is one piece for nearly every row, since each piece of a line takes its time,
 // and a report has millions of these lines.
-fn write_row_text<K: Sink>(writer: &mut Writer<'_, K>, row: Row)
-    ensures { Writes K.output K.faults (row_text row) writer.old writer.new }
+fn write_row_text<K: Sink>(writer: &mut Writer<'_, K>, rows: &Rows, var: usize)
+    requires { var < length rows.now }
+    ensures { (row : Row) → slice_get rows.now var ≡ Some row →
+        Writes K.output K.faults (row_text row) writer.old writer.new }
 {
-    match common_text(row) {
+    match kept_text(rows, var, rows.rest(var)) {
         Some(text) => writer.text(text.as_slice()),
-        None => write_pieces(writer, row),
-    }
-}
-
-// What stands after the variable of a row as most are: it never changes, or it changes just once.
-#[inline(always)]
-fn common_text(row: Row) -> Option<&'static [u8; COMMON]>
-    ensures { IfSome result (λ text. text.now ≡ row_text row) }
-{
-    match row.class {
-        Steady => steady_text(row),
-        Single => single_text(row),
-        _ => None,
-    }
-}
-
-// What stands after the variable of a row that never changes. It has a word without a change, or none.
-#[inline(always)]
-fn steady_text(row: Row) -> Option<&'static [u8; COMMON]>
-    requires { row.class ≡ Steady }
-    ensures { IfSome result (λ text. text.now ≡ row_text row) }
-{
-    match (row.start, row.a, row.b, row.changes) {
-        (false, Zero, Zero, Some(Exact(0))) => Some(b" start 0 A 0 B 0 changes 0 steady"),
-        (true, One, One, Some(Exact(0))) => Some(b" start 1 A 1 B 1 changes 0 steady"),
-        (false, Zero, Zero, None) => Some(b" start 0 A 0 B 0 changes - steady"),
-        (true, One, One, None) => Some(b" start 1 A 1 B 1 changes - steady"),
-        _ => None,
+        None => write_pieces(writer, rows.row(var)),
     }
 }
 

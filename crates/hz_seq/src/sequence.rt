@@ -123,8 +123,9 @@ impl<'n> Sequence<'n> {
         write_input(self.start.as_slice(), change, self.input.as_mut_slice());
         self.desk
             .change(self.start.as_slice(), self.input.as_slice(), cap);
-        let values = self.desk.finding().rows.values_b();
-        self.stopped = settle(values, self.start.as_mut_slice());
+        let found = self.desk.finding();
+        let values = found.rows.values_b();
+        self.stopped = settle(&found.spread, values, self.start.as_mut_slice());
         Ok(())
     }
 }

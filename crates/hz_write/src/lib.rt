@@ -1,7 +1,8 @@
 //! Line writers over a [`Sink`](hz_outside::Sink), without allocation.
 //!
-//! A put never carries bytes of two lines. A line is one put if it fits the buffer of a [`Line`],
-//! and a longer one is put buffer by buffer. No call here runs out of memory by itself.
+//! A line that is composed here is put by itself: by one put if it fits the buffer of a [`Line`], and buffer by buffer if it is longer.
+//! Lines that a caller keeps as one text, as a plate does, are given by one call of [`end_by`](Writer::end_by), and one put carries up
+//! to 4,096 bytes of them. No call here runs out of memory by itself.
 //!
 //! | Module | What lives in it |
 //! |---|---|

@@ -1,5 +1,5 @@
 //! A line that is composed piece by piece.
-ghost use Rattle.std.specs.Prelude.{◌≡◌, ◌+◌, ◌-◌, ◌≤◌, [], ◌++◌, length, OnErr};
+ghost use Rattle.std.specs.Prelude.{◌≡◌, ◌+◌, ◌-◌, ◌≤◌, [], ◌++◌, length, take, OnErr};
 ghost use Rattle.hz_write.specs.Writes.{newline, Wrote, WroteBuffered};
 
 use hz_outside::{PutFault, Sink, copy_short};
@@ -107,23 +107,13 @@ impl Line {
             ≤ BUFFER_SIZE }
         ensures { self.new ≡ self.old ++ (first.now ++ second.now ++ third.now) }
     {
-        self.push_short(first);
-        self.push_short(second);
-        self.push_short(third);
-    }
-
-    // Lets a piece wait, which is short as a rule.
-    #[inline(always)]
-    fn push_short(&mut self, piece: &[u8])
-        requires { length self.old + length piece.now ≤ BUFFER_SIZE }
-        ensures { self.new ≡ self.old ++ piece.now }
-    {
-        let end = self.len + piece.len();
-        copy_short(&mut self.buffer[self.len..end], piece);
-        self.len = end;
+        let middle = write_short(&mut self.buffer, self.len, first);
+        let last = write_short(&mut self.buffer, middle, second);
+        self.len = write_short(&mut self.buffer, last, third);
     }
 
     /// Puts what waits, if anything does.
+    #[inline(always)]
     pub(crate) fn put_waiting<K: Sink>(&mut self, out: &mut K) -> Result<(), PutFault>
         ensures wrote { Wrote K.output K.faults self.old out.old out.new result }
         ensures emptied { self.new ≡ [] }
@@ -135,4 +125,17 @@ impl Line {
         }
         out.put(&self.buffer[..len])
     }
+}
+
+// Writes a piece, which is short as a rule, over the bytes from a place on, and says where it ends.
+#[inline(always)]
+fn write_short(buffer: &mut [u8], begin: usize, piece: &[u8]) -> usize
+    requires { begin + length piece.now ≤ length buffer.old }
+    ensures end { result ≡ begin + length piece.now }
+    ensures long { length buffer.new ≡ length buffer.old }
+    ensures front { take result buffer.new ≡ take begin buffer.old ++ piece.now }
+{
+    let end = begin + piece.len();
+    copy_short(&mut buffer[begin..end], piece);
+    end
 }

@@ -85,7 +85,7 @@ pub fn write_format<K: Sink>(writer: &mut Writer<'_, K>, circuit: &Circuit)
     ensures gave { Writes K.output K.faults (format_text circuit.now) writer.old writer.new }
     ensures none_waits { NoneWaits writer.new }
 {
-    writer.line(&[Text(b"runs 2")]);
+    writer.end_by(b"runs 2\n");
     write_net(writer, size_of(circuit));
 }
 
@@ -111,7 +111,7 @@ pub fn write_end<K: Sink>(writer: &mut Writer<'_, K>)
     ensures gave { Writes K.output K.faults (codes "end\n") writer.old writer.new }
     ensures none_waits { NoneWaits writer.new }
 {
-    writer.line(&[Text(b"end")]);
+    writer.end_by(b"end\n");
 }
 
 // Gives the lines of the runs.
@@ -142,7 +142,7 @@ pub fn write_run<K: Sink>(writer: &mut Writer<'_, K>, net: &Net, lead: &Run, cyc
         writer.old writer.new }
     ensures none_waits { NoneWaits writer.new }
 {
-    writer.line(&[Text(b"run")]);
+    writer.end_by(b"run\n");
     write_steps(writer, net, lead);
     write_cycle(writer, net, cycle);
 }
@@ -160,7 +160,7 @@ fn write_cycle<K: Sink>(writer: &mut Writer<'_, K>, net: &Net, cycle: Option<&Ru
     let Some(steps) = cycle else {
         return;
     };
-    writer.line(&[Text(b"cycle")]);
+    writer.end_by(b"cycle\n");
     write_steps(writer, net, steps);
 }
 

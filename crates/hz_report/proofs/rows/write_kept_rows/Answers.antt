@@ -1,10 +1,9 @@
 -- A common row is written over that of its node; before another row the lines so far are given.
-use Rattle.std.proofs.Common.{◌≡◌, ◌∙◌, ◌+◌, ◌<◌, ◌≤◌, Some, length, take, get_or, slice_get, sym, subst, arith}
+use Rattle.std.proofs.Common.{◌≡◌, ◌∙◌, ◌+◌, ◌<◌, ◌≤◌, Some, length, take, get_or, slice_get, sym, arith}
 use Rattle.std.proofs.lemmas.Option.{slice_get-get_or}
 use Rattle.hz_net.proofs.Places.{length-network_of}
 use Rattle.hz_write.specs.Writer.{Writes, NoneWaits}
 use Rattle.hz_write.proofs.Writers.{writes_nothing, writes_same, writes_then}
-use Rattle.hz_report.specs.Kept.{AreLines}
 use Rattle.hz_report.specs.Report.{row_lines}
 use Rattle.hz_report.proofs.ShownLemmas.{ArePut, put-begin, put-skip, put-set, put-shown, put-under, no_row}
 use Rattle.hz_report.proofs.KeptLemmas.{kept-lines, lines-joined}
@@ -56,14 +55,6 @@ first_not_shown-var-requires-in-loop-var-clause-rows g c =
     let count : c.nodes-count.result ≡ length netlist.names = rw c.circuit.ensures.same at c.nodes-count.ensures.nodes in
     omega (arith, count, c.requires.rows, length-network_of netlist c.circuit.ensures.circuit)
 
-pub write_lines-requires-clause-lines : goal.write_lines-requires-clause-lines
-write_lines-requires-clause-lines g c =
-    let netlist = c.args.net.now in
-    let count : c.nodes-count.result ≡ length netlist.names = rw c.circuit.ensures.same at c.nodes-count.ensures.nodes in
-    let enough : length netlist.names ≤ length c.args.rows.now = omega (arith, c.requires.rows, length-network_of netlist c.circuit.ensures.circuit) in
-    let lines = kept-lines netlist c.args.rows.now c.loop-var.from c.loop-var.var c.loop-var.text c.args.begins.now enough (omega (arith, count, c.loop-var-test.true)) (put-under c.args.net.now c.args.rows.now c.args.begins.now c.loop-var.from c.loop-var.var c.loop-var.text c.loop-var.shown (omega (arith, count, c.loop-var-test.true, c.loop-var.invariant.0.ordered)) c.loop-var.invariant.0) in
-    subst AreLines (sym c.kept_lines.ensures) lines.1
-
 pub write_rare_row-requires : goal.write_rare_row-requires
 write_rare_row-requires g c =
     let netlist = c.args.net.now in
@@ -100,7 +91,7 @@ loop-var-preserved g c =
         put-skip netlist rows begins from var text c.loop-var.shown so_far.0,
         writes_then
             (writes_then so_far.1
-            (writes_same w.write_lines.ensures.gave (w.kept_lines.ensures ∙ (kept-lines netlist rows from var text begins enough (omega (arith, within)) under).0))
+            (writes_same w.end_by.ensures.gave (w.kept_lines.ensures ∙ kept-lines netlist rows from var text begins enough (omega (arith, within)) under))
             (lines-joined netlist rows from var so_far.0.ordered (omega (arith, within, enough))))
             w.write_rare_row.ensures.gave (sym (row_lines_more netlist rows var w.row.result w.row.ensures)),
         w.write_rare_row.ensures.none_waits,
@@ -113,15 +104,6 @@ loop-var-preserved g c =
       few,
     )
 
-pub write_lines-requires-2-clause-lines : goal.write_lines-requires-2-clause-lines
-write_lines-requires-2-clause-lines g c =
-    let netlist = c.args.net.now in
-    let count : c.nodes-count.result ≡ length netlist.names = rw c.circuit.ensures.same at c.nodes-count.ensures.nodes in
-    let end : c.nodes-count.result ≡ c.loop-var.var = omega (arith, count, c.loop-var-test.false, c.loop-var.invariant.3) in
-    let enough : length netlist.names ≤ length c.args.rows.now = omega (arith, c.requires.rows, length-network_of netlist c.circuit.ensures.circuit) in
-    let lines = kept-lines netlist c.args.rows.now c.loop-var.from c.loop-var.var c.loop-var.text c.args.begins.now enough (omega (arith, count, end)) (put-under c.args.net.now c.args.rows.now c.args.begins.now c.loop-var.from c.loop-var.var c.loop-var.text c.loop-var.shown (omega (arith, count, end, c.loop-var.invariant.0.ordered)) c.loop-var.invariant.0) in
-    subst AreLines (sym (rw end at c.kept_lines-2.ensures)) lines.1
-
 pub returns-clause-gave : goal.returns-clause-gave
 returns-clause-gave g c =
     let netlist = c.args.net.now in
@@ -131,5 +113,5 @@ returns-clause-gave g c =
     let enough : length netlist.names ≤ length rows = omega (arith, c.requires.rows, length-network_of netlist c.circuit.ensures.circuit) in
     let lines = kept-lines netlist rows c.loop-var.from c.loop-var.var c.loop-var.text c.args.begins.now enough (omega (arith, count, end)) (put-under c.args.net.now c.args.rows.now c.args.begins.now c.loop-var.from c.loop-var.var c.loop-var.text c.loop-var.shown (omega (arith, count, end, c.loop-var.invariant.0.ordered)) c.loop-var.invariant.0) in
     let all : c.loop-var.var ≡ length netlist.names = sym end ∙ count in
-    rw all at (writes_then c.loop-var.invariant.1 (writes_same c.write_lines-2.ensures.gave ((rw end at c.kept_lines-2.ensures) ∙ lines.0))
+    rw all at (writes_then c.loop-var.invariant.1 (writes_same c.end_by-2.ensures.gave ((rw end at c.kept_lines-2.ensures) ∙ lines))
     (lines-joined netlist rows c.loop-var.from c.loop-var.var c.loop-var.invariant.0.ordered (omega (arith, count, end, enough))))

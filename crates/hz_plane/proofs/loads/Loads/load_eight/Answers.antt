@@ -20,28 +20,22 @@ invariant_of-self c =
     let fields = c.self.inside in
     let listings = c.start_eight.new.listings in
     let inputs = c.set_eight.new.sets in
-    let count : length listings ≡ fields.listings.len = c.start_eight.auto.listings ∙ c.as_mut_slice-2.ensures.len in
-    let few : length fields.listings.items ≤ fields.listings.len = omega (arith, ap (length {A = Listing}) c.as_mut_slice-2.ensures.value, c.as_mut_slice-2.ensures.len) in
-    let are : take fields.listings.len (listings ++ drop (length listings) fields.listings.items) ≡ listings = written-back fields.listings.len listings fields.listings.items count few in
-    let long : length listings ≡ length fields.listings.items = c.start_eight.auto.listings ∙ ap (length {A = Listing}) c.as_mut_slice-2.ensures.value in
-    let input_count : length inputs ≡ fields.inputs.len = c.set_eight.auto.sets ∙ c.as_mut_slice.ensures.len in
-    let input_few : length fields.inputs.items ≤ fields.inputs.len = omega (arith, ap (length {A = List ℕ}) c.as_mut_slice.ensures.value, c.as_mut_slice.ensures.len) in
-    let inputs_are : take fields.inputs.len (inputs ++ drop (length inputs) fields.inputs.items) ≡ inputs = written-back fields.inputs.len inputs fields.inputs.items input_count input_few in
-    let input_long : length inputs ≡ length fields.inputs.items = c.set_eight.auto.sets ∙ ap (length {A = List ℕ}) c.as_mut_slice.ensures.value in
+    let back = written-back listings c.start_eight.auto.listings c.as_mut_slice-2.ensures.value c.as_mut_slice-2.ensures.len in
+    let inputs_back = written-back inputs c.set_eight.auto.sets c.as_mut_slice.ensures.value c.as_mut_slice.ensures.len in
     let loaded : (lane : ℕ) → lane / 8 ≡ c.args.eight → has_lane c.put_eight.new.set lane ≡ true = λ lane same. c.put_eight.ensures.here lane same ∙ all-bits (lane % 8) (omega arith) in
     let other_inputs : (other : ℕ) → other < 512 → other / 8 ≢ c.args.eight → lane_input inputs other ≡ lane_input fields.inputs.items other = λ other below differ.
     same-input c.as_mut_slice.result.now inputs other c.set_eight.auto.sets (λ i. c.set_eight.ensures.others i other below differ) ∙ ap (λ (sets : List (List ℕ)). lane_input sets other) c.as_mut_slice.ensures.value in
     let others_listed : (other : ℕ) → other < 512 → other / 8 ≢ c.args.eight → lane_listed listings other ≡ lane_listed fields.listings.items other = λ other below differ.
     c.start_eight.ensures.others other below differ ∙ ap (λ (all : List Listing). lane_listed all other) c.as_mut_slice-2.ensures.value in
     record {
-      fresh = subst (λ (all : List Listing). (lane : ℕ) → lane < 512 → has_lane c.put_eight.new.set lane ≡ false → lane_listed all lane ≡ replicate (length all) None) (sym are)
-          (subst (λ (n : ℕ). (lane : ℕ) → lane < 512 → has_lane c.put_eight.new.set lane ≡ false → lane_listed listings lane ≡ replicate n None) (sym long)
+      fresh = subst (λ (all : List Listing). (lane : ℕ) → lane < 512 → has_lane c.put_eight.new.set lane ≡ false → lane_listed all lane ≡ replicate (length all) None) (sym back.are)
+          (subst (λ (n : ℕ). (lane : ℕ) → lane < 512 → has_lane c.put_eight.new.set lane ≡ false → lane_listed listings lane ≡ replicate n None) (sym back.long)
           (fresh-eight fields.loaded c.put_eight.new.set fields.inputs.items inputs fields.listings.items listings c.args.eight c.requires.eight loaded c.put_eight.ensures.others other_inputs others_listed
           (length fields.listings.items) c.self.invariant.fresh));
       no_gates = λ none other gate below past within.
-          let beyond : length fields.inputs.items ≤ gate = omega (arith, past, ap (length {A = List ℕ}) inputs_are, input_long) in
-          let inside : gate < length fields.listings.items = omega (arith, within, ap (length {A = Listing}) are, long) in
-          ap (λ (all : List Listing). get_or (lane_listed all other) gate None) are
+          let beyond : length fields.inputs.items ≤ gate = omega (arith, past, ap (length {A = List ℕ}) inputs_back.are, inputs_back.long) in
+          let inside : gate < length fields.listings.items = omega (arith, within, ap (length {A = Listing}) back.are, back.long) in
+          ap (λ (all : List Listing). get_or (lane_listed all other) gate None) back.are
           ∙ unlisted-eight fields.loaded c.put_eight.new.set fields.inputs.items inputs fields.listings.items listings c.args.eight c.requires.eight loaded c.put_eight.ensures.others other_inputs others_listed
           gate (λ lane same.
           let first = take c.len-inputs.result (drop (8 * c.args.eight * (2 * c.len-inputs.result) + (lane % 8) * (2 * c.len-inputs.result)) c.args.bits.now) in
@@ -57,12 +51,8 @@ returns-clause-here c lane same =
     let bits = c.args.bits.now in
     let listings = c.start_eight.new.listings in
     let inputs = c.set_eight.new.sets in
-    let count : length listings ≡ fields.listings.len = c.start_eight.auto.listings ∙ c.as_mut_slice-2.ensures.len in
-    let few : length fields.listings.items ≤ fields.listings.len = omega (arith, ap (length {A = Listing}) c.as_mut_slice-2.ensures.value, c.as_mut_slice-2.ensures.len) in
-    let are : take fields.listings.len (listings ++ drop (length listings) fields.listings.items) ≡ listings = written-back fields.listings.len listings fields.listings.items count few in
-    let input_count : length inputs ≡ fields.inputs.len = c.set_eight.auto.sets ∙ c.as_mut_slice.ensures.len in
-    let input_few : length fields.inputs.items ≤ fields.inputs.len = omega (arith, ap (length {A = List ℕ}) c.as_mut_slice.ensures.value, c.as_mut_slice.ensures.len) in
-    let inputs_are : take fields.inputs.len (inputs ++ drop (length inputs) fields.inputs.items) ≡ inputs = written-back fields.inputs.len inputs fields.inputs.items input_count input_few in
+    let back = written-back listings c.start_eight.auto.listings c.as_mut_slice-2.ensures.value c.as_mut_slice-2.ensures.len in
+    let inputs_back = written-back inputs c.set_eight.auto.sets c.as_mut_slice.ensures.value c.as_mut_slice.ensures.len in
     let size : n ≡ length fields.inputs.items = search (rules, c.len-inputs.ensures) in
     let begins = lane-begins c.args.eight lane (2 * n) same in
     let loaded : (lane : ℕ) → lane / 8 ≡ c.args.eight → has_lane c.put_eight.new.set lane ≡ true = λ lane same. c.put_eight.ensures.here lane same ∙ all-bits (lane % 8) (omega arith) in
@@ -76,8 +66,8 @@ returns-clause-here c lane same =
     let listed : lane_listed listings lane ≡ listed_with (length fields.listings.items) (take n (drop (lane * (2 * n)) bits)) [] =
     c.start_eight.ensures.here lane same ∙ (ap (λ (k : ℕ). listed_with (length c.as_mut_slice-2.result.now) (take n (drop k bits)) []) begins
     ∙ ap (λ (k : ℕ). listed_with k (take n (drop (lane * (2 * n)) bits)) []) (ap (length {A = Listing}) c.as_mut_slice-2.ensures.value)) in
-    ap (λ (sets : List (List ℕ)). slice_get (lane_loads c.put_eight.new.set sets (take fields.listings.len (listings ++ drop (length listings) fields.listings.items))) lane) inputs_are
-    ∙ (ap (λ (all : List Listing). slice_get (lane_loads c.put_eight.new.set inputs all) lane) are
+    ap (λ (sets : List (List ℕ)). slice_get (lane_loads c.put_eight.new.set sets (take fields.listings.len (listings ++ drop (length listings) fields.listings.items))) lane) inputs_back.are
+    ∙ (ap (λ (all : List Listing). slice_get (lane_loads c.put_eight.new.set inputs all) lane) back.are
     ∙ (eight-loaded fields.loaded c.put_eight.new.set fields.inputs.items inputs fields.listings.items listings c.args.eight c.requires.eight loaded c.put_eight.ensures.others other_inputs others_listed lane _ _ same input listed
     ∙ (ap (λ (k : ℕ). Some (Some (loaded_from (length fields.listings.items) k [] (drop (lane * (2 * k)) bits)))) size
     ∙ ap (λ (s : LaneLoads). Some (Some (loaded_from s.nodes s.inputs [] (drop (lane * (2 * s.inputs)) bits)))) c.self.view_is)))
@@ -87,18 +77,14 @@ returns-clause-others c other below differ =
     let fields = c.self.inside in
     let listings = c.start_eight.new.listings in
     let inputs = c.set_eight.new.sets in
-    let count : length listings ≡ fields.listings.len = c.start_eight.auto.listings ∙ c.as_mut_slice-2.ensures.len in
-    let few : length fields.listings.items ≤ fields.listings.len = omega (arith, ap (length {A = Listing}) c.as_mut_slice-2.ensures.value, c.as_mut_slice-2.ensures.len) in
-    let are : take fields.listings.len (listings ++ drop (length listings) fields.listings.items) ≡ listings = written-back fields.listings.len listings fields.listings.items count few in
-    let input_count : length inputs ≡ fields.inputs.len = c.set_eight.auto.sets ∙ c.as_mut_slice.ensures.len in
-    let input_few : length fields.inputs.items ≤ fields.inputs.len = omega (arith, ap (length {A = List ℕ}) c.as_mut_slice.ensures.value, c.as_mut_slice.ensures.len) in
-    let inputs_are : take fields.inputs.len (inputs ++ drop (length inputs) fields.inputs.items) ≡ inputs = written-back fields.inputs.len inputs fields.inputs.items input_count input_few in
+    let back = written-back listings c.start_eight.auto.listings c.as_mut_slice-2.ensures.value c.as_mut_slice-2.ensures.len in
+    let inputs_back = written-back inputs c.set_eight.auto.sets c.as_mut_slice.ensures.value c.as_mut_slice.ensures.len in
     let loaded : (lane : ℕ) → lane / 8 ≡ c.args.eight → has_lane c.put_eight.new.set lane ≡ true = λ lane same. c.put_eight.ensures.here lane same ∙ all-bits (lane % 8) (omega arith) in
     let other_inputs : (other : ℕ) → other < 512 → other / 8 ≢ c.args.eight → lane_input inputs other ≡ lane_input fields.inputs.items other = λ other below differ.
     same-input c.as_mut_slice.result.now inputs other c.set_eight.auto.sets (λ i. c.set_eight.ensures.others i other below differ) ∙ ap (λ (sets : List (List ℕ)). lane_input sets other) c.as_mut_slice.ensures.value in
     let others_listed : (other : ℕ) → other < 512 → other / 8 ≢ c.args.eight → lane_listed listings other ≡ lane_listed fields.listings.items other = λ other below differ.
     c.start_eight.ensures.others other below differ ∙ ap (λ (all : List Listing). lane_listed all other) c.as_mut_slice-2.ensures.value in
-    ap (λ (sets : List (List ℕ)). slice_get (lane_loads c.put_eight.new.set sets (take fields.listings.len (listings ++ drop (length listings) fields.listings.items))) other) inputs_are
-    ∙ (ap (λ (all : List Listing). slice_get (lane_loads c.put_eight.new.set inputs all) other) are
+    ap (λ (sets : List (List ℕ)). slice_get (lane_loads c.put_eight.new.set sets (take fields.listings.len (listings ++ drop (length listings) fields.listings.items))) other) inputs_back.are
+    ∙ (ap (λ (all : List Listing). slice_get (lane_loads c.put_eight.new.set inputs all) other) back.are
     ∙ (others-loaded fields.loaded c.put_eight.new.set fields.inputs.items inputs fields.listings.items listings c.args.eight c.requires.eight loaded c.put_eight.ensures.others other_inputs others_listed other below differ
     ∙ ap (λ (s : LaneLoads). slice_get s.lanes other) c.self.view_is))

@@ -1,4 +1,4 @@
-use Rattle.std.proofs.Common.{◌≡◌, ℕ, ◌<◌, ◌≤◌, ◌++◌, ◌∙◌, List, Bool, Option, Some, None, length, take, drop, slice_get, sym, ap, subst, arith}
+use Rattle.std.proofs.Common.{◌≡◌, ℕ, ◌<◌, ◌∙◌, List, Bool, Option, Some, None, length, slice_get, sym, ap, subst, arith}
 use Rattle.std.proofs.lemmas.Option.{slice_get_within}
 use Rattle.hz_core.specs.Netlist.{Gate}
 use Rattle.hz_plane.specs.declared.pair.Pair.{Pair}
@@ -18,27 +18,18 @@ pub invariant_of-self : goal.invariant_of-self
 invariant_of-self c =
     let fields = c.self.inside in
     let held = c.self.invariant in
-    let values_count : length c.fill-are_evaluated.new.values ≡ fields.values.len = c.fill-are_evaluated.auto.values ∙ c.as_mut_slice-2.ensures.len in
-    let values_few : length fields.values.items ≤ fields.values.len = omega (arith, ap (length {A = Pair}) c.as_mut_slice-2.ensures.value, c.as_mut_slice-2.ensures.len) in
-    let values_are : take fields.values.len (c.fill-are_evaluated.new.values ++ drop (length c.fill-are_evaluated.new.values) fields.values.items) ≡ c.fill-are_evaluated.new.values = written-back fields.values.len c.fill-are_evaluated.new.values fields.values.items values_count values_few in
-    let values_long : length c.fill-are_evaluated.new.values ≡ length fields.values.items = c.fill-are_evaluated.auto.values ∙ ap (length {A = Pair}) c.as_mut_slice-2.ensures.value in
-    let marks_count : length c.fill-are_evaluated.new.marks ≡ fields.marks.len = c.fill-are_evaluated.auto.marks ∙ c.as_mut_slice.ensures.len in
-    let marks_few : length fields.marks.items ≤ fields.marks.len = omega (arith, ap (length {A = ℕ}) c.as_mut_slice.ensures.value, c.as_mut_slice.ensures.len) in
-    let marks_are : take fields.marks.len (c.fill-are_evaluated.new.marks ++ drop (length c.fill-are_evaluated.new.marks) fields.marks.items) ≡ c.fill-are_evaluated.new.marks = written-back fields.marks.len c.fill-are_evaluated.new.marks fields.marks.items marks_count marks_few in
-    let marks_long : length c.fill-are_evaluated.new.marks ≡ length fields.marks.items = c.fill-are_evaluated.auto.marks ∙ ap (length {A = ℕ}) c.as_mut_slice.ensures.value in
-    let faults_count : length c.note_faults.new.faults ≡ fields.faults.len = c.note_faults.auto.faults ∙ c.as_mut_slice-3.ensures.len in
-    let faults_few : length fields.faults.items ≤ fields.faults.len = omega (arith, ap (length {A = Option LaneFault}) c.as_mut_slice-3.ensures.value, c.as_mut_slice-3.ensures.len) in
-    let faults_are : take fields.faults.len (c.note_faults.new.faults ++ drop (length c.note_faults.new.faults) fields.faults.items) ≡ c.note_faults.new.faults = written-back fields.faults.len c.note_faults.new.faults fields.faults.items faults_count faults_few in
-    let faults_long : length c.note_faults.new.faults ≡ length fields.faults.items = c.note_faults.auto.faults ∙ ap (length {A = Option LaneFault}) c.as_mut_slice-3.ensures.value in
+    let values_back = written-back c.fill-are_evaluated.new.values c.fill-are_evaluated.auto.values c.as_mut_slice-2.ensures.value c.as_mut_slice-2.ensures.len in
+    let marks_back = written-back c.fill-are_evaluated.new.marks c.fill-are_evaluated.auto.marks c.as_mut_slice.ensures.value c.as_mut_slice.ensures.len in
+    let faults_back = written-back c.note_faults.new.faults c.note_faults.auto.faults c.as_mut_slice-3.ensures.value c.as_mut_slice-3.ensures.len in
     let values = c.fill-are_evaluated.new.values in
-    let read : c.as_slice.result.now ≡ values = c.as_slice.ensures.value ∙ values_are in
+    let read : c.as_slice.result.now ≡ values = c.as_slice.ensures.value ∙ values_back.are in
     record {
       nodes = held.nodes;
       small = held.small;
-      values_count = ap (length {A = Pair}) values_are ∙ (values_long ∙ held.values_count);
-      marks = ap (length {A = ℕ}) marks_are ∙ (marks_long ∙ held.marks);
-      faults_count = ap (length {A = Option LaneFault}) faults_are ∙ (faults_long ∙ held.faults_count);
-      values_planes = subst AreAllPlanes (sym values_are) c.fill-are_evaluated.ensures.planes;
+      values_count = ap (length {A = Pair}) values_back.are ∙ (values_back.long ∙ held.values_count);
+      marks = ap (length {A = ℕ}) marks_back.are ∙ (marks_back.long ∙ held.marks);
+      faults_count = ap (length {A = Option LaneFault}) faults_back.are ∙ (faults_back.long ∙ held.faults_count);
+      values_planes = subst AreAllPlanes (sym values_back.are) c.fill-are_evaluated.ensures.planes;
       sources = held.sources;
       schedule = λ netlist of. held.schedule netlist (record { circuit = of.circuit; whole = of.whole; inputs = of.inputs; gates = of.gates });
       lists = held.lists;
@@ -50,7 +41,7 @@ invariant_of-self c =
           let filled = c.fill-are_evaluated.ensures.lanes netlist of.circuit of.whole inputs gates lane inside (λ input below. subst (λ (l : List (Option Bool)). (bit : Bool) × (slice_get l input ≡ Some (Some bit))) (sym is) (held.lists lane loaded at input (omega (arith, below, of.inputs))))
           (λ none gate is_gate. subst (λ (l : List (Option Bool)). slice_get l gate ≡ Some None) (sym is)
           (c.lists_no_gate-no_gates.ensures none lane loaded at gate (omega (arith, is_gate.0, of.inputs)) (omega (arith, is_gate.1, held.nodes, of.inputs, ap (length {A = Gate}) of.gates, of.circuit.nodes)))) in
-          subst (λ (values : List Pair). LaneHolds Completed netlist loaded values lane) (sym values_are) (filled.0, filled.1, subst (λ (l : List (Option Bool)). AreForcedNodes netlist l filled.0) is filled.2);
+          subst (λ (values : List Pair). LaneHolds Completed netlist loaded values lane) (sym values_back.are) (filled.0, filled.1, subst (λ (l : List (Option Bool)). AreForcedNodes netlist l filled.0) is filled.2);
       faults = λ netlist lane loaded of at begun.
           let inputs : c.args.net.now.inputs ≡ netlist.inputs = sym c.requires.net.0 ∙ (ap (λ (s : Seen). s.inputs) (sym c.self.view_is) ∙ of.inputs) in
           let gates : c.args.net.now.gates ≡ netlist.gates = sym c.requires.net.1 ∙ (ap (λ (s : Seen). s.gates) (sym c.self.view_is) ∙ of.gates) in
@@ -61,9 +52,9 @@ invariant_of-self c =
           (λ none gate is_gate. subst (λ (l : List (Option Bool)). slice_get l gate ≡ Some None) (sym is)
           (c.lists_no_gate-no_gates.ensures none lane loaded at gate (omega (arith, is_gate.0, of.inputs)) (omega (arith, is_gate.1, held.nodes, of.inputs, ap (length {A = Gate}) of.gates, of.circuit.nodes)))) in
           let noted = subst (λ (planes : List Pair). IsNoted c.args.net.now c.listings-2.result.now planes lane (fault_at c.note_faults.new.faults lane)) read (c.note_faults.ensures lane inside) in
-          let count : length values ≡ length netlist.names = omega (arith, values_long, held.values_count, held.nodes, of.inputs, ap (length {A = Gate}) of.gates, of.circuit.nodes) in
+          let count : length values ≡ length netlist.names = omega (arith, values_back.long, held.values_count, held.nodes, of.inputs, ap (length {A = Gate}) of.gates, of.circuit.nodes) in
           let size : length c.listings-2.result.now ≡ length netlist.names = omega (arith, c.listings-2.ensures.count, held.nodes, of.inputs, ap (length {A = Gate}) of.gates, of.circuit.nodes) in
-          subst (λ (all : List (Option LaneFault)). IsLaneFault netlist loaded.listed (fault_at all lane)) (sym faults_are)
+          subst (λ (all : List (Option LaneFault)). IsLaneFault netlist loaded.listed (fault_at all lane)) (sym faults_back.are)
           (subst (λ (l : List (Option Bool)). IsLaneFault netlist l (fault_at c.note_faults.new.faults lane)) again
           (lane-fault netlist of.circuit of.whole c.listings-2.result.now values lane filled.0 inside count size c.fill-are_evaluated.ensures.planes filled.1 (subst (λ (l : List (Option Bool)). AreForcedNodes netlist l filled.0) (is ∙ sym again) filled.2)
           noted.first (fault_at c.note_faults.new.faults lane) noted.among_nodes

@@ -1,4 +1,4 @@
-use Rattle.std.proofs.Common.{◌≡◌, ℕ, ◌<◌, ◌≤◌, ◌++◌, ◌∙◌, List, Some, length, take, drop, sym, ap, subst, arith}
+use Rattle.std.proofs.Common.{◌≡◌, ℕ, ◌<◌, ◌∙◌, List, Some, length, sym, ap, subst, arith}
 use Rattle.std.proofs.lemmas.Option.{slice_get_within}
 use Rattle.hz_plane.specs.declared.pair.Pair.{Pair}
 use Rattle.hz_plane.specs.declared.stage.Stage.{Stage}
@@ -15,21 +15,15 @@ invariant_of-self c =
     let fields = c.self.inside in
     let held = c.self.invariant in
     let stage : fields.stage ≡ Completed = ap (λ (s : Seen). s.stage) c.self.view_is ∙ c.requires.stage in
-    let values_count : length c.spread.new.values ≡ fields.values.len = c.spread.auto.values ∙ c.as_mut_slice-2.ensures.len in
-    let values_few : length fields.values.items ≤ fields.values.len = omega (arith, ap (length {A = Pair}) c.as_mut_slice-2.ensures.value, c.as_mut_slice-2.ensures.len) in
-    let values_are : take fields.values.len (c.spread.new.values ++ drop (length c.spread.new.values) fields.values.items) ≡ c.spread.new.values = written-back fields.values.len c.spread.new.values fields.values.items values_count values_few in
-    let values_long : length c.spread.new.values ≡ length fields.values.items = c.spread.auto.values ∙ ap (length {A = Pair}) c.as_mut_slice-2.ensures.value in
-    let marks_count : length c.spread.new.marks ≡ fields.marks.len = c.spread.auto.marks ∙ c.as_mut_slice.ensures.len in
-    let marks_few : length fields.marks.items ≤ fields.marks.len = omega (arith, ap (length {A = ℕ}) c.as_mut_slice.ensures.value, c.as_mut_slice.ensures.len) in
-    let marks_are : take fields.marks.len (c.spread.new.marks ++ drop (length c.spread.new.marks) fields.marks.items) ≡ c.spread.new.marks = written-back fields.marks.len c.spread.new.marks fields.marks.items marks_count marks_few in
-    let marks_long : length c.spread.new.marks ≡ length fields.marks.items = c.spread.auto.marks ∙ ap (length {A = ℕ}) c.as_mut_slice.ensures.value in
+    let values_back = written-back c.spread.new.values c.spread.auto.values c.as_mut_slice-2.ensures.value c.as_mut_slice-2.ensures.len in
+    let marks_back = written-back c.spread.new.marks c.spread.auto.marks c.as_mut_slice.ensures.value c.as_mut_slice.ensures.len in
     record {
       nodes = held.nodes;
       small = held.small;
-      values_count = ap (length {A = Pair}) values_are ∙ (values_long ∙ held.values_count);
-      marks = ap (length {A = ℕ}) marks_are ∙ (marks_long ∙ held.marks);
+      values_count = ap (length {A = Pair}) values_back.are ∙ (values_back.long ∙ held.values_count);
+      marks = ap (length {A = ℕ}) marks_back.are ∙ (marks_back.long ∙ held.marks);
       faults_count = held.faults_count;
-      values_planes = subst AreAllPlanes (sym values_are) c.spread.ensures.planes;
+      values_planes = subst AreAllPlanes (sym values_back.are) c.spread.ensures.planes;
       sources = held.sources;
       schedule = λ netlist of. held.schedule netlist (record { circuit = of.circuit; whole = of.whole; inputs = of.inputs; gates = of.gates });
       lists = held.lists;
@@ -39,7 +33,7 @@ invariant_of-self c =
           let inside : lane < 512 = omega (arith, slice_get_within fields.loads.lanes lane (Some loaded) at, c.inputs.ensures.long) in
           let is : lane_input c.inputs.result.now lane ≡ loaded.input = c.inputs.ensures.lanes lane loaded at in
           let was : LaneHolds Completed netlist loaded fields.values.items lane = subst (λ (s : Stage). LaneHolds s netlist loaded fields.values.items lane) stage (held.lanes netlist lane loaded (record { circuit = of.circuit; whole = of.whole; inputs = of.inputs; gates = of.gates }) at) in
-          subst (λ (values : List Pair). LaneHolds Spread netlist loaded values lane) (sym values_are)
+          subst (λ (values : List Pair). LaneHolds Spread netlist loaded values lane) (sym values_back.are)
           (holds-spread netlist of.circuit loaded fields.values.items c.spread.new.values lane c.inputs.result.now is was
           (λ input first nodes rounds has are bits rounded. c.spread.ensures.lanes netlist of.circuit of.whole inputs gates lane input first nodes rounds inside
           (subst (λ (planes : List Pair). HasLane planes lane nodes) (sym c.as_mut_slice-2.ensures.value) has) are bits rounded));

@@ -7,7 +7,11 @@ use Rattle.hz_core.specs.Netlist.{Netlist, IsCircuit}
 use Rattle.hz_net.specs.Network.{network_of}
 use Rattle.hz_net.specs.Starts.{IsStableStart}
 use Rattle.hz_desk.specs.Finding.{FindingOf, finding_of, values_b}
+use Rattle.hz_desk.specs.RightFinding.{IsRightFinding}
+use Rattle.hz_net.proofs.Places.{length-network_of}
 use Rattle.hz_seq.specs.Sequence.{IsSettledAt, IsFirstUnknown}
+use Rattle.hz_seq.specs.Settling.{IsSettledBut}
+use Rattle.hz_seq.proofs.ChangedSettling.{begun}
 use Rattle.hz_seq.proofs.FindingEffects.{left-by, stable-left}
 use Rattle.hz_seq.proofs.sequence.Sequence.make.Goals as goal
 
@@ -24,7 +28,7 @@ invariant_of-self c =
     let given : length c.as_slice-3.result.now ≡ c.self.inside.desk.netlist.inputs = ap length c.as_slice-3.ensures.value ∙ input in
     let circuit : IsCircuit c.self.inside.desk.netlist = subst IsCircuit c.net.ensures c.keeps_shape.ensures.circuit in
     let values : c.values_b-values.result.now ≡ values_b (finding_of c.change.result.now).rows =
-    c.values_b-values.ensures ∙ ap (λ (f : FindingOf). values_b f.rows) (c.finding.ensures.same ∙ c.change.follows.holds-at-none.1) in
+    c.values_b-values.ensures ∙ ap (λ (f : FindingOf). values_b f.rows) (c.finding-found.ensures.same ∙ c.change.follows.holds-at-none.1) in
     let settled : MatchOption c.settle-self-inside.result (IsSettledAt (values_b (finding_of c.change.result.now).rows) state) (IsFirstUnknown (values_b (finding_of c.change.result.now).rows)) =
     subst (λ (list : List Tri). MatchOption c.settle-self-inside.result (IsSettledAt list state) (IsFirstUnknown list)) values c.settle-self-inside.ensures in
     record {
@@ -45,7 +49,7 @@ returns-clause-after c =
     let long : length state ≡ c.self.inside.start.len = omega (arith, c.settle-self-inside.auto.state, c.as_mut_slice-2.ensures.len) in
     let items : (with_items c.self.inside.start state).items ≡ state = with_items_is c.self.inside.start state long in
     let values : c.values_b-values.result.now ≡ values_b c.change.follows.lender-at-none.finding.rows =
-    c.values_b-values.ensures ∙ ap (λ (f : FindingOf). values_b f.rows) c.finding.ensures.same in
+    c.values_b-values.ensures ∙ ap (λ (f : FindingOf). values_b f.rows) c.finding-found.ensures.same in
     let settled : MatchOption c.settle-self-inside.result (IsSettledAt (values_b c.change.follows.lender-at-none.finding.rows) (with_items c.self.inside.start state).items) (IsFirstUnknown (values_b c.change.follows.lender-at-none.finding.rows)) =
     subst (λ (bits : List Bool). MatchOption c.settle-self-inside.result (IsSettledAt (values_b c.change.follows.lender-at-none.finding.rows) bits) (IsFirstUnknown (values_b c.change.follows.lender-at-none.finding.rows))) (sym items)
     (subst (λ (list : List Tri). MatchOption c.settle-self-inside.result (IsSettledAt list state) (IsFirstUnknown list)) values c.settle-self-inside.ensures) in (
@@ -53,3 +57,26 @@ returns-clause-after c =
       refl,
       left-by c.settle-self-inside.result (values_b c.change.follows.lender-at-none.finding.rows) (with_items c.self.inside.start state).items settled,
     )
+
+pub write_input-requires-clause-state : goal.write_input-requires-clause-state
+write_input-requires-clause-state c =
+    let circuit : IsCircuit c.self.inside.desk.netlist = subst IsCircuit c.net.ensures c.keeps_shape.ensures.circuit in
+    omega (
+      arith,
+      ap length c.as_mut_slice.ensures.value,
+      c.self.invariant.input,
+      ap length c.as_slice.ensures.value,
+      c.self.invariant.start,
+      length-network_of c.self.inside.desk.netlist circuit,
+      circuit.nodes,
+    )
+
+pub settle-self-inside-requires-clause-others : goal.settle-self-inside-requires-clause-others
+settle-self-inside-requires-clause-others c =
+    let net = network_of c.self.inside.desk.netlist in
+    let found : FindingOf = finding_of c.finding-found.result.now in
+    let right : IsRightFinding net c.as_slice-3.result.now c.as_slice-2.result.now c.args.cap found =
+    subst (IsRightFinding net c.as_slice-3.result.now c.as_slice-2.result.now c.args.cap) (sym (c.finding-found.ensures.same ∙ c.change.follows.holds-at-none.1)) c.change.ensures.right in
+    subst (λ (list : List Tri). IsSettledBut list found.spread c.as_mut_slice-2.result.now (length list)) (sym c.values_b-values.ensures)
+    (subst (λ (bits : List Bool). IsSettledBut (values_b found.rows) found.spread bits (length (values_b found.rows))) (c.as_slice-2.ensures.value ∙ sym c.as_mut_slice-2.ensures.value)
+    (begun net c.as_slice-3.result.now c.as_slice-2.result.now c.args.cap found right))
