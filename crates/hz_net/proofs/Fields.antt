@@ -42,6 +42,13 @@ network_bound_is fields netlist same holds =
     let circuit : IsCircuit netlist = circuit_of fields netlist same holds in
     omega (arith, length-network_of netlist circuit, circuit.variables)
 
+-- a variable of the network has its entry
+pub entry_inside :
+    (fields : Inside) (netlist : Netlist) → fields.circuit ≡ netlist → HoldsNetwork fields → (var : ℕ) →
+    var < length (network_of netlist) → var < length fields.entries.items
+entry_inside fields netlist same holds var inside =
+    omega (arith, length_is fields netlist same holds, network_length_is fields netlist same holds, inside)
+
 -- an entry as it is read
 read_is :
     (fields : Inside) (netlist : Netlist) → fields.circuit ≡ netlist → HoldsNetwork fields → (var : ℕ) (entry : Entry) →

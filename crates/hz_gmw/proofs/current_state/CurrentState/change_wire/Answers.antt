@@ -50,12 +50,11 @@ counted-requires-2-clause-some c =
 
 pub returns-clause-counted : goal.returns-clause-counted
 returns-clause-counted c =
-    let netlist = c.args.net.now in
     let current = c.args.self.now in
     let fits = c.requires.counted.fits in
     let state = current.state.items in
     let bit : c.index.result.now ≡ bit_at state c.args.wire = get_or_read state c.args.wire c.index.result.now (omega (arith, c.requires.wire, fits.state)) c.index.ensures _ in
-    let low : c.index-2.result.now ≡ bit_at state c.args.source = get_or_read state c.args.source c.index-2.result.now (omega (arith, c.requires.source, nodes-among netlist fits.circuit, fits.state)) c.index-2.ensures _ in
+    let low : c.index-2.result.now ≡ bit_at state c.args.source = get_or_read state c.args.source c.index-2.result.now (omega (arith, c.requires.source, nodes-among c.args.net.now fits.circuit, fits.state)) c.index-2.ensures _ in
     let one = get_or_read current.ones.items c.args.gate c.index-3.result.now (omega (arith, c.requires.gate, fits.ones)) c.index-3.ensures 0 in
     let lag = get_or_read current.unstable_wires.items c.args.source c.index-4.result.now (omega (arith, c.requires.source, fits.wires)) c.index-4.ensures 0 in
     record {
@@ -67,7 +66,7 @@ returns-clause-counted c =
         ones = length-set current.ones.items c.args.gate c.counted.result ∙ fits.ones;
         wires = length-set current.unstable_wires.items c.args.source c.counted-2.result ∙ fits.wires;
       };
-      counts = changed-wire netlist current.input.items state current.ones.items current.unstable_wires.items c.args.wire c.args.gate c.args.source c.counted.result c.counted-2.result c.index-3.result.now c.index-4.result.now c.index.result.now c.index-2.result.now
+      counts = changed-wire c.args.net.now current.input.items state current.ones.items current.unstable_wires.items c.args.wire c.args.gate c.args.source c.counted.result c.counted-2.result c.index-3.result.now c.index-4.result.now c.index.result.now c.index-2.result.now
           fits.circuit c.requires.counted.counts c.requires.into c.requires.from (omega (arith, c.requires.wire, fits.state)) (omega (arith, c.requires.gate, fits.ones)) (omega (arith, c.requires.source, fits.wires)) fits.wires bit low one lag c.counted.ensures c.counted-2.ensures;
     }
 

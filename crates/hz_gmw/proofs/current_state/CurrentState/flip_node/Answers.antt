@@ -1,4 +1,4 @@
-use Rattle.std.proofs.Common.{◌≡◌, ◌≤◌, ◌<◌, ◌+◌, ◌∷◌, length, arith}
+use Rattle.std.proofs.Common.{◌≡◌, ◌≤◌, ◌+◌, ◌∷◌, length, arith}
 use Rattle.std.specs.Prelude.{count_by}
 use Rattle.hz_net.specs.Network.{network_of}
 use Rattle.hz_net.specs.Variables.{fan_out_of}
@@ -42,13 +42,12 @@ sums c =
     let current = c.args.self.now in
     let after = c.change_node-wires.new.self in
     let is = c.change_node-wires.ensures in
-    let node = c.args.node in
     let fits = c.requires.exact.counted.fits in
     let inside = nodes-among netlist fits.circuit in
     (
-      mended netlist current.input.items current.state.items after.input.items after.state.items node (node ∷ fan_out_of netlist node) fits.circuit
-          (omega (arith, c.requires.node, inside)) (around-node netlist fits.circuit node c.requires.node) is.input is.state,
-      node-turned netlist current.input.items current.state.items after.input.items after.state.items node fits.circuit c.requires.node
+      mended netlist current.input.items current.state.items after.input.items after.state.items c.args.node (c.args.node ∷ fan_out_of netlist c.args.node) fits.circuit
+          (omega (arith, c.requires.node, inside)) (around-node netlist fits.circuit c.args.node c.requires.node) is.input is.state,
+      node-turned netlist current.input.items current.state.items after.input.items after.state.items c.args.node fits.circuit c.requires.node
           (omega (arith, inside, fits.state)) is.input is.state,
     )
 

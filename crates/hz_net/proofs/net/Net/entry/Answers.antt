@@ -1,15 +1,10 @@
 use Rattle.std.proofs.Common.{arith}
-use Rattle.hz_net.proofs.Fields.{length_is, network_length_is, network_bound_is, driver_is, seen_is, within_is, place_is}
+use Rattle.hz_net.proofs.Fields.{entry_inside, network_bound_is, driver_is, seen_is, within_is, place_is}
 use Rattle.hz_net.proofs.net.Net.entry.Goals as goal
 
 pub index-requires : goal.index-requires
 index-requires c =
-    omega (
-      arith,
-      length_is c.self.inside c.args.self.now c.self.view_is c.self.invariant,
-      network_length_is c.self.inside c.args.self.now c.self.view_is c.self.invariant,
-      c.requires,
-    )
+    omega (arith, entry_inside c.self.inside c.args.self.now c.self.view_is c.self.invariant c.args.var c.requires)
 
 pub returns-clause-driver : goal.returns-clause-driver
 returns-clause-driver c =
