@@ -14,6 +14,7 @@ use Rattle.hz_core.specs.declared.kind.Kind.TheVariants.{And}
 use Rattle.hz_core.specs.Gate.{most_pins}
 use Rattle.hz_core.specs.Netlist as netlist
 use Rattle.hz_core.proofs.ListLemmas.{list_any-from_position_none}
+use Rattle.hz_core.proofs.NameLemmas.{position-absent}
 use Rattle.hz_netlist.specs.Build.{Apart, AreWired, HasNodeName, HasRightPins, UsesKnown, AreAdmissibleSteps, MayAddInput, MayAddCut, MayAddGate, MayAddPinNamed, MayAddPins, MayAddOutput, MayBuild, initial_builder, with_input_of, with_cut_of, with_gate_of, with_pin_named, with_pins_of, with_output_of}
 use Rattle.hz_netlist.specs.Circuit.{data_nodes, all_inputs, node_names, number_in, gates_of, add_once, each_once, circuit_of_elements}
 use Rattle.hz_netlist.specs.Element.{Element, Input, Cut, Gate, Output, input_names, cut_names, gate_names, output_names, element_variables, variable_total}
@@ -22,13 +23,7 @@ use Rattle.hz_core.specs.Limits.{most_variables}
 
 -- a name that is absent has no node, and one that is present has one
 absent-unnamed : (names : List (List ℕ)) (name : List ℕ) → list_any (bytes_eq name) names ≡ false → position (bytes_eq name) names ≡ None
-absent-unnamed names name h = by_place (position (bytes_eq name) names) refl
-  where
-    by_place : (place : Option ℕ) → position (bytes_eq name) names ≡ place → place ≡ None
-    by_place None e = refl
-    by_place (Some node) e =
-        let found = position-Some (bytes_eq name) names node [] e in
-        let wrong = sym (list_any_at (bytes_eq name) names node [] found.0 found.1) ∙ h in cc
+absent-unnamed names name h = sym (position-absent names name h)
 
 present-named : (names : List (List ℕ)) (name : List ℕ) → list_any (bytes_eq name) names ≡ true → IsSome (position (bytes_eq name) names)
 present-named names name h = by_place (position (bytes_eq name) names) refl
