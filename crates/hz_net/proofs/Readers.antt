@@ -21,7 +21,7 @@ use Rattle.hz_net.proofs.Places.{no_wire, length-network_of, driver_at-input, dr
 use Rattle.hz_net.proofs.Wires.{IsWireFrom, IsWireFrom-node, IsWireFrom-fan_out_of, Contains-fan_out_of, driver_at-IsWireFrom, variable_kinds-wire}
 use Rattle.hz_net.specs.Inside.{HoldsNetwork}
 use Rattle.hz_net.specs.declared.net.Net.TheInside.{Inside}
-use Rattle.hz_net.proofs.Fields.{circuit_of, network_length_is, seen_is, within_is, place_is}
+use Rattle.hz_net.proofs.Fields.{circuit_of, seen_is, within_is, place_is}
 use Rattle.hz_net.proofs.Wired.{gate-named, named-into, pin-into}
 
 -- a driver reads a variable or not

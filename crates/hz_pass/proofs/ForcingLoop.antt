@@ -218,21 +218,21 @@ module _ (netlist : Netlist) (listed : List (Option Bool)) (circuit : IsCircuit 
   forced-pop values waiting cuts node so_far there_all =
       still so_far
       (λ wire source driven. elim (so_far.delivered wire source driven) [
-          | inl same ↦ inl same
-          | inr (inl there) ↦ elim (Contains-push_cases waiting node source there) [
-            | inl later ↦ inr (inl later)
-            | inr next ↦ inr (inr (subst (λ (n : ℕ). Contains (fan_out_of netlist n) wire) (sym next) (Contains-fan_out_of netlist wire source (IsWireFrom-driver_at netlist wire source circuit driven))))
-          ]
-          | inr (inr none) ↦ absurd (no-element wire none)
+        | inl same ↦ inl same
+        | inr (inl there) ↦ elim (Contains-push_cases waiting node source there) [
+          | inl later ↦ inr (inl later)
+          | inr next ↦ inr (inr (subst (λ (n : ℕ). Contains (fan_out_of netlist n) wire) (sym next) (Contains-fan_out_of netlist wire source (IsWireFrom-driver_at netlist wire source circuit driven))))
+        ]
+        | inr (inr none) ↦ absurd (no-element wire none)
       ])
       (λ cut source is unknown. elim (so_far.open_cuts cut source is unknown) [
-          | inl same ↦ inl same
-          | inr (inl there) ↦ elim (Contains-push_cases waiting node source there) [
-            | inl later ↦ inr (inl later)
-            | inr next ↦ inr (inr (there_all cut (subst (λ (n : ℕ). IsDataOf netlist n cut) (sym next) is)
-                (unlisted values (waiting ++ node ∷ []) [] [] [] cut so_far (omega (arith, is.is_cut.1, circuit.nodes)) unknown)))
-          ]
-          | inr (inr none) ↦ absurd (no-element cut none)
+        | inl same ↦ inl same
+        | inr (inl there) ↦ elim (Contains-push_cases waiting node source there) [
+          | inl later ↦ inr (inl later)
+          | inr next ↦ inr (inr (there_all cut (subst (λ (n : ℕ). IsDataOf netlist n cut) (sym next) is)
+              (unlisted values (waiting ++ node ∷ []) [] [] [] cut so_far (omega (arith, is.is_cut.1, circuit.nodes)) unknown)))
+        ]
+        | inr (inr none) ↦ absurd (no-element cut none)
       ])
       so_far.closed
       (λ k d few. subst (λ (n : ℕ). (n < length netlist.names) × (value_at values n ≢ Unknown)) (get_or_append_left waiting (node ∷ []) d k few) (so_far.waits k d (omega (arith, few, length-append waiting (node ∷ [])))))
@@ -313,14 +313,14 @@ module _ (netlist : Netlist) (listed : List (Option Bool)) (circuit : IsCircuit 
   forced-same values waiting due cuts gate so_far why =
       still so_far so_far.delivered so_far.open_cuts
       (λ other other_gate unknown. elim (so_far.closed other other_gate unknown) [
-          | inl same ↦ inl same
-          | inr there ↦ elim (Contains-head gate other [] there) [
-            | inl same ↦ elim why [
-              | inl known ↦ absurd (known (ap (value_at values) same ∙ unknown))
-              | inr x ↦ inl (ap (gate_extension netlist values) (sym same) ∙ x)
-            ]
-            | inr none ↦ absurd (no-element other none)
+        | inl same ↦ inl same
+        | inr there ↦ elim (Contains-head gate other [] there) [
+          | inl same ↦ elim why [
+            | inl known ↦ absurd (known (ap (value_at values) same ∙ unknown))
+            | inr x ↦ inl (ap (gate_extension netlist values) (sym same) ∙ x)
           ]
+          | inr none ↦ absurd (no-element other none)
+        ]
       ])
       so_far.waits
 
@@ -345,12 +345,12 @@ module _ (netlist : Netlist) (listed : List (Option Bool)) (circuit : IsCircuit 
   cut-same values waiting due cuts cut so_far known =
       still so_far so_far.delivered
       (λ other source is unknown. elim (so_far.open_cuts other source is unknown) [
-          | inl none ↦ inl none
-          | inr (inl there) ↦ inr (inl there)
-          | inr (inr there) ↦ elim (Contains-head cut other cuts there) [
-            | inl same ↦ absurd (known (ap (value_at values) same ∙ unknown))
-            | inr later ↦ inr (inr later)
-          ]
+        | inl none ↦ inl none
+        | inr (inl there) ↦ inr (inl there)
+        | inr (inr there) ↦ elim (Contains-head cut other cuts there) [
+          | inl same ↦ absurd (known (ap (value_at values) same ∙ unknown))
+          | inr later ↦ inr (inr later)
+        ]
       ])
       so_far.closed so_far.waits
 

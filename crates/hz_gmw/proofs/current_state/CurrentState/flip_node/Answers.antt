@@ -43,8 +43,7 @@ sums c =
     let after = c.change_node-wires.new.self in
     let is = c.change_node-wires.ensures in
     let fits = c.requires.exact.counted.fits in
-    let inside = nodes-among netlist fits.circuit in
-    (
+    let inside = nodes-among netlist fits.circuit in (
       mended netlist current.input.items current.state.items after.input.items after.state.items c.args.node (c.args.node ∷ fan_out_of netlist c.args.node) fits.circuit
           (omega (arith, c.requires.node, inside)) (around-node netlist fits.circuit c.args.node c.requires.node) is.input is.state,
       node-turned netlist current.input.items current.state.items after.input.items after.state.items c.args.node fits.circuit c.requires.node

@@ -26,7 +26,7 @@ around :
     × (cond c.change_wire-unstable.result 1 0 + cond (not (beq c.index-value.result.now c.excited_around-before.result.1)) 1 0 ≡ count_by after around)
     × (count_by before around ≤ unstable_count net c.args.self.now.input.items c.args.self.now.state.items)
     × (unstable_count net c.change_wire-unstable.new.self.input.items c.change_wire-unstable.new.self.state.items + count_by before around
-      ≡ unstable_count net c.args.self.now.input.items c.args.self.now.state.items + count_by after around)
+    ≡ unstable_count net c.args.self.now.input.items c.args.self.now.state.items + count_by after around)
 around c =
     let netlist = c.args.net.now in
     let current = c.args.self.now in
@@ -42,8 +42,7 @@ around c =
     let before : c.excited_around-before.result.0 ≡ excitation (network_of netlist) after.input.items current.state.items gate =
     c.excited_around-before.ensures.before current.state.items fits.state (λ kind first pins driver. ones ∙ c.requires.exact.counted.counts.ones gate kind first pins driver) in
     let sums = around-changed netlist current.input.items current.state.items after.input.items after.state.items wire gate c.change_wire-unstable.result c.index-value.result.now c.excited_around-before.result.0 c.excited_around-before.result.1
-    circuit c.requires.into c.requires.gate c.requires.wire is.input is.state is.lags is.turned value before c.excited_around-before.ensures.now in
-    (
+    circuit c.requires.into c.requires.gate c.requires.wire is.input is.state is.lags is.turned value before c.excited_around-before.ensures.now in (
       sums.0,
       sums.1,
       some-around netlist current.input.items current.state.items wire (with_readers netlist wire) circuit c.requires.wire refl,

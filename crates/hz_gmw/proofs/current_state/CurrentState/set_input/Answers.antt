@@ -57,8 +57,7 @@ sums c =
     let circuit = c.requires.exact.counted.fits.circuit in
     let inside : number < length (network_of netlist) = omega (arith, c.requires.number, inputs-among netlist circuit) in
     let one : c.one_if.result ≡ weight (is_unstable (network_of netlist) current.input.items current.state.items number) = c.one_if.ensures ∙ ap weight c.is_unstable.ensures in
-    let two : c.one_if-2.result ≡ weight (is_unstable (network_of netlist) input current.state.items number) = c.one_if-2.ensures ∙ ap weight c.is_unstable-2.ensures in
-    (
+    let two : c.one_if-2.result ≡ weight (is_unstable (network_of netlist) input current.state.items number) = c.one_if-2.ensures ∙ ap weight c.is_unstable-2.ensures in (
       omega (arith, one, two, unstable-input netlist current.input.items current.state.items number c.args.value circuit inside),
       omega (arith, one, one-bound netlist current.input.items current.state.items number inside),
     )
