@@ -30,29 +30,24 @@ stated_by name word part = by_word (is_flip_flop word)
     by_word true = refl
     by_word false = refl
 
--- it reads these words
-sources_by : (name word : List ℕ) (sources : List (List ℕ)) → sources_of (defined_by name word sources) ≡ sources
-sources_by name word sources = by_word (is_flip_flop word)
+-- it has this name and reads these words
+made_by : (name word : List ℕ) (sources : List (List ℕ)) → (name_of (defined_by name word sources) ≡ name) × (sources_of (defined_by name word sources) ≡ sources)
+made_by name word sources = by_word (is_flip_flop word)
   where
-    by_word : (b : Bool) → sources_of (cond b (FlipFlop name sources) (Gate name (kind_named word) sources)) ≡ sources
-    by_word true = refl
-    by_word false = refl
-
-named_by : (name word : List ℕ) (sources : List (List ℕ)) → name_of (defined_by name word sources) ≡ name
-named_by name word sources = by_word (is_flip_flop word)
-  where
-    by_word : (b : Bool) → name_of (cond b (FlipFlop name sources) (Gate name (kind_named word) sources)) ≡ name
-    by_word true = refl
-    by_word false = refl
+    by_word :
+        (b : Bool) → let made = cond b (FlipFlop name sources) (Gate name (kind_named word) sources) in
+        (name_of made ≡ name) × (sources_of made ≡ sources)
+    by_word true = (refl, refl)
+    by_word false = (refl, refl)
 
 pub sources_with : (name word part : List ℕ) → sources_of (statement_with name (form_named word) part) ≡ words_in part
-sources_with name word part = ap sources_of (stated_by name word part) ∙ sources_by name word (words_in part)
+sources_with name word part = ap sources_of (stated_by name word part) ∙ (made_by name word (words_in part)).1
 
 pub long_with : (name word part : List ℕ) → has_long_name (statement_with name (form_named word) part) ≡ (is_long name || list_any is_long (words_in part))
 long_with name word part =
     ap has_long_name (stated_by name word part)
-    ∙ ap (λ first. is_long first || list_any is_long (sources_of (defined_by name word (words_in part)))) (named_by name word (words_in part))
-    ∙ ap (λ sources. is_long name || list_any is_long sources) (sources_by name word (words_in part))
+    ∙ ap (λ first. is_long first || list_any is_long (sources_of (defined_by name word (words_in part)))) ((made_by name word (words_in part)).0)
+    ∙ ap (λ sources. is_long name || list_any is_long sources) ((made_by name word (words_in part)).1)
 
 -- a list of names in words
 pub record IsNameList (tokens : List TokenOf) : Type 0 where
