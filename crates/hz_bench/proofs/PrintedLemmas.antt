@@ -25,14 +25,14 @@ more_sources-push names (first ∷ sources) source = ap (λ rest. (codes ", " ++
 pub sources_more : (names : List (List ℕ)) (sources : List ℕ) (index : ℕ) → index < length sources → more_sources names (take (index + 1) sources) ≡ more_sources names (take index sources) ++ (codes ", " ++ node_name names (get_or sources index 0))
 sources_more names sources index inside = ap (more_sources names) (take_more sources index 0 inside) ∙ more_sources-push names (take index sources) (get_or sources index 0)
 
+shift : (a b : ℕ) → suc a + b ≡ a + suc b
+shift a b = omega arith
+
 gate_texts-push : (names : List (List ℕ)) (node : ℕ) (gates : List Gate) (gate : Gate) → gate_texts names node (gates ++ gate ∷ []) ≡ gate_texts names node gates ++ gate_line names (node_name names (node + length gates)) gate
 gate_texts-push names node [] gate = append-nil (gate_line names (node_name names node) gate) ∙ ap (λ place. gate_line names (node_name names place) gate) (sym (add-zero node))
 gate_texts-push names node (first ∷ gates) gate =
     ap (λ rest. gate_line names (node_name names node) first ++ rest) (gate_texts-push names (suc node) gates gate ∙ ap (λ place. gate_texts names (suc node) gates ++ gate_line names (node_name names place) gate) (shift node (length gates)))
     ∙ sym (append_assoc (gate_line names (node_name names node) first) (gate_texts names (suc node) gates) (gate_line names (node_name names (node + suc (length gates))) gate))
-  where
-    shift : (a b : ℕ) → suc a + b ≡ a + suc b
-    shift a b = omega arith
 
 pub gates_more : (names : List (List ℕ)) (inputs : ℕ) (gates : List Gate) (node : ℕ) (other : Gate) → inputs ≤ node → node < inputs + length gates
     → gate_texts names inputs (take (node + 1 - inputs) gates) ≡ gate_texts names inputs (take (node - inputs) gates) ++ gate_line names (node_name names node) (get_or gates (node - inputs) other)
@@ -49,9 +49,6 @@ cut_lines-push names node [] cut = append-nil (cut_text names (node_name names n
 cut_lines-push names node (first ∷ cuts) cut =
     ap (λ rest. cut_text names (node_name names node) first ++ rest) (cut_lines-push names (suc node) cuts cut ∙ ap (λ place. cut_lines names (suc node) cuts ++ cut_text names (node_name names place) cut) (shift node (length cuts)))
     ∙ sym (append_assoc (cut_text names (node_name names node) first) (cut_lines names (suc node) cuts) (cut_text names (node_name names (node + suc (length cuts))) cut))
-  where
-    shift : (a b : ℕ) → suc a + b ≡ a + suc b
-    shift a b = omega arith
 
 pub cuts_more : (names : List (List ℕ)) (first : ℕ) (cuts : List (Option ℕ)) (node : ℕ) → first ≤ node → node < first + length cuts
     → cut_lines names first (take (node + 1 - first) cuts) ≡ cut_lines names first (take (node - first) cuts) ++ cut_text names (node_name names node) (get_or cuts (node - first) None)
