@@ -7,6 +7,7 @@ use Rattle.hz_reach.proofs.Words.{Source, driver_at, bit_at, value_at, driver_va
 use Rattle.hz_reach.proofs.Words.{admits-driver_value, at-excitations, length-part, length-algorithm_b, AllBelow-algorithm_b, is_listed, state_after}
 use Rattle.hz_reach.proofs.Words.{end_of, length-end_of, changes_in, IsWired, is_gate_in, Refines-slice_range, AllBelow-same, AllBelow-through}
 use Rattle.hz_core.proofs.Patterns.{candidate-extension}
+use Rattle.hz_net.proofs.Sequences.{settled-last}
 use Rattle.hz_reach.proofs.FlipCounts.{changes-more}
 use Rattle.hz_cycle.proofs.StepLemmas.{listed-none, unchanged-end}
 use Rattle.hz_reach.proofs.GateTurn.{driver-inside, either-value}
@@ -70,14 +71,11 @@ below-first net input first above (suc round) =
 pub fixed-result : (net : List Driver) (input : List Bool) (first : List Tri) (rounds : ℕ) → length first ≡ length net → AreRounds (algorithm_b net input first) rounds → IsFixed net input (algorithm_b net input first rounds)
 fixed-result net input first zero long are = absurd (omega (arith, are.some))
 fixed-result net input first (suc round) long are =
-    let last : suc round - 1 ≡ round = omega arith in
-    let settled : algorithm_b net input first (suc round) ≡ algorithm_b net input first round =
-    are.settled ∙ ap (algorithm_b net input first) last in
     record {
       long = length-algorithm_b net input first long (suc round);
       same = λ i inside.
           at-excitations net input (algorithm_b net input first round) i inside
-          ∙ ap (λ (values : List Tri). driver_value3 input values (driver_at net i)) (sym settled);
+          ∙ ap (λ (values : List Tri). driver_value3 input values (driver_at net i)) (sym (settled-last are));
     }
 
 module _ {net : List Driver} {input : List Bool} {b : List Tri} (fixed : IsFixed net input b) where

@@ -89,6 +89,15 @@ module _ (net : List Driver) (Goes : ℕ → Type 0) (inside : (i : ℕ) → Goe
       let e = long.2 in
       omega arith
 
+-- a chain stays inside the network
+pub chain-inside : (net : List Driver) → IsWired net → (i : ℕ) (chain : List ℕ) (j : ℕ) → IsChain net i chain → is_listed chain j ≡ true → j < length net
+chain-inside net wired i [] j is_chain there = absurd (both_ways false refl there)
+chain-inside net wired i (next ∷ chain) j is_chain there =
+    elim (or_cases (eqb j next) (is_listed chain j) there) [
+      | inl same ↦ subst (λ (m : ℕ). m < length net) (sym (eqb-true j next same)) (reads-inside net i next wired is_chain.0)
+      | inr later ↦ chain-inside net wired next chain j is_chain.1 later
+    ]
+
 -- what holds of a feedback-free variable, if it holds of one whenever it holds of all that it reads
 module _ (net : List Driver) (wired : IsWired net) (P : ℕ → Type 0) (step : (i : ℕ) → i < length net → IsFeedbackFree net i → ((j : ℕ) → Reads (driver_at net i) j → P j) → P i) where
   -- chains from a variable of at most so many variables
@@ -108,21 +117,13 @@ module _ (net : List Driver) (wired : IsWired net) (P : ℕ → Type 0) (step : 
   by-shortness (suc n) i few free short =
       step i few free (λ j reads. by-shortness n j (reads-inside net i j wired reads) (reads-free net i j free reads) (short-reads n i j short reads))
 
-  chain-inside : (i : ℕ) (chain : List ℕ) (j : ℕ) → IsChain net i chain → is_listed chain j ≡ true → j < length net
-  chain-inside i [] j is_chain there = absurd (both_ways false refl there)
-  chain-inside i (next ∷ chain) j is_chain there =
-      elim (or_cases (eqb j next) (is_listed chain j) there) [
-        | inl same ↦ subst (λ (m : ℕ). m < length net) (sym (eqb-true j next same)) (reads-inside net i next wired is_chain.0)
-        | inr later ↦ chain-inside next chain j is_chain.1 later
-      ]
-
   free-short : (i : ℕ) → i < length net → IsFeedbackFree net i → IsShort (length net) i
   unfolding IsShort
   free-short i few free chain is_chain =
       let bound = is_repeat_free-bound (i ∷ chain) (length net) (free chain is_chain) (λ j there.
       elim (or_cases (eqb j i) (is_listed chain j) there) [
         | inl same ↦ subst (λ (m : ℕ). m < length net) (sym (eqb-true j i same)) few
-        | inr later ↦ chain-inside i chain j is_chain later
+        | inr later ↦ chain-inside net wired i chain j is_chain later
       ]) in
       omega arith
 

@@ -102,14 +102,18 @@ module _ (readers : ℕ → List ℕ) (variables : ℕ) (unread : List ℕ) wher
       let bound = unplaced-bound readers [] below reader one in
       omega arith
 
-  -- the order begins with the variables that read nothing
-  pub first-more : (below : ℕ) (order : List ℕ) → AreFirst below unread order → get_or unread below 0 ≡ 0 → AreFirst (below + 1) unread (order ++ below ∷ [])
-  first-more below order are none =
-      let out : is_listed order below ≡ false =
+  -- the next variable is not in the order yet
+  not-first : (below : ℕ) (order : List ℕ) → AreFirst below unread order → is_listed order below ≡ false
+  not-first below order are =
       elim (cases_Bool (is_listed order below)) [
         | inl there ↦ let wrong = are.inside below there in absurd (omega arith)
         | inr out ↦ out
-      ] in
+      ]
+
+  -- the order begins with the variables that read nothing
+  pub first-more : (below : ℕ) (order : List ℕ) → AreFirst below unread order → get_or unread below 0 ≡ 0 → AreFirst (below + 1) unread (order ++ below ∷ [])
+  first-more below order are none =
+      let out = not-first below order are in
       record {
         listed = λ i few.
             elim (cases_eq i below) [
@@ -126,11 +130,7 @@ module _ (readers : ℕ → List ℕ) (variables : ℕ) (unread : List ℕ) wher
 
   pub first-same : (below : ℕ) (order : List ℕ) → AreFirst below unread order → get_or unread below 0 ≢ 0 → AreFirst (below + 1) unread order
   first-same below order are some =
-      let out : is_listed order below ≡ false =
-      elim (cases_Bool (is_listed order below)) [
-        | inl there ↦ let wrong = are.inside below there in absurd (omega arith)
-        | inr out ↦ out
-      ] in
+      let out = not-first below order are in
       record {
         listed = λ i few.
             elim (cases_eq i below) [

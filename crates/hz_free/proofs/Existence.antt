@@ -10,7 +10,7 @@ use Rattle.hz_lists.specs.Listed.{is_listed, IsRepeatFree}
 use Rattle.hz_free.specs.Chains.{IsChain, IsFeedbackFree}
 use Rattle.hz_free.specs.Feedback.{IsChoice, ComesAround, IsFeedbackCycle, AreFeedbackCycles}
 use Rattle.hz_lists.proofs.ListedLemmas.{is_repeat_free-bound, listed-head, listed-left, All-each}
-use Rattle.hz_free.proofs.Chains.{free-from_reads, reads-free, reads-inside}
+use Rattle.hz_free.proofs.Chains.{chain-inside, free-from_reads, reads-free, reads-inside}
 use Rattle.hz_free.proofs.FeedbackCycles.{cycle-closed, cycle-least, chosen-in, all-around, same-cycle}
 use Rattle.hz_free.proofs.FoundCycles.{first-chooses, reader-inside}
 use Rattle.hz_free.proofs.OneList.{Rises, HasAll}
@@ -118,18 +118,10 @@ module _ (net : List Driver) (wired : IsWired net) where
   short-free (suc n) i short =
       free-from_reads net i (λ j reads. short-free n j (λ chain is. let bound = short (j ∷ chain) (reads, is) in omega arith))
 
-  chain-inside : (i : ℕ) (chain : List ℕ) (j : ℕ) → IsChain net i chain → is_listed chain j ≡ true → j < length net
-  chain-inside i [] j is there = absurd (both_ways false refl there)
-  chain-inside i (next ∷ chain) j is there =
-      elim (or_cases (eqb j next) (is_listed chain j) there) [
-        | inl same ↦ subst (λ (m : ℕ). m < length net) (sym (eqb-true j next same)) (reads-inside net i next wired is.0)
-        | inr later ↦ chain-inside next chain j is.1 later
-      ]
-
   long-not-free : (i : ℕ) → HasLong (length net) i → IsFeedbackFree net i → ⊥
   unfolding HasLong
   long-not-free i long free =
-      let bound = is_repeat_free-bound long.0 (length net) (free long.0 long.1).1 (λ j there. chain-inside i long.0 j long.1 there) in
+      let bound = is_repeat_free-bound long.0 (length net) (free long.0 long.1).1 (λ j there. chain-inside net wired i long.0 j long.1 there) in
       let length_is = long.2 in
       omega arith
 

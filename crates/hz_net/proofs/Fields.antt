@@ -42,6 +42,13 @@ network_bound_is fields netlist same holds =
     let circuit : IsCircuit netlist = circuit_of fields netlist same holds in
     omega (arith, length-network_of netlist circuit, circuit.variables)
 
+-- a variable of the network has its entry
+pub entry_inside :
+    (fields : Inside) (netlist : Netlist) → fields.circuit ≡ netlist → HoldsNetwork fields → (var : ℕ) →
+    var < length (network_of netlist) → var < length fields.entries.items
+entry_inside fields netlist same holds var inside =
+    omega (arith, length_is fields netlist same holds, network_length_is fields netlist same holds, inside)
+
 -- an entry as it is read
 read_is :
     (fields : Inside) (netlist : Netlist) → fields.circuit ≡ netlist → HoldsNetwork fields → (var : ℕ) (entry : Entry) →
@@ -49,18 +56,24 @@ read_is :
 read_is fields netlist same holds var entry read =
     read ∙ ap (λ entries. get_or entries var entry) (entries_are fields netlist same holds)
 
+-- a variable of the network is one of the circuit
+pub within_is :
+    (fields : Inside) (netlist : Netlist) → fields.circuit ≡ netlist → HoldsNetwork fields → (var : ℕ) →
+    var < length (network_of netlist) → var < variable_count netlist
+within_is fields netlist same holds var inside = omega (arith, network_length_is fields netlist same holds, inside)
+
 pub driver_is :
     (fields : Inside) (netlist : Netlist) → fields.circuit ≡ netlist → HoldsNetwork fields → (var : ℕ) (entry : Entry) →
-    var < variable_count netlist → entry ≡ get_or fields.entries.items var entry → driver_at (network_of netlist) var ≡ driver_of entry
-driver_is fields netlist same holds var entry within read =
-    driver_at-entry netlist var entry (circuit_of fields netlist same holds) within (read_is fields netlist same holds var entry read)
+    var < length (network_of netlist) → entry ≡ get_or fields.entries.items var entry → driver_at (network_of netlist) var ≡ driver_of entry
+driver_is fields netlist same holds var entry inside read =
+    driver_at-entry netlist var entry (circuit_of fields netlist same holds) (within_is fields netlist same holds var inside) (read_is fields netlist same holds var entry read)
 
 pub seen_is :
     (fields : Inside) (netlist : Netlist) → fields.circuit ≡ netlist → HoldsNetwork fields → (var : ℕ) (entry : Entry) →
-    var < variable_count netlist → entry ≡ get_or fields.entries.items var entry →
+    var < length (network_of netlist) → entry ≡ get_or fields.entries.items var entry →
     slice_get (variable_kinds netlist) var ≡ Some (entry_kind entry)
-seen_is fields netlist same holds var entry within read =
-    variable_kinds-entry netlist var entry (circuit_of fields netlist same holds) within (read_is fields netlist same holds var entry read)
+seen_is fields netlist same holds var entry inside read =
+    variable_kinds-entry netlist var entry (circuit_of fields netlist same holds) (within_is fields netlist same holds var inside) (read_is fields netlist same holds var entry read)
 
 pub place_is :
     (fields : Inside) (netlist : Netlist) → fields.circuit ≡ netlist → HoldsNetwork fields → (var : ℕ) (entry : Entry) →

@@ -21,7 +21,7 @@ use Rattle.hz_net.proofs.Places.{no_wire, length-network_of, driver_at-input, dr
 use Rattle.hz_net.proofs.Wires.{IsWireFrom, IsWireFrom-node, IsWireFrom-fan_out_of, Contains-fan_out_of, driver_at-IsWireFrom, variable_kinds-wire}
 use Rattle.hz_net.specs.Inside.{HoldsNetwork}
 use Rattle.hz_net.specs.declared.net.Net.TheInside.{Inside}
-use Rattle.hz_net.proofs.Fields.{circuit_of, network_length_is, seen_is, place_is}
+use Rattle.hz_net.proofs.Fields.{circuit_of, seen_is, within_is, place_is}
 use Rattle.hz_net.proofs.Wired.{gate-named, named-into, pin-into}
 
 -- a driver reads a variable or not
@@ -152,11 +152,10 @@ pub readers_are :
     (fields : Inside) (netlist : Netlist) → fields.circuit ≡ netlist → HoldsNetwork fields → (var : ℕ) (read entry : Entry) →
     var < length (network_of netlist) → read ≡ get_or fields.entries.items var read → read ≡ entry → AreReadersBy netlist var entry
 readers_are fields netlist same holds var read entry few at is =
-    let within : var < variable_count netlist = omega (arith, few, network_length_is fields netlist same holds) in
     let circuit : IsCircuit netlist = circuit_of fields netlist same holds in
-    let told = ap (readers_by netlist var) (seen_is fields netlist same holds var read within at) ∙ ap (λ (e : Entry). readers_by netlist var (Some (entry_kind e))) is in
+    let told = ap (readers_by netlist var) (seen_is fields netlist same holds var read few at) ∙ ap (λ (e : Entry). readers_by netlist var (Some (entry_kind e))) is in
     record {
-      place = subst (IsEntryAt netlist var) is (place_is fields netlist same holds var read within at);
+      place = subst (IsEntryAt netlist var) is (place_is fields netlist same holds var read (within_is fields netlist same holds var few) at);
       readers = told;
       inside = subst (All (λ reader. reader < length (network_of netlist))) told (readers-inside netlist circuit var few);
     }

@@ -54,21 +54,20 @@ same-or-more (Unknown ∷ xs) (Zero ∷ ys) h = cc
 same-or-more (Unknown ∷ xs) (One ∷ ys) h = cc
 same-or-more (Unknown ∷ xs) (Unknown ∷ ys) h = same-head Unknown xs ys (same-or-more xs ys h.1)
 
--- a state lies below its join with any other
-pub AllBelow-join_each : (values others : List Tri) → length values ≡ length others → AllBelow values (join_each values others)
-AllBelow-join_each [] [] same = tt
-AllBelow-join_each [] (other ∷ others) same = cc
-AllBelow-join_each (value ∷ values) [] same = cc
-AllBelow-join_each (value ∷ values) (other ∷ others) same =
-    (is_below-join_of-left value other, AllBelow-join_each values others (omega (arith, same)))
+-- two states lie below their join
+below-join_each : (values others : List Tri) → length values ≡ length others → AllBelow values (join_each values others) × AllBelow others (join_each values others)
+below-join_each [] [] same = (tt, tt)
+below-join_each [] (other ∷ others) same = cc
+below-join_each (value ∷ values) [] same = cc
+below-join_each (value ∷ values) (other ∷ others) same =
+    let rest = below-join_each values others (omega (arith, same)) in
+    ((is_below-join_of-left value other, rest.0), (is_below-join_of-right value other, rest.1))
 
--- and so does the other
+pub AllBelow-join_each : (values others : List Tri) → length values ≡ length others → AllBelow values (join_each values others)
+AllBelow-join_each values others same = (below-join_each values others same).0
+
 pub AllBelow-join_each_right : (values others : List Tri) → length values ≡ length others → AllBelow others (join_each values others)
-AllBelow-join_each_right [] [] same = tt
-AllBelow-join_each_right [] (other ∷ others) same = cc
-AllBelow-join_each_right (value ∷ values) [] same = cc
-AllBelow-join_each_right (value ∷ values) (other ∷ others) same =
-    (is_below-join_of-right value other, AllBelow-join_each_right values others (omega (arith, same)))
+AllBelow-join_each_right values others same = (below-join_each values others same).1
 
 -- Algorithm A
 
@@ -102,16 +101,17 @@ AllBelow-closed net input values closed =
     subst (λ (vs : List Tri). AllBelow (excitations net input values) vs) (sym closed.same)
     (AllBelow-join_each_right values (excitations net input values) (closed.long ∙ sym (length-excitations net input values)))
 
+-- the last round leaves the state of the round before
+pub settled-last : {sequence : ℕ → List Tri} {round : ℕ} → AreRounds sequence (suc round) → sequence (suc round) ≡ sequence round
+settled-last {sequence} {round} are = are.settled ∙ ap sequence (omega arith)
+
 -- the result of Algorithm A is closed
 pub closed-result : (net : List Driver) (input start : List Bool) (rounds : ℕ) → length start ≡ length net → AreRounds (algorithm_a net input start) rounds → IsClosed net input (algorithm_a net input start rounds)
 closed-result net input start zero long are = absurd (omega (arith, are.some))
 closed-result net input start (suc round) long are =
-    let last : suc round - 1 ≡ round = omega arith in
-    let settled : algorithm_a net input start (suc round) ≡ algorithm_a net input start round =
-    are.settled ∙ ap (algorithm_a net input start) last in
     record {
       long = length-algorithm_a net input start long (suc round);
-      same = ap (λ (vs : List Tri). join_each vs (excitations net input vs)) (sym settled);
+      same = ap (λ (vs : List Tri). join_each vs (excitations net input vs)) (sym (settled-last are));
     }
 
 -- Algorithm B

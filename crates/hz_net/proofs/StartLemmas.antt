@@ -1,6 +1,6 @@
 -- An accepted start, an open node and an unstable gate exclude each other.
-use Rattle.std.proofs.Common.{◌≡◌, ℕ, suc, ◌<◌, min, Bool, false, Option, List, [], ◌∷◌, length, take, refl, sym, ap, ◌∙◌, subst, arith}
-use Rattle.std.proofs.lemmas.List.{length-take, get_or-take}
+use Rattle.std.proofs.Common.{◌≡◌, ℕ, ◌<◌, min, Bool, false, Option, List, length, take, sym, ap, ◌∙◌, subst, arith}
+use Rattle.std.proofs.lemmas.List.{ext_get_or, length-take, get_or-take}
 use Rattle.hz_core.specs.Netlist.{Netlist, IsCircuit}
 use Rattle.hz_net.specs.Network.{network_of, bit_at, IsUnstable}
 use Rattle.hz_net.specs.Variables.{expansion_of}
@@ -13,23 +13,13 @@ pub completed-not-open : (netlist : Netlist) (listed : List (Option Bool)) (stat
 completed-not-open netlist listed state gate completed opened =
     opened.is_open (bit_at state gate) (completed.forced gate opened.is_node)
 
--- lists of one length with the same bit at each place are equal
-same-bits : (xs ys : List Bool) → length xs ≡ length ys → ((k : ℕ) → k < length xs → bit_at xs k ≡ bit_at ys k) → xs ≡ ys
-same-bits [] [] long each = refl
-same-bits [] (y ∷ ys) long each = cc
-same-bits (x ∷ xs) [] long each = cc
-same-bits (x ∷ xs) (y ∷ ys) long each =
-    let head : x ≡ y = each 0 (omega arith) in
-    let tail : xs ≡ ys = same-bits xs ys (omega (arith, long)) (λ k few. each (suc k) (omega (arith, few))) in
-    cc
-
 -- there is one completed start at most
 pub completed_once : (netlist : Netlist) (listed : List (Option Bool)) (state other : List Bool) → IsCompletedStart netlist listed state → IsCompletedStart netlist listed other → state ≡ other
 completed_once netlist listed state other here there =
     let nodes = length netlist.names in
     let lengths : length state ≡ length other = here.long ∙ sym there.long in
     let fronts : take nodes state ≡ take nodes other =
-    same-bits (take nodes state) (take nodes other) (length-take nodes state ∙ (ap (λ (n : ℕ). min nodes n) lengths ∙ sym (length-take nodes other)))
+    ext_get_or false (take nodes state) (take nodes other) (length-take nodes state ∙ (ap (λ (n : ℕ). min nodes n) lengths ∙ sym (length-take nodes other)))
     (λ k few.
     let inside : k < nodes = omega (arith, few, length-take nodes state) in
     get_or-take nodes state k false inside ∙ (forced_once netlist listed k (bit_at state k) (bit_at other k) (here.forced k inside) (there.forced k inside) ∙ sym (get_or-take nodes other k false inside))) in

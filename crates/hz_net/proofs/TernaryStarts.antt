@@ -8,7 +8,7 @@ use Rattle.hz_net.specs.Network.{Driver}
 use Rattle.hz_net.specs.Passes.{excitations, join_each, algorithm_a, algorithm_b, AreRounds, IsResult}
 use Rattle.hz_net.specs.TernaryStarts.{algorithm_a_from, EachSettles, SettlesOnce, SettlesWhole, RoundsAreFew}
 use Rattle.hz_net.proofs.Excitations.{length-excitations, length-join_each}
-use Rattle.hz_net.proofs.Sequences.{unknown_count-le-length, same-or-more, AllBelow-join_each, IsClosed, AllBelow-closed, length-algorithm_b, AllBelow-algorithm_b}
+use Rattle.hz_net.proofs.Sequences.{settled-last, unknown_count-le-length, same-or-more, AllBelow-join_each, IsClosed, AllBelow-closed, length-algorithm_b, AllBelow-algorithm_b}
 
 -- Algorithm A from a start of bits is a case
 pub bits_are_a_case : (net : List Driver) (input start : List Bool) (round : ℕ) → algorithm_a net input start round ≡ algorithm_a_from net input (map tri_of start) round
@@ -40,12 +40,9 @@ first-refines net input first start long refined (suc round) =
 pub closed-result-from : (net : List Driver) (input : List Bool) (first : List Tri) (rounds : ℕ) → length first ≡ length net → AreRounds (algorithm_a_from net input first) rounds → IsClosed net input (algorithm_a_from net input first rounds)
 closed-result-from net input first zero long are = absurd (omega (arith, are.some))
 closed-result-from net input first (suc round) long are =
-    let last : suc round - 1 ≡ round = omega arith in
-    let settled : algorithm_a_from net input first (suc round) ≡ algorithm_a_from net input first round =
-    are.settled ∙ ap (algorithm_a_from net input first) last in
     record {
       long = length-algorithm_a_from net input first long (suc round);
-      same = ap (λ (vs : List Tri). join_each vs (excitations net input vs)) (sym settled);
+      same = ap (λ (vs : List Tri). join_each vs (excitations net input vs)) (sym (settled-last are));
     }
 
 -- and so its excitations lie below it
@@ -92,7 +89,7 @@ module _ (sequence : ℕ → List Tri) (left : List Tri → ℕ) (next : (round 
         ])
       ]
 
-  comes-to-rest : (rounds : ℕ) × AreRounds sequence rounds
+  pub comes-to-rest : (rounds : ℕ) × AreRounds sequence rounds
   comes-to-rest = rests-after (suc (left (sequence 0))) 0 (omega arith) (λ other some upto. absurd (omega (arith, some, upto)))
 
   -- each round but the last one changes the state
@@ -107,7 +104,7 @@ module _ (sequence : ℕ → List Tri) (left : List Tri → ℕ) (next : (round 
         | inr falls ↦ omega (arith, falls, left-falls rounds are round (omega (arith, less)))
       ]
 
-  few-rounds : (rounds : ℕ) → AreRounds sequence rounds → rounds ≤ left (sequence 0) + 1
+  pub few-rounds : (rounds : ℕ) → AreRounds sequence rounds → rounds ≤ left (sequence 0) + 1
   few-rounds rounds are = omega (arith, are.some, left-falls rounds are (rounds - 1) (omega (arith, are.some)))
 
 -- Algorithm A: the variables that are not X get fewer.

@@ -90,28 +90,24 @@ module _ (netlist : Netlist) (circuit : IsCircuit netlist) where
   source-node : (wire source : ℕ) → driver_at (network_of netlist) wire ≡ Source source → source < length netlist.names
   source-node wire source drives = IsWireFrom-node netlist wire source circuit (IsWireFrom-driver_at netlist wire source circuit drives)
 
+  -- the pin of a gate that a wire goes into
+  pin-of : (gate wire : ℕ) → (into : IsWireInto (network_of netlist) gate wire) → IsGateNumber netlist gate × (wire - into.first < length (gate_at netlist gate).sources) × (first_wire netlist gate + (wire - into.first) ≡ wire)
+  pin-of gate wire into =
+      let is = is_gate_of gate into.kind into.first into.pins into.driven in
+      (is.is_gate, omega (arith, is.pins_are, into.above, into.below), omega (arith, is.first_is, into.above))
+
   -- the gate that a wire names
   pub gate-named : (gate wire : ℕ) → IsWireInto (network_of netlist) gate wire → (get_or (wires_of netlist) (wire - length netlist.names) no_wire).gate ≡ gate
   gate-named gate wire into =
-      let is = is_gate_of gate into.kind into.first into.pins into.driven in
-      let first : first_wire netlist gate ≡ into.first = is.first_is in
-      let pins : length (gate_at netlist gate).sources ≡ into.pins = is.pins_are in
-      let above : into.first ≤ wire = into.above in
-      let below : wire < into.first + into.pins = into.below in
-      let place : first_wire netlist gate + (wire - into.first) ≡ wire = omega arith in
-      ap (λ (n : ℕ). (get_or (wires_of netlist) (n - length netlist.names) no_wire).gate) (sym place)
-      ∙ ap (λ (w : Wire). w.gate) (wire_at-pin netlist gate (wire - into.first) circuit is.is_gate (omega arith))
+      let pin = pin-of gate wire into in
+      ap (λ (n : ℕ). (get_or (wires_of netlist) (n - length netlist.names) no_wire).gate) (sym pin.2)
+      ∙ ap (λ (w : Wire). w.gate) (wire_at-pin netlist gate (wire - into.first) circuit pin.0 pin.1)
 
   pin-source : (gate wire : ℕ) → IsWireInto (network_of netlist) gate wire → (source : ℕ) × (driver_at (network_of netlist) wire ≡ Source source)
   pin-source gate wire into =
-      let is = is_gate_of gate into.kind into.first into.pins into.driven in
-      let first : first_wire netlist gate ≡ into.first = is.first_is in
-      let pins : length (gate_at netlist gate).sources ≡ into.pins = is.pins_are in
-      let above : into.first ≤ wire = into.above in
-      let below : wire < into.first + into.pins = into.below in
-      let place : first_wire netlist gate + (wire - into.first) ≡ wire = omega arith in (
+      let pin = pin-of gate wire into in (
         get_or (gate_at netlist gate).sources (wire - into.first) 0,
-        ap (driver_at (network_of netlist)) (sym place) ∙ driver_at-pin netlist gate (wire - into.first) circuit is.is_gate (omega arith),
+        ap (driver_at (network_of netlist)) (sym pin.2) ∙ driver_at-pin netlist gate (wire - into.first) circuit pin.0 pin.1,
       )
 
   -- each wire goes into a gate

@@ -1,18 +1,19 @@
 -- The values that a round changed, taken over into the state, and the round noted at them.
-use Rattle.std.proofs.Common.{◌≡◌, ◌≢◌, ℕ, zero, suc, ◌<◌, ◌≤◌, Bool, List, [], ◌∷◌, length, set, slice_index, get_or, All, refl, sym, ap, ◌∙◌, subst, arith, inl, inr}
+use Rattle.std.proofs.Common.{◌≡◌, ◌≢◌, ℕ, zero, suc, ◌+◌, ◌-◌, ◌<◌, ◌≤◌, Bool, List, [], ◌∷◌, length, set, slice_index, get_or, All, refl, sym, ap, ◌∙◌, subst, arith, inl, inr}
 use Rattle.std.specs.Prelude.{Contains, fold, slice_set}
 use Rattle.std.proofs.lemmas.Bool.{cases_eq, cases_lt}
-use Rattle.std.proofs.lemmas.List.{get_or-set_same, get_or-set_other, get_or_past, length-set}
+use Rattle.std.proofs.lemmas.List.{get_or-set_same, get_or-set_other, get_or_past, length-set, nil_from_length}
 use Rattle.std.proofs.lemmas.List.Elements.{All-from_get_or, Contains-get_or}
 use Rattle.hz_core.specs.declared.tri.Tri.{Tri}
 use Rattle.hz_core.specs.declared.tri.Tri.TheVariants.{Zero}
 use Rattle.hz_net.specs.Network.{Driver, value_at}
 use Rattle.hz_pass.specs.declared.round.Rule.{Rule}
-use Rattle.hz_pass.specs.Frontier.{IsQuiet, IsRound, with_values_of}
+use Rattle.hz_net.specs.Passes.{AreRounds}
+use Rattle.hz_pass.specs.Frontier.{Falls, IsQuiet, IsRound, round_states, with_values_of}
 use Rattle.hz_pass.proofs.Places.{same-values}
 use Rattle.hz_pass.proofs.WholeRounds.{quiet-after}
 use Rattle.hz_pass.proofs.Values.{same-or-differ, length-next_state}
-use Rattle.hz_pass.proofs.PassLoop.{IsNotedAfter}
+use Rattle.hz_pass.proofs.PassLoop.{IsNotedAfter, PassSoFar, pass-long, pass-done}
 
 -- the noted rounds with a round at listed variables
 abbrev pub noted_at : ℕ → List ℕ → List ℕ → List ℕ
@@ -163,3 +164,13 @@ module _
   quiet-list {list} {after} same is =
       subst (λ (values : List Tri). IsQuiet rule net input values list) (sym is)
       (subst (IsQuiet rule net input next) (sym same) (quiet-after long round))
+
+-- the round that changes nothing is the last
+pub pass-ends :
+    {rule : Rule} {net : List Driver} {input : List Bool} {first : List Tri} (long : length first ≡ length net) (falls : Falls rule net input first)
+    {number : ℕ} {state next : List Tri} {changed noted : List ℕ} → 1 ≤ number →
+    PassSoFar rule net input first (number - 1) state noted → IsRound rule net input state next changed → length changed ≡ 0 →
+    AreRounds (round_states rule net input first) number × (state ≡ round_states rule net input first number) ×
+    (number ≤ length net + 1)
+pass-ends long falls {changed = changed} one so_far round none =
+    pass-done long falls one so_far round (unchanged (pass-long long falls so_far) round (nil_from_length changed none))

@@ -1,5 +1,5 @@
 -- The loop that forces values: that each of its steps keeps what is known, and what is known at its end.
-use Rattle.std.proofs.Common.{◌≡◌, ◌≢◌, ℕ, zero, suc, ◌+◌, ◌-◌, ◌<◌, ◌≤◌, ◌⊎◌, Bool, true, false, Option, Some, None, List, [], ◌∷◌, ◌++◌, length, map, get_or, set, slice_get, refl, sym, ap, ◌∙◌, subst, arith, length-append, inl, inr}
+use Rattle.std.proofs.Common.{All, ◌≡◌, ◌≢◌, ℕ, zero, suc, ◌+◌, ◌-◌, ◌<◌, ◌≤◌, ◌⊎◌, Bool, true, false, Option, Some, None, List, [], ◌∷◌, ◌++◌, length, map, get_or, set, slice_get, refl, sym, ap, ◌∙◌, subst, arith, length-append, inl, inr}
 use Rattle.std.specs.Prelude.{Contains, slice_range}
 use Rattle.std.proofs.lemmas.Bool.{cases_eq}
 use Rattle.std.proofs.lemmas.Option.{slice_get_within, slice_get-get_or, slice_get_past}
@@ -22,7 +22,7 @@ use Rattle.hz_net.proofs.Derivations.{AreForced, IsClosed, forced_once, forced-l
 use Rattle.hz_net.proofs.Wires.{IsWireFrom, IsWireFrom-driver_at, IsWireFrom-node, Contains-fan_out_of, length-at_wires, get_or-at_wires}
 use Rattle.hz_core.proofs.CircuitLemmas.{data_of-node}
 use Rattle.hz_pass.specs.CutLists.{IsDataOf}
-use Rattle.hz_pass.specs.Forcing.{listed_value, HasListedValues, gate_extension, SetsNode, ForcedSoFar, AreForcedValues, AreDelivered, touching, carrying, only_waiting}
+use Rattle.hz_pass.specs.Forcing.{Worklist, listed_value, HasListedValues, gate_extension, SetsNode, ForcedSoFar, AreForcedValues, AreDelivered, touching, carrying, only_waiting}
 use Rattle.hz_pass.proofs.Places.{same-values}
 use Rattle.hz_pass.proofs.AllOpen.{extension-unknown}
 
@@ -192,34 +192,50 @@ module _ (netlist : Netlist) (listed : List (Option Bool)) (circuit : IsCircuit 
       entry None e = e
       entry (Some bit) e = absurd (known≢unknown (value_at values node) bit (so_far.agrees node bit e) unknown)
 
-  -- the node that is next does not wait any more: its wires are due, and the cuts that are not listed and whose data node it is
-  pub forced-pop : (values : List Tri) (waiting cuts : List ℕ) (node : ℕ) → ForcedSoFar netlist listed values (only_waiting (waiting ++ node ∷ [])) → ((cut : ℕ) → IsDataOf netlist node cut → slice_get listed cut ≡ Some None → Contains cuts cut) → ForcedSoFar netlist listed values (carrying waiting (fan_out_of netlist node) cuts)
-  forced-pop values waiting cuts node so_far there_all =
+  -- no value changes: what is set is forced as before, whatever else may be due
+  still :
+      {values : List Tri} {work next : Worklist} → ForcedSoFar netlist listed values work →
+      ((wire node : ℕ) → driver_at (network_of netlist) wire ≡ Source node →
+      (value_at values wire ≡ value_at values node) ⊎ (Contains next.waiting node ⊎ Contains next.due wire)) →
+      ((cut node : ℕ) → IsDataOf netlist node cut → value_at values cut ≡ Unknown →
+      (value_at values node ≡ Unknown) ⊎ (Contains next.waiting node ⊎ Contains next.cuts cut)) →
+      ((gate : ℕ) → IsGateNumber netlist gate → value_at values gate ≡ Unknown → (gate_extension netlist values gate ≡ Unknown) ⊎ Contains next.touched gate) →
+      All (λ node. (node < length netlist.names) × (value_at values node ≢ Unknown)) next.waiting → ForcedSoFar netlist listed values next
+  still so_far delivered open_cuts closed waits =
       record {
         long = so_far.long;
         agrees = so_far.agrees;
         sound = so_far.sound;
         carried = so_far.carried;
-        delivered = λ wire source driven. elim (so_far.delivered wire source driven) [
-          | inl same ↦ inl same
-          | inr (inl there) ↦ elim (Contains-push_cases waiting node source there) [
-            | inl later ↦ inr (inl later)
-            | inr next ↦ inr (inr (subst (λ (n : ℕ). Contains (fan_out_of netlist n) wire) (sym next) (Contains-fan_out_of netlist wire source (IsWireFrom-driver_at netlist wire source circuit driven))))
-          ]
-          | inr (inr none) ↦ absurd (no-element wire none)
-        ];
-        open_cuts = λ cut source is unknown. elim (so_far.open_cuts cut source is unknown) [
-          | inl same ↦ inl same
-          | inr (inl there) ↦ elim (Contains-push_cases waiting node source there) [
-            | inl later ↦ inr (inl later)
-            | inr next ↦ inr (inr (there_all cut (subst (λ (n : ℕ). IsDataOf netlist n cut) (sym next) is)
-                (unlisted values (waiting ++ node ∷ []) [] [] [] cut so_far (omega (arith, is.is_cut.1, circuit.nodes)) unknown)))
-          ]
-          | inr (inr none) ↦ absurd (no-element cut none)
-        ];
-        closed = so_far.closed;
-        waits = λ k d few. subst (λ (n : ℕ). (n < length netlist.names) × (value_at values n ≢ Unknown)) (get_or_append_left waiting (node ∷ []) d k few) (so_far.waits k d (omega (arith, few, length-append waiting (node ∷ []))));
+        delivered = delivered;
+        open_cuts = open_cuts;
+        closed = closed;
+        waits = waits;
       }
+
+  -- the node that is next does not wait any more: its wires are due, and the cuts that are not listed and whose data node it is
+  pub forced-pop : (values : List Tri) (waiting cuts : List ℕ) (node : ℕ) → ForcedSoFar netlist listed values (only_waiting (waiting ++ node ∷ [])) → ((cut : ℕ) → IsDataOf netlist node cut → slice_get listed cut ≡ Some None → Contains cuts cut) → ForcedSoFar netlist listed values (carrying waiting (fan_out_of netlist node) cuts)
+  forced-pop values waiting cuts node so_far there_all =
+      still so_far
+      (λ wire source driven. elim (so_far.delivered wire source driven) [
+        | inl same ↦ inl same
+        | inr (inl there) ↦ elim (Contains-push_cases waiting node source there) [
+          | inl later ↦ inr (inl later)
+          | inr next ↦ inr (inr (subst (λ (n : ℕ). Contains (fan_out_of netlist n) wire) (sym next) (Contains-fan_out_of netlist wire source (IsWireFrom-driver_at netlist wire source circuit driven))))
+        ]
+        | inr (inr none) ↦ absurd (no-element wire none)
+      ])
+      (λ cut source is unknown. elim (so_far.open_cuts cut source is unknown) [
+        | inl same ↦ inl same
+        | inr (inl there) ↦ elim (Contains-push_cases waiting node source there) [
+          | inl later ↦ inr (inl later)
+          | inr next ↦ inr (inr (there_all cut (subst (λ (n : ℕ). IsDataOf netlist n cut) (sym next) is)
+              (unlisted values (waiting ++ node ∷ []) [] [] [] cut so_far (omega (arith, is.is_cut.1, circuit.nodes)) unknown)))
+        ]
+        | inr (inr none) ↦ absurd (no-element cut none)
+      ])
+      so_far.closed
+      (λ k d few. subst (λ (n : ℕ). (n < length netlist.names) × (value_at values n ≢ Unknown)) (get_or_append_left waiting (node ∷ []) d k few) (so_far.waits k d (omega (arith, few, length-append waiting (node ∷ [])))))
 
   -- a node that is X becomes known, and waits
   forced-known : (values : List Tri) (waiting due cuts cuts' touched touched' : List ℕ) (node : ℕ) (bit : Bool) → ForcedSoFar netlist listed values (touching waiting due cuts touched) → node < length netlist.names → value_at values node ≡ Unknown → IsForced netlist listed node bit
@@ -295,25 +311,18 @@ module _ (netlist : Netlist) (listed : List (Option Bool)) (circuit : IsCircuit 
   -- a gate stays as it is: it was known, or its extension is X
   forced-same : (values : List Tri) (waiting due cuts : List ℕ) (gate : ℕ) → ForcedSoFar netlist listed values (touching waiting due cuts (gate ∷ [])) → (value_at values gate ≢ Unknown) ⊎ (gate_extension netlist values gate ≡ Unknown) → ForcedSoFar netlist listed values (carrying waiting due cuts)
   forced-same values waiting due cuts gate so_far why =
-      record {
-        long = so_far.long;
-        agrees = so_far.agrees;
-        sound = so_far.sound;
-        carried = so_far.carried;
-        delivered = so_far.delivered;
-        open_cuts = so_far.open_cuts;
-        closed = λ other other_gate unknown. elim (so_far.closed other other_gate unknown) [
-          | inl same ↦ inl same
-          | inr there ↦ elim (Contains-head gate other [] there) [
-            | inl same ↦ elim why [
-              | inl known ↦ absurd (known (ap (value_at values) same ∙ unknown))
-              | inr x ↦ inl (ap (gate_extension netlist values) (sym same) ∙ x)
-            ]
-            | inr none ↦ absurd (no-element other none)
+      still so_far so_far.delivered so_far.open_cuts
+      (λ other other_gate unknown. elim (so_far.closed other other_gate unknown) [
+        | inl same ↦ inl same
+        | inr there ↦ elim (Contains-head gate other [] there) [
+          | inl same ↦ elim why [
+            | inl known ↦ absurd (known (ap (value_at values) same ∙ unknown))
+            | inr x ↦ inl (ap (gate_extension netlist values) (sym same) ∙ x)
           ]
-        ];
-        waits = so_far.waits;
-      }
+          | inr none ↦ absurd (no-element other none)
+        ]
+      ])
+      so_far.waits
 
   -- a gate becomes known, and waits
   gate-known : (values : List Tri) (waiting due cuts : List ℕ) (gate : ℕ) (bit : Bool) → ForcedSoFar netlist listed values (touching waiting due cuts (gate ∷ [])) → IsGateNumber netlist gate → value_at values gate ≡ Unknown → gate_extension netlist values gate ≡ tri_of bit → ForcedSoFar netlist listed (set values gate (tri_of bit)) (carrying (waiting ++ gate ∷ []) due cuts)
@@ -334,23 +343,16 @@ module _ (netlist : Netlist) (listed : List (Option Bool)) (circuit : IsCircuit 
   -- a cut that is known stays as it is
   cut-same : (values : List Tri) (waiting due cuts : List ℕ) (cut : ℕ) → ForcedSoFar netlist listed values (carrying waiting due (cut ∷ cuts)) → value_at values cut ≢ Unknown → ForcedSoFar netlist listed values (carrying waiting due cuts)
   cut-same values waiting due cuts cut so_far known =
-      record {
-        long = so_far.long;
-        agrees = so_far.agrees;
-        sound = so_far.sound;
-        carried = so_far.carried;
-        delivered = so_far.delivered;
-        open_cuts = λ other source is unknown. elim (so_far.open_cuts other source is unknown) [
-          | inl none ↦ inl none
-          | inr (inl there) ↦ inr (inl there)
-          | inr (inr there) ↦ elim (Contains-head cut other cuts there) [
-            | inl same ↦ absurd (known (ap (value_at values) same ∙ unknown))
-            | inr later ↦ inr (inr later)
-          ]
-        ];
-        closed = so_far.closed;
-        waits = so_far.waits;
-      }
+      still so_far so_far.delivered
+      (λ other source is unknown. elim (so_far.open_cuts other source is unknown) [
+        | inl none ↦ inl none
+        | inr (inl there) ↦ inr (inl there)
+        | inr (inr there) ↦ elim (Contains-head cut other cuts there) [
+          | inl same ↦ absurd (known (ap (value_at values) same ∙ unknown))
+          | inr later ↦ inr (inr later)
+        ]
+      ])
+      so_far.closed so_far.waits
 
   sets-cut : (was value : Tri) (values values' : List Tri) (waiting waiting' due cuts : List ℕ) (node cut : ℕ) → ForcedSoFar netlist listed values (carrying waiting due (cut ∷ cuts)) → IsDataOf netlist node cut → value_at values cut ≡ was → value_at values node ≡ value → value ≢ Unknown → SetsNode was value cut values values' waiting waiting' → ForcedSoFar netlist listed values' (carrying waiting' due cuts)
   sets-cut Zero value values values' waiting waiting' due cuts node cut so_far is was data_is known sets =

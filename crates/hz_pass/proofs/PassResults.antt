@@ -4,17 +4,31 @@ use Rattle.std.proofs.lemmas.Bool.{cases_lt}
 use Rattle.hz_core.specs.declared.tri.Tri.{Tri}
 use Rattle.hz_core.specs.declared.tri.Tri.TheVariants.{Zero, One, Unknown}
 use Rattle.hz_core.specs.Ternary.{tri_of, AllBelow}
-use Rattle.hz_net.specs.Network.{Driver, value_at}
+use Rattle.hz_net.specs.Network.{Driver, network_of, value_at, IsState, IsInput}
 use Rattle.hz_net.specs.Passes.{excitations, algorithm_a, algorithm_b, AreRounds, IsFirstRound, IsKnown, IsRank, IsSettlingRound, AreRanks, AreSettlingRounds}
 use Rattle.hz_net.specs.TernaryStarts.{algorithm_a_from}
 use Rattle.hz_net.proofs.Ranks.{unknown-or-start, at-tri_of}
 use Rattle.hz_net.proofs.TernaryStarts.{AllBelow-result-from}
 use Rattle.hz_pass.specs.declared.round.Rule.TheVariants.{Join, Replace}
-use Rattle.hz_pass.specs.Frontier.{next_state, round_states, AreFirstRounds, is_open}
+use Rattle.hz_pass.specs.declared.rounds.Pass.{Pass}
+use Rattle.hz_pass.specs.InRound.{CanBegin}
+use Rattle.hz_pass.specs.Frontier.{Falls, next_state, round_states, AreFirstRounds, is_open}
 use Rattle.hz_pass.proofs.PassLoop.{length-states, closed-later, changed-closed}
 
+-- a pass whose first round evaluates every variable may begin
+pub whole-pass :
+    (pass : Pass) (values : List Tri) → IsInput pass.net.now pass.input.now → IsState pass.net.now values →
+    Falls pass.rule (network_of pass.net.now) pass.input.now values → pass.first ≡ length (network_of pass.net.now) → CanBegin pass values
+whole-pass pass values input state falls whole = record {
+  input = input;
+  state = state;
+  falls = falls;
+  first = omega (arith, whole);
+  rest = λ i above inside. absurd (omega (arith, above, inside, whole));
+}
+
 -- sequences with the same states have the same rounds
-rounds-same :
+pub rounds-same :
     {sequence other : ℕ → List Tri} {rounds : ℕ} → ((k : ℕ) → sequence k ≡ other k) → AreRounds sequence rounds →
     AreRounds other rounds
 rounds-same {rounds = rounds} same are = record {
@@ -94,21 +108,11 @@ module _ (net : List Driver) (input start : List Bool) (long : length start ≡ 
 
 -- Algorithm A from a ternary state
 
-states-from :
+pub states-from :
     (net : List Driver) (input : List Bool) (first : List Tri) (round : ℕ) →
     round_states Join net input first round ≡ algorithm_a_from net input first round
 states-from net input first zero = refl
 states-from net input first (suc round) = ap (next_state Join net input) (states-from net input first round)
-
-pub rounds-from :
-    (net : List Driver) (input : List Bool) (first : List Tri) (rounds : ℕ) →
-    AreRounds (round_states Join net input first) rounds → AreRounds (algorithm_a_from net input first) rounds
-rounds-from net input first rounds are = rounds-same (states-from net input first) are
-
-pub result-from :
-    (net : List Driver) (input : List Bool) (first result : List Tri) (rounds : ℕ) →
-    result ≡ round_states Join net input first rounds → result ≡ algorithm_a_from net input first rounds
-result-from net input first result rounds is = is ∙ states-from net input first rounds
 
 -- its excitations lie below it
 pub below-from :
@@ -116,8 +120,8 @@ pub below-from :
     AreRounds (round_states Join net input first) rounds → result ≡ round_states Join net input first rounds →
     AllBelow (excitations net input result) result
 below-from net input first result rounds long are is =
-    subst (λ (values : List Tri). AllBelow (excitations net input values) values) (sym (result-from net input first result rounds is))
-    (AllBelow-result-from net input first rounds long (rounds-from net input first rounds are))
+    subst (λ (values : List Tri). AllBelow (excitations net input values) values) (sym (is ∙ states-from net input first rounds))
+    (AllBelow-result-from net input first rounds long (rounds-same (states-from net input first) are))
 
 module _ (net : List Driver) (input : List Bool) (first : List Tri) (long : length first ≡ length net) where
   -- what is known in a state is known from the beginning
@@ -156,21 +160,11 @@ module _ (net : List Driver) (input : List Bool) (first : List Tri) (long : leng
 
 -- Algorithm B
 
-states-b :
+pub states-b :
     (net : List Driver) (input : List Bool) (first : List Tri) (round : ℕ) →
     round_states Replace net input first round ≡ algorithm_b net input first round
 states-b net input first zero = refl
 states-b net input first (suc round) = ap (excitations net input) (states-b net input first round)
-
-pub rounds-b :
-    (net : List Driver) (input : List Bool) (first : List Tri) (rounds : ℕ) →
-    AreRounds (round_states Replace net input first) rounds → AreRounds (algorithm_b net input first) rounds
-rounds-b net input first rounds are = rounds-same (states-b net input first) are
-
-pub result-b :
-    (net : List Driver) (input : List Bool) (first result : List Tri) (rounds : ℕ) →
-    result ≡ round_states Replace net input first rounds → result ≡ algorithm_b net input first rounds
-result-b net input first result rounds is = is ∙ states-b net input first rounds
 
 module _
     (net : List Driver) (input : List Bool) (first : List Tri) (long : length first ≡ length net)

@@ -1,19 +1,11 @@
 -- How many variables a pass changes.
-use Rattle.std.specs.Prelude.{ℕ, ◌+◌, Bool, true, false, List, [], ◌∷◌, if◌then◌else◌}
+use Rattle.std.specs.Prelude.{ℕ, ◌+◌, Bool, not, ◌&&◌, List, [], ◌∷◌, if◌then◌else◌}
 use Rattle.hz_core.specs.declared.tri.Tri.{Tri}
-use Rattle.hz_core.specs.declared.tri.Tri.TheVariants.{Zero, One, Unknown}
+use Rattle.hz_core.specs.Ternary.{is_below}
 
--- two values differ
+-- two values differ: they do not lie below each other
 abbrev pub is_change : Tri → Tri → Bool
-is_change Zero Zero = false
-is_change Zero One = true
-is_change Zero Unknown = true
-is_change One Zero = true
-is_change One One = false
-is_change One Unknown = true
-is_change Unknown Zero = true
-is_change Unknown One = true
-is_change Unknown Unknown = false
+is_change value other = not (is_below value other && is_below other value)
 
 -- the number of variables whose values in two states differ
 abbrev pub differing_count : List Tri → List Tri → ℕ

@@ -1,8 +1,7 @@
 -- Rounds that evaluate only some of the variables: what such a round makes, and which variables it has to evaluate.
-use Rattle.std.specs.Prelude.{◌≡◌, ◌≢◌, ℕ, zero, suc, ◌+◌, ◌<◌, ◌⊎◌, Bool, true, false, List, [], ◌∷◌, length, fold, sum_by, Contains, slice_index, slice_set, if◌then◌else◌}
+use Rattle.std.specs.Prelude.{◌≡◌, ◌≢◌, ℕ, zero, suc, ◌+◌, ◌<◌, ◌⊎◌, Bool, not, List, [], ◌∷◌, length, fold, sum_by, Contains, slice_index, slice_set, if◌then◌else◌}
 use Rattle.hz_core.specs.declared.tri.Tri.{Tri}
-use Rattle.hz_core.specs.declared.tri.Tri.TheVariants.{Zero, One, Unknown}
-use Rattle.hz_core.specs.Ternary.{join_of, AllBelow}
+use Rattle.hz_core.specs.Ternary.{join_of, is_unknown, AllBelow}
 use Rattle.hz_core.specs.Netlist.{Netlist}
 use Rattle.hz_net.specs.Network.{Driver, driver_at, value_at, excitation3}
 use Rattle.hz_net.specs.Passes.{excitations, join_each, IsFirstRound}
@@ -48,14 +47,10 @@ pub record ListsChanges (before after : List Tri) (changed : List ℕ) : Type 0 
   pub each : (i : ℕ) → Contains changed i → value_at after i ≢ value_at before i
   pub every : (i : ℕ) → value_at after i ≢ value_at before i → Contains changed i
 
--- a value that later rounds may change
+-- a value that later rounds may change: one that is known in Algorithm A, and X in Algorithm B
 abbrev pub is_open : Rule → Tri → Bool
-is_open Join Zero = true
-is_open Join One = true
-is_open Join Unknown = false
-is_open Replace Zero = false
-is_open Replace One = false
-is_open Replace Unknown = true
+is_open Join value = not (is_unknown value)
+is_open Replace value = is_unknown value
 
 -- the weight of the variables that later rounds may change, of values that begin at a variable
 abbrev pub open_weight_from : Rule → (ℕ → ℕ) → ℕ → List Tri → ℕ

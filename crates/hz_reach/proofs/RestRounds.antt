@@ -1,59 +1,12 @@
 -- Where the sequences of the passes come to rest, and their ranks and settling rounds.
-use Rattle.std.proofs.Common.{◌≡◌, ◌≢◌, ℕ, zero, suc, ◌+◌, ◌-◌, ◌<◌, ◌≤◌, ◌⊎◌, Bool, List, length, get_or, map, refl, sym, ap, ◌∙◌, subst, arith, inl, inr}
-use Rattle.hz_reach.proofs.Words.{range_with_len, cases_eq, length-map-range_with_len, get_or-map-range_with_len, Tri, Zero, One, Unknown, unknown_count}
-use Rattle.hz_reach.proofs.Words.{AllBelow, Driver, value_at, excitations, algorithm_a, algorithm_b, IsKnown, IsUnknown, AreRounds, IsResult, IsFirstRound}
+use Rattle.std.proofs.Common.{◌≡◌, ℕ, zero, suc, ◌-◌, ◌<◌, ◌⊎◌, Bool, List, length, get_or, map, refl, sym, ap, subst, arith, inl, inr}
+use Rattle.hz_reach.proofs.Words.{range_with_len, length-map-range_with_len, get_or-map-range_with_len, Tri, Zero, One, Unknown, unknown_count}
+use Rattle.hz_reach.proofs.Words.{AllBelow, Driver, value_at, excitations, algorithm_a, algorithm_b, IsKnown, IsUnknown, IsResult, IsFirstRound}
 use Rattle.hz_reach.proofs.Words.{IsRank, AreRanks, IsSettlingRound, length-algorithm_a, AllBelow-closed, closed-result, AllBelow-algorithm_b}
 use Rattle.hz_reach.proofs.Words.{ResultOfAExists, ResultOfBExists, RanksExist, SettlingRoundsExist, unknown_count-le-length, same-or-more}
 use Rattle.hz_reach.proofs.Words.{AllBelow-algorithm_a, RoundsOfAAreFew, RoundsOfBAreFew}
+use Rattle.hz_net.proofs.TernaryStarts.{comes-to-rest, few-rounds}
 use Rattle.hz_reach.proofs.GateTurn.{either-value}
-
--- Rounds
-
--- A sequence comes to rest where a number gets less in each round that changes its state.
-module _ (sequence : ℕ → List Tri) (left : List Tri → ℕ) (next : (round : ℕ) → (sequence (suc round) ≡ sequence round) ⊎ (left (sequence (suc round)) < left (sequence round))) where
-  -- the next round changes the state
-  moved : (round : ℕ) → left (sequence (suc round)) < left (sequence round) → sequence (suc round) ≢ sequence (suc round - 1)
-  moved round less same =
-      let before : suc round - 1 ≡ round = omega arith in
-      omega (arith, less, ap left (same ∙ ap sequence before))
-
-  rests-after : (limit round : ℕ) → left (sequence round) < limit → ((other : ℕ) → 1 ≤ other → other ≤ round → sequence other ≢ sequence (other - 1)) → (rounds : ℕ) × AreRounds sequence rounds
-  rests-after zero round few moves = absurd (omega (arith, few))
-  rests-after (suc limit) round few moves =
-      elim (next round) [
-        | inl same ↦ (
-            let before : round ≡ suc round - 1 = omega arith in (
-              suc round,
-              record {
-                some = omega arith;
-                settled = same ∙ ap sequence before;
-                least = λ other some less. moves other some (omega (arith, less));
-              },
-            )
-            )
-        | inr less ↦ rests-after limit (suc round) (omega (arith, few, less)) (λ other some upto. elim (cases_eq other (suc round)) [
-          | inl here ↦ subst (λ (n : ℕ). sequence n ≢ sequence (n - 1)) (sym here) (moved round less)
-          | inr apart ↦ moves other some (omega (arith, upto, apart))
-        ])
-      ]
-
-  pub comes-to-rest : (rounds : ℕ) × AreRounds sequence rounds
-  comes-to-rest = rests-after (suc (left (sequence 0))) 0 (omega arith) (λ other some upto. absurd (omega (arith, some, upto)))
-
-  -- each round but the last one changes the state
-  left-falls : (rounds : ℕ) → AreRounds sequence rounds → (round : ℕ) → round < rounds → left (sequence round) + round ≤ left (sequence 0)
-  left-falls rounds are zero less = omega arith
-  left-falls rounds are (suc round) less =
-      elim (next round) [
-        | inl same ↦ (
-            let before : round ≡ suc round - 1 = omega arith in
-            absurd (are.least (suc round) (omega arith) less (same ∙ ap sequence before))
-            )
-        | inr falls ↦ omega (arith, falls, left-falls rounds are round (omega (arith, less)))
-      ]
-
-  pub few-rounds : (rounds : ℕ) → AreRounds sequence rounds → rounds ≤ left (sequence 0) + 1
-  few-rounds rounds are = omega (arith, are.some, left-falls rounds are (rounds - 1) (omega (arith, are.some)))
 
 -- Algorithm A: the variables that are not X get fewer.
 module _ (net : List Driver) (input start : List Bool) (long : length start ≡ length net) where

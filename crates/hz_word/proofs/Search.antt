@@ -104,6 +104,20 @@ module _ (controlling : Bool) (test : List Bool → Bool) where
     shorter = let e = found.shorter in omega arith;
   }
 
+  -- the first word passes, or a later one, or none
+  first_word :
+      (letter : Bool) (rest : List Bool) (words : List (List Bool)) → AreWords ((letter ∷ not letter ∷ rest) ∷ words) →
+      Found controlling test words ⊎ NonePasses test words →
+      Found controlling test ((letter ∷ not letter ∷ rest) ∷ words) ⊎ NonePasses test ((letter ∷ not letter ∷ rest) ∷ words)
+  first_word letter rest words are_words others =
+      elim (cases_Bool (test (letter ∷ not letter ∷ rest))) [
+        | inl passes ↦ inl (here letter rest words passes)
+        | inr fails ↦ elim others [
+          | inl found ↦ inl (later (letter ∷ not letter ∷ rest) words are_words.0 found)
+          | inr none ↦ inr (inr fails, none)
+        ]
+      ]
+
   pub search_words : (words : List (List Bool)) → AreWords words → Found controlling test words ⊎ NonePasses test words
   search_words [] are_words = inr tt
   search_words ([] ∷ words) are_words = absurd are_words.0
@@ -114,22 +128,8 @@ module _ (controlling : Bool) (test : List Bool → Bool) where
       ]
   search_words ((true ∷ true ∷ rest) ∷ words) are_words = absurd (are_words.0.0 refl)
   search_words ((false ∷ false ∷ rest) ∷ words) are_words = absurd (are_words.0.0 refl)
-  search_words ((true ∷ false ∷ rest) ∷ words) are_words =
-      elim (cases_Bool (test (true ∷ false ∷ rest))) [
-        | inl passes ↦ inl (here true rest words passes)
-        | inr fails ↦ elim (search_words words are_words.1) [
-          | inl found ↦ inl (later (true ∷ false ∷ rest) words are_words.0 found)
-          | inr none ↦ inr (inr fails, none)
-        ]
-      ]
-  search_words ((false ∷ true ∷ rest) ∷ words) are_words =
-      elim (cases_Bool (test (false ∷ true ∷ rest))) [
-        | inl passes ↦ inl (here false rest words passes)
-        | inr fails ↦ elim (search_words words are_words.1) [
-          | inl found ↦ inl (later (false ∷ true ∷ rest) words are_words.0 found)
-          | inr none ↦ inr (inr fails, none)
-        ]
-      ]
+  search_words ((true ∷ false ∷ rest) ∷ words) are_words = first_word true rest words are_words (search_words words are_words.1)
+  search_words ((false ∷ true ∷ rest) ∷ words) are_words = first_word false rest words are_words (search_words words are_words.1)
 
 -- if no word can advance, all are at their ends
 pub ends-from_none : (words : List (List Bool)) → NonePasses (λ word. true) words → AreAtTheirEnds words

@@ -1,16 +1,11 @@
-use Rattle.std.proofs.Common.{rules, arith}
+use Rattle.std.proofs.Common.{rules}
 use Rattle.hz_net.specs.Network.{network_of}
-use Rattle.hz_pass.proofs.PassResults.{rounds-a, result-a, ranks-a}
+use Rattle.hz_pass.proofs.PassResults.{whole-pass, rounds-a, result-a, ranks-a}
 use Rattle.hz_pass.proofs.algorithm_a.spread.Goals as goal
 
 pub make_rounds-requires-clause-pass : goal.make_rounds-requires-clause-pass
-make_rounds-requires-clause-pass g c = record {
-  input = c.requires.input;
-  state = search rules;
-  falls = search rules;
-  first = omega (arith, c.len-variables.ensures.len);
-  rest = λ i above inside. absurd (omega (arith, above, inside, c.len-variables.ensures.len));
-}
+make_rounds-requires-clause-pass g c =
+    whole-pass _ _ c.requires.input (search rules) (search rules) c.len-variables.ensures.len
 
 pub returns-clause-rounds : goal.returns-clause-rounds
 returns-clause-rounds g c =

@@ -1,24 +1,17 @@
-use Rattle.std.proofs.Common.{rules, arith}
+use Rattle.std.proofs.Common.{rules, ◌∙◌}
 use Rattle.hz_net.specs.Network.{network_of}
-use Rattle.hz_pass.proofs.PassResults.{rounds-b, result-b, settling-b}
+use Rattle.hz_pass.proofs.PassResults.{whole-pass, rounds-same, states-b, settling-b}
 use Rattle.hz_pass.proofs.algorithm_b.settle.Goals as goal
 
 pub make_rounds-requires-clause-pass : goal.make_rounds-requires-clause-pass
-make_rounds-requires-clause-pass g c = record {
-  input = c.requires.input;
-  state = search rules;
-  falls = search rules;
-  first = omega (arith, c.len-variables.ensures.len);
-  rest = λ i above inside. absurd (omega (arith, above, inside, c.len-variables.ensures.len));
-}
+make_rounds-requires-clause-pass g c =
+    whole-pass _ _ c.requires.input (search rules) (search rules) c.len-variables.ensures.len
 
 pub returns-clause-rounds : goal.returns-clause-rounds
-returns-clause-rounds g c =
-    rounds-b (network_of c.args.net.now) c.args.input.now c.args.state.now c.make_rounds.result c.make_rounds.ensures.rounds
+returns-clause-rounds g c = rounds-same (states-b _ _ _) c.make_rounds.ensures.rounds
 
 pub returns-clause-state : goal.returns-clause-state
-returns-clause-state g c =
-    result-b (network_of c.args.net.now) c.args.input.now c.args.state.now c.make_rounds.new.state c.make_rounds.result c.make_rounds.ensures.state
+returns-clause-state g c = c.make_rounds.ensures.state ∙ states-b _ _ _ c.make_rounds.result
 
 pub returns-clause-when : goal.returns-clause-when
 returns-clause-when g c =

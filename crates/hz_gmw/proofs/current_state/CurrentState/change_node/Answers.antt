@@ -37,14 +37,7 @@ returns-clause-counted c =
     let few = count_by-le-length (is_unstable (network_of netlist) current.input.items state) (fan_out_of netlist node) in
     let counted = c.requires.counted.counts.wires node c.requires.node in
     record {
-      fits = record {
-        circuit = fits.circuit;
-        whole = fits.whole;
-        input = fits.input;
-        state = length-set state node (not c.index.result.now) ∙ fits.state;
-        ones = fits.ones;
-        wires = length-set lagging node count ∙ fits.wires;
-      };
+      fits = record { circuit = fits.circuit; whole = fits.whole; input = fits.input; state = length-set state node (not c.index.result.now) ∙ fits.state; ones = fits.ones; wires = length-set lagging node count ∙ fits.wires };
       counts = subst (λ (b : Bool). AreCounts netlist current.input.items (set state node (not b)) current.ones.items (set lagging node count)) (sym bit)
           (AreCounts-node netlist fits.circuit current.input.items state current.ones.items lagging node count c.requires.counted.counts c.requires.node fits.state
           (omega (arith, more, fits.state)) fits.wires (omega (arith, was, long, few, counted)));

@@ -45,23 +45,12 @@ returns-clause-after c =
     let step = subst (λ (r : Replayer). IsStep (network_of r.circuit) r.input r.state flips) (sym same) c.in_default.ensures.answer in
     let watched = watched-step was flips fields.watch.changed fields.watch.been_stable c.note.new.self.changed c.note.new.self.been_stable after.input.items after.state.items fits.circuit fits.state c.self.invariant.watch.changed step refl c.note.ensures.been_stable c.note.ensures.changed c.advance.ensures.input c.advance.ensures.state in
     let at = stepped-is was flips after.input.items after.state.items (watched_variables net after.input.items after.state.items (bit_at c.note.new.self.changed) (bit_at c.note.new.self.been_stable)) c.advance.ensures.input c.advance.ensures.state watched in
-    let now = at ∙ ap (λ (r : Replayer). replayer_after r flips) same in
-    now
+    at ∙ ap (λ (r : Replayer). replayer_after r flips) same
 
 pub returns-clause-stands : goal.returns-clause-stands
 returns-clause-stands c =
     λ steps stands.
-    let fields = c.self.inside in
-    let before = fields.current in
-    let after = c.advance.new.self in
     let flips = c.args.flips.now in
-    let fits = c.self.invariant.exact.counted.fits in
-    let net = network_of fields.net.now in
-    let was : Replayer = record { circuit = fields.net.now; input = before.input.items; begun = fields.begun.items; state = before.state.items; marked = fields.marked.items; stepped = fields.stepped; watched = watched_variables net before.input.items before.state.items (bit_at fields.watch.changed) (bit_at fields.watch.been_stable) } in
-    let same : was ≡ c.args.self.now = c.self.view_is ∙ c.in_default.ensures.same in
-    let step = subst (λ (r : Replayer). IsStep (network_of r.circuit) r.input r.state flips) (sym same) c.in_default.ensures.answer in
-    let watched = watched-step was flips fields.watch.changed fields.watch.been_stable c.note.new.self.changed c.note.new.self.been_stable after.input.items after.state.items fits.circuit fits.state c.self.invariant.watch.changed step refl c.note.ensures.been_stable c.note.ensures.changed c.advance.ensures.input c.advance.ensures.state in
-    let at = stepped-is was flips after.input.items after.state.items (watched_variables net after.input.items after.state.items (bit_at c.note.new.self.changed) (bit_at c.note.new.self.been_stable)) c.advance.ensures.input c.advance.ensures.state watched in
-    let now = at ∙ ap (λ (r : Replayer). replayer_after r flips) same in
-    let long : length c.args.self.now.state ≡ length (network_of c.args.self.now.circuit) = subst (λ (r : Replayer). length r.state ≡ length (network_of r.circuit)) same fits.state in
-    subst (λ (r : Replayer). StandsFor r (steps ++ flips ∷ [])) (sym now) (stands-step c.args.self.now flips steps long stands c.in_default.ensures.answer)
+    let long : length c.args.self.now.state ≡ length (network_of c.args.self.now.circuit) =
+    subst (λ (r : Replayer). length r.state ≡ length (network_of r.circuit)) (c.self.view_is ∙ c.in_default.ensures.same) c.self.invariant.exact.counted.fits.state in
+    subst (λ (r : Replayer). StandsFor r (steps ++ flips ∷ [])) (sym (returns-clause-after c)) (stands-step c.args.self.now flips steps long stands c.in_default.ensures.answer)

@@ -1,4 +1,4 @@
-use Rattle.std.proofs.Common.{◌≡◌, ◌<◌, ◌∙◌, sym, ℕ, Bool, IsTrue, length, arith}
+use Rattle.std.proofs.Common.{◌≡◌, ◌<◌, ◌∙◌, sym, ℕ, length, arith}
 use Rattle.std.specs.Prelude.{count_by}
 use Rattle.std.specs.List.{range_with_len}
 use Rattle.std.proofs.lemmas.Bool.{false≢true}
@@ -6,6 +6,7 @@ use Rattle.hz_net.specs.Network.{network_of, bit_at}
 use Rattle.hz_gmw.specs.Watches.{is_watched, watched_variables}
 use Rattle.hz_gmw.proofs.LeastLemmas.{least-scanned, none-scanned, scanned-more}
 use Rattle.hz_gmw.proofs.WatchLemmas.{at-watched_variables, none-watched}
+use Rattle.hz_gmw.proofs.watch.Watch.least.Goals.{Start}
 use Rattle.hz_gmw.proofs.watch.Watch.least.Goals as goal
 
 pub returns-then-count-eq0 : goal.returns-then-count-eq0
@@ -18,17 +19,19 @@ returns-then-count-eq0 c =
     false≢true (sym (none-watched net current.input.items current.state.items (bit_at watch.changed) (bit_at watch.been_stable) i none h.0) ∙
     (sym (at-watched_variables net current.input.items current.state.items (bit_at watch.changed) (bit_at watch.been_stable) i h.0) ∙ h.1))
 
+-- what is watched, as the bits say it, passes the test
+right :
+    (c : Start) (i : ℕ) → i < length (network_of c.args.net.now) →
+    bit_at (watched_variables (network_of c.args.net.now) c.args.current.now.input.items c.args.current.now.state.items (bit_at c.args.self.now.changed) (bit_at c.args.self.now.been_stable)) i
+    ≡ is_watched (network_of c.args.net.now) c.args.current.now.input.items c.args.current.now.state.items (bit_at c.args.self.now.changed) (bit_at c.args.self.now.been_stable) i
+right c i inside =
+    at-watched_variables (network_of c.args.net.now) c.args.current.now.input.items c.args.current.now.state.items (bit_at c.args.self.now.changed) (bit_at c.args.self.now.been_stable) i inside
+
 pub returns-then-contains : goal.returns-then-contains
 returns-then-contains c =
-    let net = network_of c.args.net.now in
-    let current = c.args.current.now in
-    let watch = c.args.self.now in
-    let test : ℕ → Bool = is_watched net current.input.items current.state.items (bit_at watch.changed) (bit_at watch.been_stable) in
-    let at : (i : ℕ) → i < length net → bit_at (watched_variables net current.input.items current.state.items (bit_at watch.changed) (bit_at watch.been_stable)) i ≡ test i =
-    λ i inside. at-watched_variables net current.input.items current.state.items (bit_at watch.changed) (bit_at watch.been_stable) i inside in
-    let holds : ℕ → Type 0 = λ i. (i < length net) × IsTrue (bit_at (watched_variables net current.input.items current.state.items (bit_at watch.changed) (bit_at watch.been_stable)) i) in
-    let inside : c.loop-var.var < length net = omega (arith, c.len-var-end.ensures.len) in
-    least-scanned holds test (length net) c.loop-var.var inside (λ i few passes. (few, at i few ∙ passes)) (λ i h. (h.0, sym (at i h.0) ∙ h.1)) c.loop-var.invariant (sym c.contains.ensures ∙ c.if-contains.true)
+    let at = right (goal.at.returns-then-contains c).Start in
+    let inside : c.loop-var.var < length (network_of c.args.net.now) = omega (arith, c.len-var-end.ensures.len) in
+    least-scanned _ _ (length (network_of c.args.net.now)) c.loop-var.var inside (λ i few passes. (few, at i few ∙ passes)) (λ i h. (h.0, sym (at i h.0) ∙ h.1)) c.loop-var.invariant (sym c.contains.ensures ∙ c.if-contains.true)
 
 pub loop-var-preserved : goal.loop-var-preserved
 loop-var-preserved c =
@@ -39,11 +42,5 @@ loop-var-preserved c =
 
 pub returns : goal.returns
 returns c =
-    let net = network_of c.args.net.now in
-    let current = c.args.current.now in
-    let watch = c.args.self.now in
-    let test : ℕ → Bool = is_watched net current.input.items current.state.items (bit_at watch.changed) (bit_at watch.been_stable) in
-    let at : (i : ℕ) → i < length net → bit_at (watched_variables net current.input.items current.state.items (bit_at watch.changed) (bit_at watch.been_stable)) i ≡ test i =
-    λ i inside. at-watched_variables net current.input.items current.state.items (bit_at watch.changed) (bit_at watch.been_stable) i inside in
-    let holds : ℕ → Type 0 = λ i. (i < length net) × IsTrue (bit_at (watched_variables net current.input.items current.state.items (bit_at watch.changed) (bit_at watch.been_stable)) i) in
-    none-scanned holds test (length net) c.loop-var.var (omega (arith, c.len-var-end.ensures.len)) (λ i h. (h.0, sym (at i h.0) ∙ h.1)) c.loop-var.invariant
+    let at = right (goal.at.returns c).Start in
+    none-scanned _ _ (length (network_of c.args.net.now)) c.loop-var.var (omega (arith, c.len-var-end.ensures.len)) (λ i h. (h.0, sym (at i h.0) ∙ h.1)) c.loop-var.invariant

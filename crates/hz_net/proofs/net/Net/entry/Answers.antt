@@ -1,34 +1,23 @@
-use Rattle.std.proofs.Common.{◌<◌, arith}
-use Rattle.hz_core.specs.Netlist.{variable_count}
-use Rattle.hz_net.proofs.Fields.{length_is, network_length_is, network_bound_is, driver_is, seen_is, place_is}
+use Rattle.std.proofs.Common.{arith}
+use Rattle.hz_net.proofs.Fields.{entry_inside, network_bound_is, driver_is, seen_is, within_is, place_is}
 use Rattle.hz_net.proofs.net.Net.entry.Goals as goal
 
 pub index-requires : goal.index-requires
 index-requires c =
-    omega (
-      arith,
-      length_is c.self.inside c.args.self.now c.self.view_is c.self.invariant,
-      network_length_is c.self.inside c.args.self.now c.self.view_is c.self.invariant,
-      c.requires,
-    )
+    omega (arith, entry_inside c.self.inside c.args.self.now c.self.view_is c.self.invariant c.args.var c.requires)
 
 pub returns-clause-driver : goal.returns-clause-driver
 returns-clause-driver c =
-    let within : c.args.var < variable_count c.args.self.now =
-    omega (arith, network_length_is c.self.inside c.args.self.now c.self.view_is c.self.invariant, c.requires) in
-    driver_is c.self.inside c.args.self.now c.self.view_is c.self.invariant c.args.var c.index.result.now within c.index.ensures
+    driver_is c.self.inside c.args.self.now c.self.view_is c.self.invariant c.args.var c.index.result.now c.requires c.index.ensures
 
 pub returns-clause-seen : goal.returns-clause-seen
 returns-clause-seen c =
-    let within : c.args.var < variable_count c.args.self.now =
-    omega (arith, network_length_is c.self.inside c.args.self.now c.self.view_is c.self.invariant, c.requires) in
-    seen_is c.self.inside c.args.self.now c.self.view_is c.self.invariant c.args.var c.index.result.now within c.index.ensures
+    seen_is c.self.inside c.args.self.now c.self.view_is c.self.invariant c.args.var c.index.result.now c.requires c.index.ensures
 
 pub returns-clause-place : goal.returns-clause-place
 returns-clause-place c =
-    let within : c.args.var < variable_count c.args.self.now =
-    omega (arith, network_length_is c.self.inside c.args.self.now c.self.view_is c.self.invariant, c.requires) in
-    place_is c.self.inside c.args.self.now c.self.view_is c.self.invariant c.args.var c.index.result.now within c.index.ensures
+    place_is c.self.inside c.args.self.now c.self.view_is c.self.invariant c.args.var c.index.result.now
+    (within_is c.self.inside c.args.self.now c.self.view_is c.self.invariant c.args.var c.requires) c.index.ensures
 
 pub returns-clause-bound : goal.returns-clause-bound
 returns-clause-bound c = network_bound_is c.self.inside c.args.self.now c.self.view_is c.self.invariant

@@ -2,18 +2,13 @@ use Rattle.std.proofs.Common.{◌<◌, ◌∙◌, ℕ, length, All, sym, subst, 
 use Rattle.hz_core.specs.Netlist.{IsCircuit}
 use Rattle.hz_net.specs.Network.{network_of}
 use Rattle.hz_net.specs.declared.entry.Entry.TheVariants.{Input, Gate, Wire}
-use Rattle.hz_net.proofs.Fields.{circuit_of, length_is, network_length_is}
+use Rattle.hz_net.proofs.Fields.{circuit_of, entry_inside}
 use Rattle.hz_net.proofs.Readers.{readers_are}
 use Rattle.hz_net.proofs.net.Net.readers.Goals as goal
 
 pub index-requires : goal.index-requires
 index-requires c =
-    omega (
-      arith,
-      length_is c.self.inside c.args.self.now c.self.view_is c.self.invariant,
-      network_length_is c.self.inside c.args.self.now c.self.view_is c.self.invariant,
-      c.requires,
-    )
+    omega (arith, entry_inside c.self.inside c.args.self.now c.self.view_is c.self.invariant c.args.var c.requires)
 
 pub fan_out-requires : goal.fan_out-requires
 fan_out-requires c =

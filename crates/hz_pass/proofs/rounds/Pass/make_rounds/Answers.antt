@@ -4,10 +4,10 @@ use Rattle.std.proofs.lemmas.List.{nil_from_length}
 use Rattle.hz_core.specs.declared.tri.Tri.{Tri}
 use Rattle.hz_net.specs.Network.{network_of}
 use Rattle.hz_pass.specs.Frontier.{Falls, open_weight, reader_count}
-use Rattle.hz_pass.proofs.PassLoop.{pass-begin, pass-long, pass-falls, pass-bound, pass-changes, pass-on, pass-done}
+use Rattle.hz_pass.proofs.PassLoop.{pass-begin, pass-long, pass-falls, pass-bound, pass-changes, pass-on}
 use Rattle.hz_pass.proofs.Values.{falls-after}
 use Rattle.hz_pass.proofs.StepCounts.{StepsSoFar, steps-begin, steps-more}
-use Rattle.hz_pass.proofs.ChangedValues.{length-noted, state-after, noted-after, unchanged, differs, some-long, changed-all, next-long, quiet-list}
+use Rattle.hz_pass.proofs.ChangedValues.{length-noted, state-after, noted-after, unchanged, differs, some-long, changed-all, next-long, quiet-list, pass-ends}
 use Rattle.hz_pass.proofs.rounds.Pass.make_rounds.Goals as goal
 
 pub loop-front-init : goal.loop-front-init
@@ -97,27 +97,15 @@ loop-front-preserved g c =
 
 pub returns-clause-rounds : goal.returns-clause-rounds
 returns-clause-rounds g c =
-    let net = network_of c.args.self.now.net.now in
-    let round = c.loop-front.invariant.3 in
-    let none : c.loop-front.front-inside.changed.items ≡ [] = nil_from_length c.loop-front.front-inside.changed.items (search rules) in
-    (pass-done c.requires.pass.state c.requires.pass.falls c.loop-front.invariant.0 c.loop-front.invariant.2 round
-    (unchanged (pass-long c.requires.pass.state c.requires.pass.falls c.loop-front.invariant.2) round none)).0
+    (pass-ends c.requires.pass.state c.requires.pass.falls c.loop-front.invariant.0 c.loop-front.invariant.2 c.loop-front.invariant.3 (search rules)).0
 
 pub returns-clause-state : goal.returns-clause-state
 returns-clause-state g c =
-    let net = network_of c.args.self.now.net.now in
-    let round = c.loop-front.invariant.3 in
-    let none : c.loop-front.front-inside.changed.items ≡ [] = nil_from_length c.loop-front.front-inside.changed.items (search rules) in
-    (pass-done c.requires.pass.state c.requires.pass.falls c.loop-front.invariant.0 c.loop-front.invariant.2 round
-    (unchanged (pass-long c.requires.pass.state c.requires.pass.falls c.loop-front.invariant.2) round none)).1
+    (pass-ends c.requires.pass.state c.requires.pass.falls c.loop-front.invariant.0 c.loop-front.invariant.2 c.loop-front.invariant.3 (search rules)).1
 
 pub returns-clause-bound : goal.returns-clause-bound
 returns-clause-bound g c =
-    let net = network_of c.args.self.now.net.now in
-    let round = c.loop-front.invariant.3 in
-    let none : c.loop-front.front-inside.changed.items ≡ [] = nil_from_length c.loop-front.front-inside.changed.items (search rules) in
-    (pass-done c.requires.pass.state c.requires.pass.falls c.loop-front.invariant.0 c.loop-front.invariant.2 round
-    (unchanged (pass-long c.requires.pass.state c.requires.pass.falls c.loop-front.invariant.2) round none)).2
+    (pass-ends c.requires.pass.state c.requires.pass.falls c.loop-front.invariant.0 c.loop-front.invariant.2 c.loop-front.invariant.3 (search rules)).2
 
 pub returns-clause-least_steps : goal.returns-clause-least_steps
 returns-clause-least_steps g c =
