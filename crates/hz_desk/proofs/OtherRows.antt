@@ -2,11 +2,10 @@
 use Rattle.std.proofs.Common.{◌≡◌, ◌≢◌, ◌∙◌, refl, sym, ap, subst, ℕ, suc, ◌+◌, ◌<◌, ◌≤◌, Bool, true, false, Some, List, [], ◌∷◌, length, cond, drop, set, get_or, length-set, arith, inl, inr}
 use lib.Pointwise.{pointwise}
 use Rattle.std.specs.Bool.{beq}
-use Rattle.std.specs.List.{slice_get}
 use Rattle.std.proofs.lemmas.Bool.{cases_Bool, cases_eq}
 use Rattle.std.proofs.Math.Seq.{drop-cons}
 use Rattle.std.proofs.lemmas.List.{drop_all, get_or-set_same, get_or-set_other}
-use Rattle.std.proofs.lemmas.Option.{slice_get-get_or, get_or_from_slice_get}
+use Rattle.std.proofs.lemmas.Option.{slice_get-get_or}
 use Rattle.hz_lists.specs.Listed.{is_listed}
 use Rattle.hz_lists.proofs.ListedLemmas.{listed-head, listed-tail, listed-other}
 use Rattle.hz_net.specs.Network.{bit_at}
@@ -76,17 +75,18 @@ module _ (free : List Bool) (rows : List Row) where
             let there : i < length rows = omega (arith, within, long) in
             elim (cases_eq i x) [
               | inl same ↦
-                  subst (λ (n : ℕ). HasRowAtRest free now n) (sym same)
-                  (rest.value,
-                  slice_get-get_or now x row (omega (arith, inside, long))
-                  ∙ (ap (λ (r : Row). Some r) (get_or-set_same rows x row row inside)
-                  ∙ ap (λ (b : Bool). Some (row_at_rest (record { value = rest.value; counted = b }))) counts))
+                  subst (λ (n : ℕ). HasRowAtRest free now n) (sym same) (
+                    rest.value,
+                    slice_get-get_or now x row (omega (arith, inside, long))
+                        ∙ (ap (λ (r : Row). Some r) (get_or-set_same rows x row row inside)
+                        ∙ ap (λ (b : Bool). Some (row_at_rest (record { value = rest.value; counted = b }))) counts),
+                  )
               | inr ne ↦
                   (let was = others.rest i there (changes-other x flips steps i ne ∙ none) in (
                     was.0,
                     slice_get-get_or now i row within
-                    ∙ (ap (λ (r : Row). Some r) (get_or-set_other rows x i row row ne)
-                    ∙ (sym (slice_get-get_or rows i row there) ∙ was.1)),
+                        ∙ (ap (λ (r : Row). Some r) (get_or-set_other rows x i row row ne)
+                        ∙ (sym (slice_get-get_or rows i row there) ∙ was.1)),
                   ))
             ];
       }

@@ -12,8 +12,8 @@ ghost use Rattle.hz_word.specs.Capped.{greatest_cap};
 
 use crate::finding::{Finding, Rows};
 use crate::passes::{Passes, Rounds};
-use crate::races::count_races;
 use crate::quiet::{is_quiet, others_rest, quiet_is_right};
+use crate::races::count_races;
 use crate::runs::make_runs;
 use hz_core::Memory;
 use hz_cycle::{Results, runs_show_b};

@@ -1,7 +1,6 @@
 -- All rows rest, and the start is theirs.
-use Rattle.std.proofs.Common.{◌≡◌, ◌∙◌, ℕ, ◌<◌, ◌≤◌, sym, ap, take, length, arith}
+use Rattle.std.proofs.Common.{◌∙◌, ℕ, ◌<◌, ◌≤◌, sym, ap, take, length, arith}
 use Rattle.std.proofs.lemmas.List.{length-take-le}
-use Rattle.hz_net.specs.Network.{network_of}
 use Rattle.hz_net.proofs.Places.{length-network_of}
 use Rattle.hz_desk.proofs.OtherRows.{all-rest, same-lists}
 use Rattle.hz_desk.proofs.quiet.is_quiet.Goals as goal
