@@ -1,5 +1,5 @@
 -- In a right finding all variables rest but those that the spread run changes.
-use Rattle.std.proofs.Common.{◌≡◌, ◌∙◌, refl, sym, ap, subst, ℕ, zero, suc, ◌<◌, ◌≤◌, Bool, true, false, Option, Some, None, List, [], length, map, get_or, arith, inl, inr}
+use Rattle.std.proofs.Common.{◌≡◌, ◌∙◌, refl, sym, ap, ℕ, zero, suc, ◌<◌, ◌≤◌, Bool, Option, Some, None, List, [], length, get_or, arith, inl, inr}
 use Rattle.std.specs.Prelude.{if◌then◌else◌}
 use Rattle.std.proofs.lemmas.Bool.{cases_Bool, true≢false}
 use Rattle.std.proofs.Math.Dec.{leb-zero}
@@ -23,8 +23,7 @@ use Rattle.hz_free.specs.VariableWords.{AreCappedWords}
 use Rattle.hz_desk.specs.declared.class.Class.{Class}
 use Rattle.hz_desk.specs.declared.class.Class.TheVariants.{Steady}
 use Rattle.hz_desk.specs.declared.finding.Row.{Row}
-use Rattle.hz_desk.specs.Finding.{FindingOf, values_a}
-use Rattle.hz_desk.specs.RightFinding.{IsRightFinding}
+use Rattle.hz_desk.specs.Finding.{values_a}
 use Rattle.hz_desk.specs.Rows.{changes_of}
 use Rattle.hz_desk.specs.RowsOf.{row_at_rest}
 use Rattle.hz_desk.specs.Resting.{OthersRestIfRight, HasRowAtRest}
@@ -101,6 +100,6 @@ others-rest change netlist free input start cap finding circuit whole marks begi
         right.changes.are_words below (known-kept (network_of netlist) input start cap finding right i inside none) in (
           bit_at start i,
           slice_get-get_or finding.rows i some_row inside
-          ∙ ap (λ (r : Row). Some r)
-          (same-row row (bit_at start i) (bit_at free i) (start-kept (network_of netlist) input start cap finding right i inside none) (a-kept (network_of netlist) input start cap finding right i inside none) steady.0 none_counted steady.1),
+              ∙ ap (λ (r : Row). Some r)
+              (same-row row (bit_at start i) (bit_at free i) (start-kept (network_of netlist) input start cap finding right i inside none) (a-kept (network_of netlist) input start cap finding right i inside none) steady.0 none_counted steady.1),
         )

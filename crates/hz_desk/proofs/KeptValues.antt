@@ -1,5 +1,5 @@
 -- What a right finding says of a variable that its spread run doesn't change: Algorithms A and B give it its value at the start.
-use Rattle.std.proofs.Common.{◌≡◌, ◌∙◌, sym, ap, subst, ℕ, ◌<◌, ◌≤◌, Bool, false, List, [], length, map, get_or, refl, arith, inl, inr}
+use Rattle.std.proofs.Common.{◌≡◌, ◌∙◌, sym, ap, ℕ, ◌<◌, ◌≤◌, Bool, false, List, [], length, get_or, refl, arith, inl, inr}
 use Rattle.std.proofs.lemmas.Bool.{cases_lt}
 use Rattle.std.proofs.lemmas.List.{get_or-map, get_or_past, length-map}
 use Rattle.std.proofs.lemmas.List.Elements.{All-get_or}
@@ -15,7 +15,6 @@ use Rattle.hz_word.specs.declared.count.Count.{Count}
 use Rattle.std.specs.Prelude.{Option}
 use Rattle.hz_desk.specs.declared.class.Class.{Class}
 use Rattle.hz_desk.specs.declared.class.Class.TheVariants.{Steady, Single, Static, MaybeDynamic, Change, Unsettled}
-use Rattle.hz_desk.specs.declared.finding.Rest.{Rest}
 use Rattle.hz_desk.specs.declared.finding.Row.{Row}
 use Rattle.hz_desk.specs.Class.{IsClass}
 use Rattle.hz_desk.specs.Finding.{FindingOf, values_a, values_b}

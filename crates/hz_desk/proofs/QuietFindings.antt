@@ -1,8 +1,8 @@
 -- The finding of a change that changes nothing is right: the start is stable under its input, so no variable leaves its value.
-use Rattle.std.proofs.Common.{◌≡◌, ◌≢◌, ◌∙◌, refl, sym, ap, subst, ℕ, zero, suc, ◌+◌, ◌-◌, ◌*◌, ◌<◌, ◌≤◌, Bool, true, false, not, cond, Option, Some, None, List, [], ◌∷◌, length, map, take, drop, get_or, All, arith, inl, inr, sum_by}
-use Rattle.std.specs.Prelude.{nat_le, count_by, Contains}
+use Rattle.std.proofs.Common.{◌≡◌, ◌∙◌, refl, sym, ap, subst, ℕ, zero, suc, ◌+◌, ◌-◌, ◌<◌, Bool, true, false, not, cond, Option, None, List, [], ◌∷◌, length, map, take, drop, get_or, arith}
+use Rattle.std.specs.Prelude.{nat_le, Contains}
 use Rattle.std.specs.Bool.{beq}
-use Rattle.std.specs.List.{slice_get, range_with_len}
+use Rattle.std.specs.List.{range_with_len}
 use Rattle.std.proofs.lemmas.List.{drop-map, ext_get_or, get_or-map, length-map, take-map}
 use Rattle.std.proofs.lemmas.List.Elements.{All-from_get_or}
 use Rattle.std.proofs.lemmas.List.Sums.{sum_by-cons}
@@ -10,13 +10,12 @@ use Rattle.std.proofs.lemmas.Option.{get_or_from_slice_get}
 use Rattle.hz_core.specs.declared.tri.Tri.{Tri}
 use Rattle.hz_core.specs.declared.tri.Tri.TheVariants.{Zero, Unknown}
 use Rattle.hz_core.specs.Extension.{extension}
-use Rattle.hz_core.specs.Netlist.{Netlist, IsCircuit, IsWhole}
+use Rattle.hz_core.specs.Netlist.{Netlist}
 use Rattle.hz_core.specs.Ternary.{tri_of, is_unknown, unknown_count, Refines}
 use Rattle.hz_core.proofs.Extensions.{extension-map}
 use Rattle.hz_core.proofs.Refinements.{Refines-map}
 use Rattle.hz_net.specs.Network.{Driver, External, Function, Source, network_of, driver_at, bit_at, value_at, driver_value, driver_value3, excitation, IsStable}
-use Rattle.hz_net.specs.Passes.{excitations, join_each, algorithm_a, algorithm_b, AreRounds, IsKnown}
-use Rattle.hz_net.specs.Starts.{IsStableStart}
+use Rattle.hz_net.specs.Passes.{excitations, join_each, algorithm_a, algorithm_b, AreRounds}
 use Rattle.hz_net.proofs.Excitations.{at-excitations, length-excitations}
 use Rattle.hz_net.proofs.Ranks.{at-tri_of}
 use Rattle.hz_gmw.specs.Instability.{is_unstable, unstable_count}
@@ -25,11 +24,8 @@ use Rattle.hz_gmw.proofs.Counts.{counted-unstable, nothing, zeros}
 use Rattle.hz_reach.specs.Existence.{RanksExist, SettlingRoundsExist}
 use Rattle.hz_reach.specs.Spread.{IsSpreadRun}
 use Rattle.hz_cycle.specs.Cycles.{IsSettleRun, IsCycleOf}
-use Rattle.hz_word.specs.declared.count.Count.{Count}
 use Rattle.hz_word.specs.declared.word.Word.{Word}
-use Rattle.hz_free.specs.FreePart.{AreMarks}
-use Rattle.hz_free.specs.VariableWords.{AreCappedWords, WordsExist}
-use Rattle.hz_desk.specs.declared.class.Class.TheVariants.{Steady}
+use Rattle.hz_free.specs.VariableWords.{WordsExist}
 use Rattle.hz_desk.specs.declared.finding.Row.{Row}
 use Rattle.hz_desk.specs.Class.{IsClass}
 use Rattle.hz_desk.specs.Filled.{FilledIsRight, AreRuns}

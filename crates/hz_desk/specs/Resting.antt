@@ -1,11 +1,10 @@
 -- The rows of variables that never change, and the finding of a change that changes nothing. Words about the inside of hz_desk.
-use Rattle.std.specs.Prelude.{◌≡◌, ℕ, ◌+◌, ◌<◌, ◌≤◌, Bool, Some, List, [], length, map, take, slice_get, IsTrue}
+use Rattle.std.specs.Prelude.{◌≡◌, ℕ, ◌<◌, ◌≤◌, Bool, Some, List, [], length, map, take, slice_get}
 use Rattle.hz_core.specs.Netlist.{Netlist, IsCircuit, IsWhole}
 use Rattle.hz_net.specs.Network.{network_of, bit_at}
 use Rattle.hz_net.specs.Starts.{IsStableStart}
 use Rattle.hz_reach.specs.Spread.{changes_in}
 use Rattle.hz_free.specs.FreePart.{AreMarks}
-use Rattle.hz_desk.specs.declared.finding.Rest.{Rest}
 use Rattle.hz_desk.specs.declared.finding.Row.{Row}
 use Rattle.hz_desk.specs.Finding.{FindingOf}
 use Rattle.hz_desk.specs.RightFinding.{IsRightFinding}

@@ -1,6 +1,5 @@
 -- The next variable rests.
-use Rattle.std.proofs.Common.{◌≡◌, ◌∙◌, sym, ap, subst, ℕ, ◌+◌, ◌<◌, List, [], ◌∷◌, length, drop, get_or, length-set, arith}
-use Rattle.std.proofs.Math.Seq.{drop-cons}
+use Rattle.std.proofs.Common.{◌∙◌, sym, ap, subst, ℕ, ◌+◌, List, ◌∷◌, length, drop, get_or, length-set, arith}
 use Rattle.std.proofs.lemmas.List.{drop_all}
 use Rattle.hz_lists.proofs.ListedLemmas.{listed-at}
 use Rattle.hz_net.specs.Network.{bit_at}

@@ -1,5 +1,5 @@
 -- The next variable has its value, or is X.
-use Rattle.std.proofs.Common.{◌≡◌, ◌∙◌, sym, subst, ℕ, ◌+◌, ◌<◌, Bool, List, ◌∷◌, length, drop, get_or, set, arith}
+use Rattle.std.proofs.Common.{◌∙◌, sym, subst, ℕ, ◌+◌, ◌<◌, Bool, List, ◌∷◌, length, drop, get_or, set, arith}
 use Rattle.std.proofs.lemmas.List.{drop_all}
 use Rattle.hz_lists.proofs.ListedLemmas.{listed-at}
 use Rattle.hz_desk.proofs.OtherRows.{drop-one}

@@ -1,5 +1,5 @@
 -- The variables so far have their values, or are X.
-use Rattle.std.proofs.Common.{◌≡◌, ℕ, List, ◌∷◌, length, drop}
+use Rattle.std.proofs.Common.{ℕ, List, ◌∷◌, drop}
 use Rattle.hz_seq.specs.Settling.{IsSettledBut}
 use Rattle.hz_seq.proofs.settled.settle_step.Given as goal
 

@@ -1,5 +1,5 @@
 -- The parts of the row are written into each list.
-use Rattle.std.proofs.Common.{◌∙◌, ap, length, set, Bool, List, Option, arith}
+use Rattle.std.proofs.Common.{◌∙◌, ap, length, set, List, Option, arith}
 use Rattle.hz_core.specs.declared.tri.Tri.{Tri}
 use Rattle.hz_core.specs.Ternary.{tri_of}
 use Rattle.hz_word.specs.declared.word.Word.{Word}

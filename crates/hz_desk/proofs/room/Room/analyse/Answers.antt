@@ -1,5 +1,5 @@
 -- What is found is right, since no variable changes.
-use Rattle.std.proofs.Common.{◌∙◌, sym, ap, subst, ℕ, length}
+use Rattle.std.proofs.Common.{◌∙◌, sym, ap, subst, ℕ}
 use Rattle.hz_net.specs.Network.{network_of}
 use Rattle.hz_desk.specs.RightFinding.{IsRightFinding}
 use Rattle.hz_desk.specs.Resting.{finding_at_rest}

@@ -1,5 +1,5 @@
 -- No change was analysed yet.
-use Rattle.std.proofs.Common.{◌≡◌, ◌∙◌, ℕ, false, length, ap, subst, arith}
+use Rattle.std.proofs.Common.{◌∙◌, ℕ, false, length, ap, subst, arith}
 use Rattle.std.proofs.lemmas.List.{length-replicate}
 use Rattle.hz_core.specs.Netlist.{Netlist}
 use Rattle.hz_net.specs.Network.{network_of}
