@@ -1,6 +1,8 @@
 -- All variables rest but those that some steps change: what is left of that once one of them rests, and once a step has none left.
-use Rattle.std.proofs.Common.{◌≡◌, ◌≢◌, ◌∙◌, refl, sym, ap, subst, ℕ, suc, ◌+◌, ◌-◌, ◌<◌, ◌≤◌, Bool, true, false, Some, List, [], ◌∷◌, length, cond, drop, set, get_or, length-set, arith, inl, inr}
-use Rattle.std.proofs.lemmas.Bool.{cases_Bool, cases_eq, cases_lt}
+use Rattle.std.proofs.Common.{◌≡◌, ◌≢◌, ◌∙◌, refl, sym, ap, subst, ℕ, suc, ◌+◌, ◌<◌, ◌≤◌, Bool, true, false, Some, List, [], ◌∷◌, length, cond, drop, set, get_or, length-set, arith, inl, inr}
+use lib.Pointwise.{pointwise}
+use Rattle.std.specs.Bool.{beq}
+use Rattle.std.proofs.lemmas.Bool.{cases_Bool, cases_eq}
 use Rattle.std.proofs.Math.Seq.{drop-cons}
 use Rattle.std.proofs.lemmas.List.{drop_all, get_or-set_same, get_or-set_other}
 use Rattle.std.proofs.lemmas.Option.{slice_get-get_or}
@@ -14,16 +16,15 @@ use Rattle.hz_desk.specs.declared.finding.Row.{Row}
 use Rattle.hz_desk.specs.RowsOf.{row_at_rest}
 use Rattle.hz_desk.specs.Resting.{OthersRest, HasRowAtRest}
 
--- so many bits more are the same
-pub same-more : (bits others : List Bool) (from count : ℕ) → ((i : ℕ) → i < from → bit_at bits i ≡ bit_at others i)
-    → ((i : ℕ) → i < count → bit_at bits (from + i) ≡ bit_at others (from + i)) → (i : ℕ) → i < from + count → bit_at bits i ≡ bit_at others i
-same-more bits others from count before more i below =
-    elim (cases_lt i from) [
-      | inl so_far ↦ before i so_far
-      | inr behind ↦
-          (let here : from + (i - from) ≡ i = omega (arith, behind) in
-          subst (λ (n : ℕ). bit_at bits n ≡ bit_at others n) here (more (i - from) (omega (arith, behind, below))))
-    ]
+-- lists of bits that a comparison finds equal
+pub same-lists : (xs ys : List Bool) → pointwise beq xs ys ≡ true → xs ≡ ys
+same-lists [] [] same = refl
+same-lists [] (y ∷ ys) same = cc
+same-lists (x ∷ xs) [] same = cc
+same-lists (false ∷ xs) (false ∷ ys) same = ap (λ (list : List Bool). false ∷ list) (same-lists xs ys same)
+same-lists (false ∷ xs) (true ∷ ys) same = cc
+same-lists (true ∷ xs) (false ∷ ys) same = cc
+same-lists (true ∷ xs) (true ∷ ys) same = ap (λ (list : List Bool). true ∷ list) (same-lists xs ys same)
 
 listed-one : (flips : List ℕ) (i : ℕ) → is_listed flips i ≡ true → listed flips i ≡ 1
 listed-one flips i there = rw there refl

@@ -1,7 +1,7 @@
 //! Changes that change nothing. A variable that never changes has the same row under each input, so such a change leaves the rows of
 //! the change before, but for those of the variables that it changed.
-ghost use Rattle.std.specs.Prelude.{◌≡◌, ◌+◌, ◌<◌, ◌≤◌, ℕ, List, [], ◌∷◌, length, IsTrue};
-ghost use Rattle.hz_net.specs.Network.{network_of, bit_at, IsInput};
+ghost use Rattle.std.specs.Prelude.{◌≡◌, ◌<◌, ℕ, List, [], ◌∷◌, length, IsTrue};
+ghost use Rattle.hz_net.specs.Network.{network_of, IsInput};
 ghost use Rattle.hz_net.specs.Starts.{IsStableStart};
 ghost use Rattle.hz_lists.specs.Listed.{is_listed};
 ghost use Rattle.hz_free.specs.FreePart.{IsFreePart};
@@ -14,9 +14,6 @@ use crate::room::filled_is_right;
 use hz_free::{Free, words_change, words_exist};
 use hz_gmw::Run;
 use hz_reach::{Change, passes_end};
-
-// How many bits are compared at once.
-const BLOCK: usize = 32;
 
 // Whether a change is seen to change nothing: its input is that of its start, and it starts where the change before settled. Then all
 // rows are those of this change.
@@ -34,42 +31,12 @@ pub(crate) fn is_quiet(change: &Change, free: &Free, finding: &mut Finding) -> b
     ensures others { OthersRestOnceFound free.now.free (finding_of finding.new) }
 {
     change.net.keeps_shape();
-    let same = are_same(&change.start[..change.input.len()], change.input);
+    let same = &change.start[..change.input.len()] == change.input;
     if !same || finding.rounds_a == 0 {
         return false;
     }
     rest_all(&mut finding.rows, free, change.start, &finding.spread);
-    are_same(finding.rows.starts(), change.start)
-}
-
-// Whether two lists have the same bits.
-fn are_same(bits: &[bool], others: &[bool]) -> bool
-    requires { length bits.now ≡ length others.now }
-    ensures { IsTrue result → bits.now ≡ others.now }
-{
-    let mut from = 0;
-    while bits.len() - from >= BLOCK {
-        if !agree(bits, others, from, BLOCK) {
-            return false;
-        }
-        from += BLOCK;
-    }
-    agree(bits, others, from, bits.len() - from)
-}
-
-// Whether so many bits from one on are the same. It has no branch between two of them.
-#[inline(always)]
-fn agree(bits: &[bool], others: &[bool], first: usize, count: usize) -> bool
-    requires bits { first + count ≤ length bits.now }
-    requires others { first + count ≤ length others.now }
-    ensures { IsTrue result → (i : ℕ) → i < count
-        → bit_at bits.now (first + i) ≡ bit_at others.now (first + i) }
-{
-    let mut same = true;
-    for place in 0..count {
-        same &= bits[first + place] == others[first + place];
-    }
-    same
+    finding.rows.starts() == change.start
 }
 
 // Gives each variable that some steps change the row of one that rests at its value in a state.
