@@ -1,5 +1,4 @@
 //! Refusals of netlists: their lines and their status.
-ghost use Rattle.std.specs.Prelude.{◌≡◌};
 ghost use Rattle.hz_write.specs.Writes.{Wrote};
 ghost use Rattle.hz_refusal.specs.Ends.{Ends};
 ghost use Rattle.hz_formats.specs.Refused.{BenchPrints, BlifPrints, NetlistPrints};
