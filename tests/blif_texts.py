@@ -260,6 +260,7 @@ REFUSED = [
     ("the name of .model is long", ".model " + "m" * 241 + "\n", 1, "name too long"),
     (".model as the second statement", ".inputs a\n.model m\n", 2, "form"),
     ("a second .model", ".model m\n.model m\n", 2, "form"),
+    (".model behind a statement without names", ".inputs\n.model m\n", 2, "form"),
     (".names without a name", ".names\n", 1, "form"),
     ("a row behind .names without a name", ".names\n1\n", 1, "form"),
     (".end with a name", ".end x\n", 1, "form"),
@@ -285,6 +286,7 @@ REFUSED = [
     ("a column that is no bit", ".inputs a\n.names a y\n1 -\n", 3, "cover"),
     ("a row with a plane in a cover without pins", ".names y\n1 1\n", 2, "cover"),
     ("columns that differ", ".inputs a\n.names a y\n1 1\n0 0\n", 4, "cover"),
+    ("columns that differ in 301 rows", ".inputs a\n.names a y\n1 1\n" + "1 0\n" * 300, 4, "cover"),
     ("the column of the first row, even if that is wrong", ".inputs a\n.names a y\n1 x\n1 1\n", 3, "cover"),
     ("a row of a skipped cover", ".names y\n1\n2\n", 3, "cover"),
     ("a lone backslash in a row", ".inputs a\n.names a y\n1 \\ 1\n", 3, "cover"),
@@ -300,6 +302,7 @@ REFUSED = [
     ("an output that nothing defines", ".outputs\n.outputs y z\n.inputs z\n", 2, "undefined name"),
     ("a pin behind an output", ".names b y\n1 1\n.outputs z\n", 1, "undefined name"),
     ("lines that are joined have the number of the first", "\n\\\n\\\n.latch\n", 2, "construct"),
+    ("a name on a joined line has the number of the first", ".inputs a\n.outputs a \\\nb\n", 2, "undefined name"),
     ("the line behind joined lines", ".inputs \\\na \\\nb\n.outputs c\n", 4, "undefined name"),
 ]
 
@@ -322,6 +325,8 @@ READ = [
     ("nothing", "", ""),
     ("statements without names", ".model\n.inputs\n.outputs\n.end\n", ""),
     ("constants that are not used", ".names $false\n.names $true\n1\n.names $undef\n.names nothing y\n- 0\n", ""),
+    ("a skipped cover whose pins nothing defines", ".names q x y\n.inputs a\n.outputs a\n", "INPUT(a)\nOUTPUT(a)\n"),
+    ("a comment of any bytes", ".inputs a # ((=\x01\xff\n.names a y\n1 1\n", "INPUT(a)\ny = BUFF(a)\n"),
     ("no statement is missed", "# c\n\n  \t\n.inputs a # b\n\t.names a\ty\n\n# d\n\n 1 1\n", "INPUT(a)\ny = BUFF(a)\n"),
     ("a carriage return in front of the end", ".inputs a\r\n.names a y\r\n1 1\r", "INPUT(a)\ny = BUFF(a)\n"),
     ("joined at carriage returns", ".inputs a \\\r\nb\r\n.names a \\# c\n b y\n11 \\\r\n1\r", "INPUT(a)\nINPUT(b)\ny = AND(a, b)\n"),

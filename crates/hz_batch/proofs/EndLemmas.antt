@@ -11,7 +11,7 @@ use Rattle.hz_net.specs.Starts.{IsAcceptedStart}
 use Rattle.hz_plane.specs.Loads.{Loaded}
 use Rattle.hz_plane.specs.declared.stage.Stage.TheVariants.{Spread, Settled as AllSettled}
 use Rattle.hz_plane.specs.View.{HasUnknown, IsLaneValue, IsUnsettled}
-use Rattle.hz_reach.specs.Existence.{ResultOfAExists, ResultOfBExists}
+use Rattle.hz_net.specs.PassEnds.{ResultOfAExists, ResultOfBExists}
 use Rattle.hz_batch.specs.PatternEnd.{Settled, IsPatternEnd}
 
 -- no value of a state is X

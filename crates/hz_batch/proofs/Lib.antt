@@ -1,5 +1,11 @@
 -- The gates that are held, as pairs, and the start that a lane lists with them
 pub mod HeldLemmas
+-- Letters as bytes
+pub mod LetterLemmas
+-- The words of outputs, and where their letters stand
+pub mod OutputLemmas
+-- The digits of a number and of the next one
+pub mod DigitLemmas
 -- Values of variables in all lanes, as they are kept one after the other
 pub mod ColumnLemmas
 -- Both values of an output in a lane, as a number of four bits

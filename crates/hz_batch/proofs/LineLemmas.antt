@@ -7,7 +7,7 @@ use Rattle.hz_core.specs.Netlist.{Netlist}
 use Rattle.hz_net.specs.Network.{value_at}
 use Rattle.hz_plane.specs.declared.values.LaneValues.{LaneValues}
 use Rattle.hz_plane.specs.View.{value_in}
-use Rattle.hz_report.specs.Outputs.{LineOf, output_values}
+use Rattle.hz_batch.specs.Outputs.{LineOf, output_values}
 use Rattle.hz_batch.specs.Columns.{HasColumns, no_values}
 use Rattle.hz_batch.specs.Lines.{IsLineFor}
 

@@ -1,7 +1,7 @@
 -- What is known of starts and of both algorithms.
 use Rattle.hz_pass.specs.Decided.{StartsAreDecided}
 use Rattle.hz_plane.specs.View.{ListedInputsFill}
-use Rattle.hz_reach.specs.Existence.{ResultOfAExists, ResultOfBExists}
+use Rattle.hz_net.specs.PassEnds.{ResultOfAExists, ResultOfBExists}
 use Rattle.hz_reset.specs.Values.{ValuesExist, BeginsAllUnknown}
 
 -- every pattern comes to something, and planes that list the inputs alone hold what these bring about

@@ -4,6 +4,9 @@
 -- listing_of held pattern: the start that a pattern lists
 -- PatternEnd, IsPatternEnd netlist held pattern ending: what a pattern comes to
 -- ArePatternEnds netlist held patterns endings: each pattern comes to one
+-- letter_byte value, letter_value byte: the letter of a value as a byte, and the value that it says
+-- outputs_line netlist number values, output_values netlist first second: the line of a number, in which each output has two values
+-- LineOf: what contracts see of such a line before its number is known
 -- ending_line netlist number ending: the line of a pattern
 -- counts_line endings: the last line
 -- IsBatchText netlist patterns text: the text of patterns
@@ -16,6 +19,10 @@
 
 pub mod Each
 pub mod PatternEnd
+pub mod Letters
+pub mod Outputs
+pub mod DigitsInside
+pub mod LineInside
 pub mod BatchText
 pub mod ResetText
 pub mod Blocks

@@ -9,7 +9,7 @@ use Rattle.hz_net.specs.TernaryStarts.{unknown_start}
 use Rattle.hz_reset.specs.Values.{SettlesAlong}
 use Rattle.hz_write.specs.Writes.{line_of}
 use Rattle.hz_text.specs.PatternValue.{PatternOf, PatternsOf}
-use Rattle.hz_report.specs.Outputs.{outputs_line, output_values}
+use Rattle.hz_batch.specs.Outputs.{outputs_line, output_values}
 use Rattle.hz_batch.specs.Each.{AreEach}
 
 -- the values of all variables after the first bits of a pattern, and after its second bits

@@ -19,10 +19,10 @@ use crate::columns::{Columns, keep_keys, keep_values};
 use crate::counts::Counts;
 use crate::job::Job;
 use crate::lanes::{Lane, write_lane};
+use crate::outputs::OutputLine;
 use hz_net::Net;
 use hz_outside::Sink;
 use hz_plane::{LaneValues, Planes};
-use hz_report::OutputLine;
 use hz_text::Patterns;
 use hz_write::Writer;
 

@@ -6,10 +6,10 @@ ghost use Rattle.hz_batch.specs.Keys.{HaveKeys};
 ghost use Rattle.hz_batch.specs.Kept.{AreColumnsFor};
 
 use crate::keys::{make_keys, table_of};
+use crate::letter::Letter;
 use hz_core::{Circuit, Memory};
 use hz_net::Net;
 use hz_plane::{LaneValues, Planes};
-use hz_report::Letter;
 use std::alloc::Global;
 
 /// The first and the second values of the outputs in all lanes, their keys, and the values that

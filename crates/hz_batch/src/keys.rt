@@ -7,9 +7,9 @@ ghost use Rattle.hz_plane.specs.declared.values.LaneValues.{LaneValues};
 ghost use Rattle.hz_plane.specs.View.{value_in};
 ghost use Rattle.hz_batch.specs.Keys.{AreJoined, AreKeys, AreKeysAt, HaveKeys, IsTable, key_in, pair_by, value_of_bits};
 
+use crate::letter::Letter;
 use hz_core::Memory;
 use hz_plane::LaneValues;
-use hz_report::Letter;
 use std::alloc::Global;
 
 // Every fourth bit of a word.

@@ -9,8 +9,8 @@ ghost use Rattle.hz_plane.specs.declared.stage.Stage.TheVariants.{Completed, Spr
 ghost use Rattle.hz_plane.specs.Lanes.{IsFilledStart};
 ghost use Rattle.hz_plane.specs.Loads.{Loaded};
 ghost use Rattle.hz_plane.specs.View.{AreOf};
-ghost use Rattle.hz_reach.specs.Existence.{ResultOfAExists, ResultOfBExists};
-ghost use Rattle.hz_report.specs.Outputs.{output_values};
+ghost use Rattle.hz_net.specs.PassEnds.{ResultOfAExists, ResultOfBExists};
+ghost use Rattle.hz_batch.specs.Outputs.{output_values};
 ghost use Rattle.hz_text.specs.PatternText.{IsPatternOf};
 ghost use Rattle.hz_text.specs.PatternValue.{PatternOf};
 ghost use Rattle.hz_write.specs.Writer.{Writes, NoneWaits};
@@ -31,11 +31,11 @@ use crate::columns::Columns;
 use crate::counts::Mark;
 use crate::job::Job;
 use crate::keys::pair_at;
+use crate::outputs::OutputLine;
 use hz_core::Circuit;
 use hz_net::Net;
 use hz_outside::Sink;
 use hz_plane::{LaneFault, Planes};
-use hz_report::OutputLine;
 use hz_write::Piece::{Number, Text};
 use hz_write::Writer;
 

@@ -10,6 +10,9 @@
 //! | `job` | which of both is made |
 //! | `blocks` | a block: it is loaded, all passes are made, and the line of each lane is written |
 //! | `lanes` | the line of a lane |
+//! | `outputs` | the line of a number, in which each output has two values |
+//! | `letter` | the letter of a value |
+//! | `digits` | the digits of a number that is counted up |
 //! | `columns` | the first and the second values of the outputs, as they are kept for all lanes |
 //! | `keys` | both values in a lane as one number, by which their letters are looked up |
 //! | `held` | the gates that are held at the start |
@@ -20,11 +23,14 @@
 mod blocks;
 mod columns;
 mod counts;
+mod digits;
 mod fault;
 mod held;
 mod job;
 mod keys;
 mod lanes;
+mod letter;
+mod outputs;
 mod writing;
 
 pub use fault::BatchFault;

@@ -1,5 +1,5 @@
 -- A printed text has no fault.
-use Rattle.std.proofs.Common.{◌≡◌, ◌∙◌, ℕ, ◌+◌, ◌<◌, ◌≤◌, zero, suc, Bool, true, false, not, List, [], ◌∷◌, ◌++◌, Some, length, map, take, drop, get_or, refl, ap, sym, subst, arith, drop-cons, take-append-drop, length-take-le, drop_of_length-le, inl, inr}
+use Rattle.std.proofs.Common.{◌≡◌, ◌∙◌, ℕ, ◌+◌, ◌<◌, ◌≤◌, zero, suc, Bool, true, false, not, List, [], ◌∷◌, ◌++◌, Some, length, map, take, drop, get_or, refl, ap, sym, subst, arith, drop-cons, take-append-drop, length-take-le, drop_of_length-le}
 use Rattle.std.specs.List.{All, Contains, IsDistinct, list_any, filter_map}
 use Rattle.std.specs.Prelude.{sum_by}
 use Rattle.std.specs.Str.{bytes_eq}
@@ -15,9 +15,8 @@ use Rattle.hz_core.specs.Netlist.{Netlist, Gate as GateOf, IsName, IsCircuit, Is
 use Rattle.hz_core.proofs.CircuitLemmas.{takes-from_bounds}
 use Rattle.hz_line.specs.Line.{lines_of}
 use Rattle.hz_line.specs.Statement.{Meaning, Nothing, Malformed, Means}
-use Rattle.hz_bench.specs.declared.fault.BenchFault.{BenchFault}
 use Rattle.hz_bench.specs.declared.fault.BenchFault.TheVariants.{Form, Name, KindUnknown, Twice, Pins, Undefined, TooMany, Memory}
-use Rattle.hz_bench.specs.Fault.{States, HasThat, Defines, Uses, IsSecond, IsFaultless, IsNetlistRefusal}
+use Rattle.hz_bench.specs.Fault.{States, HasThat, Defines, Uses, IsSecond, IsFaultless}
 use Rattle.hz_netlist.specs.Element.{element_variables, variable_total}
 use Rattle.hz_netlist.specs.Element as element
 use Rattle.hz_bench.specs.Netlist.{element_of, elements_of}
@@ -315,8 +314,3 @@ nodes_count netlist circuit whole =
 pub printed-faultless : (netlist : Netlist) → IsCircuit netlist → IsWhole netlist → IsFaultless (netlist_text netlist)
 printed-faultless netlist circuit whole =
     faultless netlist.names (netlist_text netlist) (statements_for netlist) (printed-IsReadAs netlist circuit whole) (statements_sound netlist circuit whole) (nodes_define netlist circuit whole) circuit.names_distinct (omega (arith, nodes_count netlist circuit whole, circuit.variables))
-
--- so what is answered in place of its circuit is that memory ran out
-pub memory_alone : (text : List ℕ) (fault : BenchFault) → IsFaultless text → IsNetlistRefusal text fault → fault ≡ Memory
-memory_alone text fault none (inl memory) = memory
-memory_alone text fault none (inr least) = absurd (none fault least.stands)

@@ -36,6 +36,3 @@ mod words;
 pub use fault::BlifFault;
 pub use laws::{faultless_text_is_circuit, stable_states_keep_covers};
 pub use reading::read;
-
-#[cfg(test)]
-mod tests;

@@ -3,6 +3,7 @@
 -- tri_of bit: the ternary value 0 or 1
 -- known_bit value: the bit of a value that is not X
 -- is_unknown value: the value is X
+-- tri_letter value: its letter in a text: 0, 1 or X
 -- admits value bit: the bit refines the value; X admits both bits
 -- Refines bits values: each bit refines the value at its place
 -- is_below small large: every bit that refines the first value refines the second
@@ -39,6 +40,7 @@
 
 pub mod Limits
 pub mod Ternary
+pub mod Letters
 pub mod Gate
 pub mod Extension
 pub mod Kleene

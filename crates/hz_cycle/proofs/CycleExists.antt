@@ -11,7 +11,8 @@ use Rattle.hz_cycle.specs.Pass.{IsFixed, AreEnough, IsPass, HasRoom}
 use Rattle.hz_cycle.specs.Turned.{IsTurned}
 use Rattle.hz_cycle.proofs.SettledVariables.{refines-unchanged, known-stable, no-input, wire-source, source-gate}
 use Rattle.hz_cycle.proofs.StepLemmas.{changes-append, unchanged-end, contains-end, contains-front, contains-begin}
-use Rattle.hz_reach.proofs.GateTurn.{same-or-differ, other-bit, not-itself, either-value}
+use Rattle.hz_net.proofs.RestRounds.{either-value}
+use Rattle.hz_reach.proofs.GateTurn.{same-or-differ, other-bit, not-itself}
 use Rattle.hz_cycle.proofs.TurnedStates.{same-turned}
 use Rattle.hz_reach.proofs.Room.{room-left}
 

@@ -6,7 +6,8 @@ use Rattle.hz_reach.proofs.Words.{cases_eq, false_from_ne_true, Tri, Kind, is_un
 use Rattle.hz_reach.proofs.Words.{External, IsKnown, IsUnknown, is_listed, IsRun, state_after, end_of, states_of, IsEarlier, with_step_if_any, IsWireInto}
 use Rattle.hz_reach.proofs.Words.{IsWired, changes_in}
 use Rattle.hz_reach.proofs.Order.{not-earlier, not-both, also, also-itself, also-other, earlier-or-not}
-use Rattle.hz_reach.proofs.GateTurn.{turn_wires, turn_middle, IsFunction, IsTurnPin, IsWithFanOut, pin-into, pin-from, listed-pin, kept-other, gate-kept, turn-run, turn-end, same-or-differ, same-source, either-value}
+use Rattle.hz_net.proofs.RestRounds.{either-value}
+use Rattle.hz_reach.proofs.GateTurn.{turn_wires, turn_middle, IsFunction, IsTurnPin, IsWithFanOut, pin-into, pin-from, listed-pin, kept-other, gate-kept, turn-run, turn-end, same-or-differ, same-source}
 use Rattle.hz_cycle.specs.Pass.{MayBegin, IsFixed, AreEnough, IsPass}
 use Rattle.hz_cycle.proofs.PassInvariant.{IsInside}
 use Rattle.hz_cycle.proofs.StepLemmas.{changes-after, listed-none, unchanged-end, contains-after, contains-end}

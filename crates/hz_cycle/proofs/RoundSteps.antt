@@ -7,7 +7,8 @@ use Rattle.hz_reach.proofs.Words.{IsSettlingRound, admits-driver_value, at-excit
 use Rattle.hz_reach.proofs.Words.{state_after, end_of, length-end_of, filtered_range, key_at, with_step_if_any, changes_in, AllBelow-excitations}
 use Rattle.std.proofs.lemmas.Bool.{eqb-true, eq-eqb}
 use Rattle.hz_reach.proofs.FilteredRangeLemmas.{filtered_range-is, is-filtered_range, filtered_range-once}
-use Rattle.hz_reach.proofs.GateTurn.{state_after-listed, state_after-unlisted, either-value}
+use Rattle.hz_net.proofs.RestRounds.{either-value}
+use Rattle.hz_reach.proofs.GateTurn.{state_after-listed, state_after-unlisted}
 use Rattle.hz_reach.proofs.ListPlaces.{key-inside}
 use Rattle.hz_reach.proofs.Room.{end_of-after, run-after}
 use Rattle.hz_cycle.specs.Rounds.{AreRoundsOf, IsSettlingRun}

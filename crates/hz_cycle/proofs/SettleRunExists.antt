@@ -5,7 +5,8 @@ use Rattle.hz_reach.proofs.Words.{Driver, Source, network_of, driver_at, bit_at,
 use Rattle.hz_reach.proofs.Words.{IsSettlingRound, AreSettlingRounds, IsStableStart, IsRun, end_of, RunRecord, flip_count, end_of-append, IsRun-append}
 use Rattle.hz_reach.proofs.Words.{key_at, IsEarlier, Spends, HasRoomFor, IsWireInto, IsWired, changes_in, IsSparingRun, wired-network_of, start-refines}
 use Rattle.hz_reach.proofs.FlipCounts.{flips_are_changes, flips_per_variable, flips_per_unknown, ends_by_changes}
-use Rattle.hz_reach.proofs.GateTurn.{not-itself, driver-inside, either-value}
+use Rattle.hz_net.proofs.RestRounds.{either-value}
+use Rattle.hz_reach.proofs.GateTurn.{not-itself, driver-inside}
 use Rattle.hz_reach.proofs.ListPlaces.{key-inside}
 use Rattle.hz_reach.proofs.Order.{earlier-or-not}
 use Rattle.hz_reach.proofs.Room.{room-left}

@@ -10,7 +10,8 @@ use Rattle.hz_core.proofs.Patterns.{candidate-extension}
 use Rattle.hz_net.proofs.Sequences.{settled-last}
 use Rattle.hz_reach.proofs.FlipCounts.{changes-more}
 use Rattle.hz_cycle.proofs.StepLemmas.{listed-none, unchanged-end}
-use Rattle.hz_reach.proofs.GateTurn.{driver-inside, either-value}
+use Rattle.hz_net.proofs.RestRounds.{either-value}
+use Rattle.hz_reach.proofs.GateTurn.{driver-inside}
 use Rattle.hz_cycle.specs.Pass.{IsFixed}
 
 -- Values

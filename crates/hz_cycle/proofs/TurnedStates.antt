@@ -7,7 +7,8 @@ use Rattle.hz_core.proofs.Patterns.{same-IsPattern}
 use Rattle.hz_cycle.specs.Pass.{IsFixed, MayBegin}
 use Rattle.hz_cycle.specs.Turned.{IsShown, HasPattern, IsTurned}
 use Rattle.hz_reach.proofs.Order.{earlier-or-not}
-use Rattle.hz_reach.proofs.GateTurn.{other-bit, either-value}
+use Rattle.hz_net.proofs.RestRounds.{either-value}
+use Rattle.hz_reach.proofs.GateTurn.{other-bit}
 use Rattle.hz_cycle.proofs.SettledVariables.{same-known, no-input, wire-source, source-gate}
 use Rattle.hz_cycle.proofs.PassInvariant.{IsInside}
 

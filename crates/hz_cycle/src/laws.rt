@@ -2,7 +2,8 @@
 ghost use Rattle.hz_cycle.specs.Exact.{RunsShowB, SettleRunsExist, BIsExact, OutcomesExist};
 
 use hz_gmw::b_covers;
-use hz_reach::{passes_end, spread_runs_exist};
+use hz_net::passes_end;
+use hz_reach::spread_runs_exist;
 
 /// If a change has a settle run and a cycle that begins at its end, the value of the result of Algorithm B at a variable
 /// is the join of the values that the variable has in the outcome states.

@@ -2,11 +2,12 @@
 use Rattle.std.proofs.Common.{length, refl, arith}
 use Rattle.hz_net.specs.Network.{network_of}
 use Rattle.hz_net.specs.Passes.{algorithm_a, algorithm_b}
+use Rattle.hz_net.specs.PassEnds.{ResultOfAExists, ResultOfBExists, RoundsOfAAreFew, RoundsOfBAreFew, RanksExist, SettlingRoundsExist}
 use Rattle.hz_net.proofs.Places.{length-network_of}
 use Rattle.hz_gmw.specs.Runs.{end_of}
 use Rattle.hz_gmw.specs.Cycles.{states_of}
 use Rattle.hz_reach.specs.Counts.{StepsAreNoMoreThanFlips, FlipsOfSpreadRun}
-use Rattle.hz_reach.specs.Existence.{ResultOfAExists, ResultOfBExists, RoundsOfAAreFew, RoundsOfBAreFew, RanksExist, SettlingRoundsExist, SpreadRunExists}
+use Rattle.hz_reach.specs.Existence.{SpreadRunExists}
 use Rattle.hz_cycle.specs.Exact.{SettleRunsExist}
 use Rattle.hz_free.specs.FreePart.{MarksExist}
 use Rattle.hz_free.specs.VariableWords.{WordsExist}

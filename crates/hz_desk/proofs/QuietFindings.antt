@@ -16,12 +16,12 @@ use Rattle.hz_core.proofs.Extensions.{extension-map}
 use Rattle.hz_core.proofs.Refinements.{Refines-map}
 use Rattle.hz_net.specs.Network.{Driver, External, Function, Source, network_of, driver_at, bit_at, value_at, driver_value, driver_value3, excitation, IsStable}
 use Rattle.hz_net.specs.Passes.{excitations, join_each, algorithm_a, algorithm_b, AreRounds}
+use Rattle.hz_net.specs.PassEnds.{RanksExist, SettlingRoundsExist}
 use Rattle.hz_net.proofs.Excitations.{at-excitations, length-excitations}
 use Rattle.hz_net.proofs.Ranks.{at-tri_of}
 use Rattle.hz_gmw.specs.Instability.{is_unstable, unstable_count}
 use Rattle.hz_gmw.proofs.Counting.{weight, range-same}
 use Rattle.hz_gmw.proofs.Counts.{counted-unstable, nothing, zeros}
-use Rattle.hz_reach.specs.Existence.{RanksExist, SettlingRoundsExist}
 use Rattle.hz_reach.specs.Spread.{IsSpreadRun}
 use Rattle.hz_cycle.specs.Cycles.{IsSettleRun, IsCycleOf}
 use Rattle.hz_word.specs.declared.word.Word.{Word}

@@ -13,7 +13,8 @@ use crate::finding::{Finding, Rest, Rows};
 use crate::room::filled_is_right;
 use hz_free::{Free, words_change, words_exist};
 use hz_gmw::Run;
-use hz_reach::{Change, passes_end};
+use hz_net::passes_end;
+use hz_reach::Change;
 
 // Whether a change is seen to change nothing: its input is that of its start, and it starts where the change before settled. Then all
 // rows are those of this change.

@@ -22,5 +22,7 @@ pub mod Readers
 pub mod StartLemmas
 -- Algorithm A from a ternary state: how long its states are, how they grow, and where the sequences of both passes stop
 pub mod TernaryStarts
+-- Where the sequences of the passes come to rest from a start of bits, and their ranks and settling rounds
+pub mod RestRounds
 -- What a variable is says how it is driven
 pub mod DrivenLemmas

@@ -109,7 +109,7 @@ module _ (sequence : ℕ → List Tri) (left : List Tri → ℕ) (next : (round 
 
 -- Algorithm A: the variables that are not X get fewer.
 module _ (net : List Driver) (input : List Bool) (first : List Tri) (long : length first ≡ length net) where
-  next-of-a : (round : ℕ) → (algorithm_a_from net input first (suc round) ≡ algorithm_a_from net input first round) ⊎ (length net - unknown_count (algorithm_a_from net input first (suc round)) < length net - unknown_count (algorithm_a_from net input first round))
+  pub next-of-a : (round : ℕ) → (algorithm_a_from net input first (suc round) ≡ algorithm_a_from net input first round) ⊎ (length net - unknown_count (algorithm_a_from net input first (suc round)) < length net - unknown_count (algorithm_a_from net input first round))
   next-of-a round =
       elim (same-or-more (algorithm_a_from net input first round) (algorithm_a_from net input first (suc round)) (AllBelow-algorithm_a_from net input first long round)) [
         | inl same ↦ inl (sym same)
@@ -117,7 +117,7 @@ module _ (net : List Driver) (input : List Bool) (first : List Tri) (long : leng
       ]
 
 -- Algorithm B from its result: the variables that are X get fewer.
-next-of-b : (net : List Driver) (input : List Bool) (first : List Tri) → AllBelow (excitations net input first) first → (round : ℕ) → (algorithm_b net input first (suc round) ≡ algorithm_b net input first round) ⊎ (unknown_count (algorithm_b net input first (suc round)) < unknown_count (algorithm_b net input first round))
+pub next-of-b : (net : List Driver) (input : List Bool) (first : List Tri) → AllBelow (excitations net input first) first → (round : ℕ) → (algorithm_b net input first (suc round) ≡ algorithm_b net input first round) ⊎ (unknown_count (algorithm_b net input first (suc round)) < unknown_count (algorithm_b net input first round))
 next-of-b net input first below round =
     same-or-more (algorithm_b net input first (suc round)) (algorithm_b net input first round) (AllBelow-algorithm_b net input first below round)
 

@@ -15,6 +15,9 @@
 -- IsFirstRoundIf test sequence i has round: the first round in which variable i has a property, if the test holds, else 0
 -- IsRank sequence i value rank: the first round in which an X of Algorithm A is X
 -- IsSettlingRound sequence i first value round: the first round in which an X settles in Algorithm B
+-- ResultOfAExists, ResultOfBExists: both algorithms come to rest
+-- RoundsOfAAreFew, RoundsOfBAreFew: within one round more than there are variables
+-- RanksExist, SettlingRoundsExist: there are ranks and settling rounds
 -- Reads driver i: a driver reads variable i
 -- AreReaders net i readers: the readers of variable i
 -- fan_out_of netlist node: the wires from a node
@@ -42,5 +45,6 @@ pub mod Entries
 pub mod FanOuts
 pub mod Inside
 pub mod Passes
+pub mod PassEnds
 pub mod Starts
 pub mod TernaryStarts

@@ -7,7 +7,7 @@ use Rattle.hz_reach.proofs.Words.{AIsExact, SpreadRunExists}
 use Rattle.hz_reach.proofs.RanksOrderGates.{AreTurns, ranked-turns, turns-of}
 use Rattle.hz_reach.proofs.SpreadSteps.{turns-made, sparing-run, whole-run}
 use Rattle.hz_reach.proofs.FlipCounts.{ends_by_changes}
-use Rattle.hz_reach.proofs.RestRounds.{ranks-exist, ranks_of_result}
+use Rattle.hz_net.proofs.RestRounds.{ranks-exist, ranks_of_result}
 
 pub sparing_run_exists : SparingRunExists
 sparing_run_exists netlist input start a ranks circuit begins result ranked =

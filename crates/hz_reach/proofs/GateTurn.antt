@@ -4,7 +4,7 @@ use Rattle.hz_reach.proofs.Words.{cases_lt, both_ways, false_from_ne_true, get_o
 use Rattle.hz_reach.proofs.Words.{excitation, network_of, IsUnstable, length-part, at-part, Kind, gate_value, Netlist, IsCircuit, IsGateNumber, differs}
 use Rattle.hz_reach.proofs.Words.{IsCandidate, length-network_of, driver_at-input, driver_at-gate, driver_at-wire, IsWireInto, IsWired, is_listed}
 use Rattle.hz_reach.proofs.Words.{IsRepeatFree, IsStep, IsRun, state_after, end_of, length-state_after, at-state_after, with_step_if_any, is_gate_in}
-use Rattle.hz_reach.proofs.Words.{changed_wires, Tri, Zero, One, Unknown, is_unknown, IsKnown, IsUnknown, is_gate_of}
+use Rattle.hz_reach.proofs.Words.{changed_wires, Tri, Zero, One, Unknown, is_unknown, IsUnknown, is_gate_of}
 use Rattle.std.proofs.lemmas.List.{ext_get_or}
 use Rattle.hz_core.proofs.Patterns.{free-changed}
 use Rattle.hz_reach.proofs.FilteredRangeLemmas.{filtered_range-is, is-filtered_range, filtered_range-once, differs-true, true-differs, only-one, is-one}
@@ -75,11 +75,6 @@ unknown-is Unknown e = refl
 
 pub is-unknown : (value : Tri) → IsUnknown value → is_unknown value ≡ true
 is-unknown value unknown = rw unknown refl
-
-pub either-value : (value : Tri) → IsUnknown value ⊎ IsKnown value
-either-value Zero = inr (λ e. cc)
-either-value One = inr (λ e. cc)
-either-value Unknown = inl refl
 
 -- the bit of a listed variable, and of one that is not listed
 pub state_after-listed : (flips : List ℕ) (state : List Bool) (i : ℕ) → i < length state → is_listed flips i ≡ true → bit_at (state_after flips state) i ≡ not (bit_at state i)

@@ -28,7 +28,5 @@ pub mod FanOut
 pub mod SpreadLoop
 -- The spread run of a change: its steps have room, it ends as it should, and there is one
 pub mod SpreadSteps
--- Where the sequences of the passes come to rest, and their ranks and settling rounds
-pub mod RestRounds
 -- Algorithm A is exact: from a start that is stable under some input there is a spread run, and so each X of the result has both values in states that are reached
 pub mod Exact

@@ -30,11 +30,11 @@ pub use Rattle.hz_net.specs.Network.{Driver, External, Function, IsStable, IsUns
 pub use Rattle.hz_net.specs.Network.{network_of, value_at, wires_of}
 pub use Rattle.hz_net.specs.Passes.{AreRanks, AreRounds, AreSettlingRounds, IsFirstRound, IsKnown, IsRank, IsResult, IsSettlingRound, IsUnknown, algorithm_a}
 pub use Rattle.hz_net.specs.Passes.{algorithm_b, excitations}
+pub use Rattle.hz_net.specs.PassEnds.{RanksExist, ResultOfAExists, ResultOfBExists}
 pub use Rattle.hz_net.specs.Reads.{IsNode, IsWireInto, IsWired}
 pub use Rattle.hz_net.specs.Starts.{IsStableStart}
 pub use Rattle.hz_net.specs.Variables.{at_wires, fan_out_of, first_wire, readers_from}
-pub use Rattle.hz_reach.specs.Existence.{AIsExact, RanksExist, ResultOfAExists, ResultOfBExists, RoundsOfAAreFew, RoundsOfBAreFew, SettlingRoundsExist}
-pub use Rattle.hz_reach.specs.Existence.{SparingRunExists, SpreadRunExists}
+pub use Rattle.hz_reach.specs.Existence.{AIsExact, SparingRunExists, SpreadRunExists}
 pub use Rattle.hz_reach.specs.FilteredRange.{filtered_range}
 pub use Rattle.hz_reach.specs.Given.{AreResultsOfA, IsEmptyRun}
 pub use Rattle.hz_reach.specs.Linked.{AreBefore, AreLinked, IsBefore, IsFirst}

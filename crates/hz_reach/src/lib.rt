@@ -6,7 +6,7 @@
 //! | `spreading` | [`spread_run`]: a run that changes each X of Algorithm A once |
 //! | `turn` | [`take_turn`]: a gate's turn, two steps that turn it |
 //! | `scratch` | [`Scratch`]: the room to make a run in |
-//! | `existence` | the laws that both algorithms come to rest, and that there are spread runs |
+//! | `existence` | the law that there are spread runs |
 //! | `counts` | laws on the length of runs |
 #![tactic(auto)]
 
@@ -23,7 +23,7 @@ mod turn;
 
 pub use change::Change;
 pub use counts::{run_counts, run_ends, spread_flips};
-pub use existence::{passes_end, spread_runs_exist};
+pub use existence::spread_runs_exist;
 pub use scratch::Scratch;
 pub use spreading::{add_unused, sparing_in_order, spread_in_order, spread_run};
 pub use turn::{FEW_PINS, is_gate, take_turn};

@@ -4,7 +4,5 @@ pub mod PutEndings
 pub mod Flushed
 -- A node that the refusal of a text names is one of the circuit
 pub mod NamedNodes
--- Texts of netlists, in the format that the names of their files tell
-pub mod NetlistTexts
 -- A line that is written of a refusal is that of the least fault
 pub mod RefusedTexts

@@ -8,14 +8,6 @@ use Rattle.hz_line.specs.OrThat.{OrThat}
 use Rattle.hz_pass.specs.Completed.{IsStartFault}
 use Rattle.hz_pass.specs.declared.completed_start.StartFault.{StartFault}
 use Rattle.hz_pass.specs.declared.completed_start.StartFault.TheVariants as start
-use Rattle.hz_bench.specs.declared.fault.BenchFault.TheVariants as bench
-use Rattle.hz_bench.specs.Fault as bench_fault
-use Rattle.hz_blif.specs.declared.fault.BlifFault.TheVariants as blif
-use Rattle.hz_blif.specs.Fault as blif_fault
-use Rattle.hz_refusal.specs.declared.netlist.NetlistFault.{NetlistFault}
-use Rattle.hz_refusal.specs.declared.netlist.NetlistFault.TheVariants.{Bench, Blif}
-use Rattle.hz_refusal.specs.Netlists.{IsNetlistRefusal, NetlistRefused}
-use Rattle.hz_refusal.specs.Refusal.{netlist_fault_line}
 use Rattle.hz_text.specs.declared.fault.TextFault.{TextFault}
 use Rattle.hz_text.specs.declared.fault.TextFault.TheVariants as reading
 use Rattle.hz_text.specs.Fault.{IsLeastFaultOf, IsLeastFaultOrMemory}
@@ -23,8 +15,7 @@ use Rattle.hz_refusal.specs.declared.status.Status.{Status}
 use Rattle.hz_refusal.specs.declared.status.Status.TheVariants as status
 use Rattle.hz_refusal.specs.Second.{StartRefused}
 use Rattle.hz_refusal.specs.Refusal.{unread_line, long_line}
-use Rattle.hz_refusal.specs.Refused.{LoadPrints, NetlistPrints, StartPrints}
-use Rattle.hz_refusal.specs.Answer.{Prints}
+use Rattle.hz_refusal.specs.Refused.{LoadPrints, StartPrints}
 
 -- a load that failed has the line of a file that was not read
 pub LoadPrints-failed : (place : Place) (fault : LoadFault) → fault ≡ load.Failed → LoadPrints place fault status.File (unread_line place)
@@ -41,15 +32,9 @@ start-refused netlist listed (start.Unstable gate) least own text says = (says.0
 start-refused netlist listed start.Memory least own text says = absurd says
 
 -- a refusal other than out of memory is what else it tells
-refused : {F : Type 0} (memory : F) (told : F → Type 0) (fault : F) → OrThat memory told fault → fault ≢ memory → told fault
+pub refused : {F : Type 0} (memory : F) (told : F → Type 0) (fault : F) → OrThat memory told fault → fault ≢ memory → told fault
 refused memory told fault (inl is) other = absurd (other is)
 refused memory told fault (inr says) other = says
-
--- a line that is written of a fault of a netlist refuses its text
-pub netlist-refused : (name text : List ℕ) (fault : NetlistFault) → IsNetlistRefusal name text fault → (own : Status) (written : List ℕ) → NetlistPrints fault own written
-    → NetlistRefused name text (netlist_fault_line fault) × Prints status.Netlist (netlist_fault_line fault) own written
-netlist-refused name text (Bench fault) least own written says = ((Bench fault, (least.0, refused bench.Memory (bench_fault.IsLeastFault text) fault least.1 says.0), refl), says.1)
-netlist-refused name text (Blif fault) least own written says = ((Blif fault, (least.0, refused blif.Memory (blif_fault.IsLeastFault text) fault least.1 says.0), refl), says.1)
 
 -- a refusal of a text other than out of memory is the least of the faults that hold
 pub text-refused : (holds : TextFault → Type 0) (fault : TextFault) → IsLeastFaultOrMemory holds fault → fault ≢ reading.Memory → IsLeastFaultOf holds fault

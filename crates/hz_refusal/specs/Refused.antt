@@ -6,39 +6,18 @@ use Rattle.hz_outside.specs.declared.fault.LoadFault.TheVariants as load
 use Rattle.hz_core.specs.Netlist.{Netlist}
 use Rattle.hz_pass.specs.declared.completed_start.StartFault.{StartFault}
 use Rattle.hz_pass.specs.declared.completed_start.StartFault.TheVariants as start
-use Rattle.hz_bench.specs.declared.fault.BenchFault.{BenchFault}
-use Rattle.hz_bench.specs.declared.fault.BenchFault.TheVariants as bench
-use Rattle.hz_blif.specs.declared.fault.BlifFault.{BlifFault}
-use Rattle.hz_blif.specs.declared.fault.BlifFault.TheVariants as blif
 use Rattle.hz_text.specs.declared.fault.TextFault.{TextFault}
 use Rattle.hz_text.specs.declared.fault.TextFault.TheVariants as text
-use Rattle.hz_refusal.specs.declared.netlist.NetlistFault.{NetlistFault}
-use Rattle.hz_refusal.specs.declared.netlist.NetlistFault.TheVariants.{Bench, Blif}
 use Rattle.hz_refusal.specs.declared.status.Status.{Status}
 use Rattle.hz_refusal.specs.declared.status.Status.TheVariants as status
 use Rattle.hz_refusal.specs.Answer.{Prints}
-use Rattle.hz_refusal.specs.Refusal.{unread_line, long_line, bench_fault_line, blif_fault_line, text_fault_line, open_line, unstable_line}
+use Rattle.hz_refusal.specs.Refusal.{unread_line, long_line, text_fault_line, open_line, unstable_line}
 
 -- what is written of a load that gave no file: nothing if memory ran out
 abbrev pub LoadPrints : Place → LoadFault → Status → List ℕ → Type 0
 LoadPrints place load.Failed own written = Prints status.File (unread_line place) own written
 LoadPrints place load.TooLong own written = Prints status.TooLong (long_line place) own written
 LoadPrints place load.Memory own written = ⊥
-
--- what is written of a fault of a netlist in the .bench format: nothing if memory ran out
-abbrev pub BenchPrints : BenchFault → Status → List ℕ → Type 0
-BenchPrints fault own written =
-    (fault ≢ bench.Memory) × Prints status.Netlist (bench_fault_line fault) own written
-
--- what is written of a fault of a netlist in BLIF: nothing if memory ran out
-abbrev pub BlifPrints : BlifFault → Status → List ℕ → Type 0
-BlifPrints fault own written =
-    (fault ≢ blif.Memory) × Prints status.Netlist (blif_fault_line fault) own written
-
--- what is written of a fault of a netlist's text
-abbrev pub NetlistPrints : NetlistFault → Status → List ℕ → Type 0
-NetlistPrints (Bench fault) own written = BenchPrints fault own written
-NetlistPrints (Blif fault) own written = BlifPrints fault own written
 
 -- what is written of a fault of a text that is called so: nothing if memory ran out
 abbrev pub TextPrints : List ℕ → Netlist → TextFault → Status → List ℕ → Type 0

@@ -2,13 +2,10 @@
 ghost use Rattle.std.specs.Prelude.{◌≡◌, ◌<◌, length};
 ghost use Rattle.hz_write.specs.Writes.{Wrote};
 ghost use Rattle.hz_refusal.specs.Ends.{Ends};
-ghost use Rattle.hz_refusal.specs.Refused.{BenchPrints, BlifPrints, LoadPrints, NetlistPrints, StartPrints, TextPrints, named_node, named_gate, NamesNode};
-ghost use Rattle.hz_refusal.specs.Refusal.{words_line, unread_line, long_line, place_word, fault_line, counted_line, variables_line, missing_line, mismatch_line, bench_fault_line, blif_fault_line, text_fault_line, open_line, unstable_line};
+ghost use Rattle.hz_refusal.specs.Refused.{LoadPrints, StartPrints, TextPrints, named_node, named_gate, NamesNode};
+ghost use Rattle.hz_refusal.specs.Refusal.{words_line, unread_line, long_line, place_word, fault_line, missing_line, mismatch_line, text_fault_line, open_line, unstable_line};
 
-use crate::netlist::NetlistFault;
 use crate::status::{Status, status_after};
-use hz_bench::BenchFault;
-use hz_blif::BlifFault;
 use hz_core::Circuit;
 use hz_outside::{LoadFault, Place, PutFault, Sink};
 use hz_pass::StartFault;
@@ -69,7 +66,7 @@ fn put_long<K: Sink>(out: &mut K, place: Place) -> Result<(), PutFault>
 
 // A fault at a line of a text, by what the text is called.
 #[tactic(auto, unfolding(crate::specs::Refusal::fault_line))]
-fn put_at<'p, K: Sink>(
+pub fn put_at<'p, K: Sink>(
     out: &mut K,
     called: &'p [u8],
     line: u32,
@@ -88,71 +85,6 @@ fn put_at<'p, K: Sink>(
             Text(fault),
         ],
     )
-}
-
-// A fault at a line of a netlist, with a number.
-#[tactic(auto, unfolding(crate::specs::Refusal::counted_line))]
-fn put_counted<K: Sink>(out: &mut K, line: u32, fault: &[u8], count: u32) -> Result<(), PutFault>
-    ensures { Wrote K.output K.faults (counted_line line fault.now count) out.old out.new result }
-{
-    put_line(
-        out,
-        &[
-            Text(b"refused: netlist line "),
-            Number(line),
-            Text(fault),
-            Number(count),
-        ],
-    )
-}
-
-// More variables than there may be.
-#[tactic(auto, unfolding(crate::specs::Refusal::variables_line))]
-fn put_variables<K: Sink>(out: &mut K, variables: u32) -> Result<(), PutFault>
-    ensures { Wrote K.output K.faults (variables_line variables) out.old out.new result }
-{
-    put_line(
-        out,
-        &[Text(b"refused: netlist: variables "), Number(variables)],
-    )
-}
-
-// A fault of a netlist in the .bench format. If memory ran out, there is no line.
-fn put_bench_fault<K: Sink>(out: &mut K, fault: BenchFault) -> Result<(), PutFault>
-    ensures { Wrote K.output K.faults (bench_fault_line fault) out.old out.new result }
-{
-    match fault {
-        BenchFault::Form { line } => put_at(out, b"netlist", line, b": form"),
-        BenchFault::Name { line } => put_at(out, b"netlist", line, b": name too long"),
-        BenchFault::KindUnknown { line } => put_at(out, b"netlist", line, b": unknown kind"),
-        BenchFault::Twice { line, first } => {
-            put_counted(out, line, b": defined twice, first on line ", first)
-        }
-        BenchFault::Pins { line, count } => put_counted(out, line, b": pins ", count),
-        BenchFault::Undefined { line } => put_at(out, b"netlist", line, b": undefined name"),
-        BenchFault::TooMany { variables } => put_variables(out, variables),
-        BenchFault::Memory => Ok(()),
-    }
-}
-
-// A fault of a netlist in BLIF. If memory ran out, there is no line.
-fn put_blif_fault<K: Sink>(out: &mut K, fault: BlifFault) -> Result<(), PutFault>
-    ensures { Wrote K.output K.faults (blif_fault_line fault) out.old out.new result }
-{
-    match fault {
-        BlifFault::Form { line } => put_at(out, b"netlist", line, b": form"),
-        BlifFault::Name { line } => put_at(out, b"netlist", line, b": name too long"),
-        BlifFault::Construct { line } => put_at(out, b"netlist", line, b": construct"),
-        BlifFault::Twice { line, first } => {
-            put_counted(out, line, b": defined twice, first on line ", first)
-        }
-        BlifFault::Cover { line } => put_at(out, b"netlist", line, b": cover"),
-        BlifFault::Pins { line, count } => put_counted(out, line, b": pins ", count),
-        BlifFault::Constant { line } => put_at(out, b"netlist", line, b": constant"),
-        BlifFault::Undefined { line } => put_at(out, b"netlist", line, b": undefined name"),
-        BlifFault::TooMany { variables } => put_variables(out, variables),
-        BlifFault::Memory => Ok(()),
-    }
 }
 
 // A node for which a text has no value.
@@ -261,36 +193,6 @@ pub fn refuse_load<K: Sink>(out: &mut K, place: Place, fault: LoadFault) -> Stat
         LoadFault::Failed => status_after(put_unread(out, place), Status::File),
         LoadFault::TooLong => status_after(put_long(out, place), Status::TooLong),
         LoadFault::Memory => Status::Memory,
-    }
-}
-
-// Writes why a text is no netlist.
-pub fn refuse_netlist<K: Sink>(out: &mut K, fault: NetlistFault) -> Status
-    ensures { Ends K.output K.faults (NetlistPrints fault) out.old out.new result }
-{
-    match fault {
-        NetlistFault::Bench(fault) => refuse_bench(out, fault),
-        NetlistFault::Blif(fault) => refuse_blif(out, fault),
-    }
-}
-
-// Writes why a text is no netlist in the .bench format.
-fn refuse_bench<K: Sink>(out: &mut K, fault: BenchFault) -> Status
-    ensures { Ends K.output K.faults (BenchPrints fault) out.old out.new result }
-{
-    match fault {
-        BenchFault::Memory => Status::Memory,
-        _ => status_after(put_bench_fault(out, fault), Status::Netlist),
-    }
-}
-
-// Writes why a text is no netlist in BLIF.
-fn refuse_blif<K: Sink>(out: &mut K, fault: BlifFault) -> Status
-    ensures { Ends K.output K.faults (BlifPrints fault) out.old out.new result }
-{
-    match fault {
-        BlifFault::Memory => Status::Memory,
-        _ => status_after(put_blif_fault(out, fault), Status::Netlist),
     }
 }
 

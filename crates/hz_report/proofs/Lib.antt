@@ -6,12 +6,6 @@ pub mod RowLemmas
 pub mod CycleLemmas
 -- Counts of classes, row by row
 pub mod ClassLemmas
--- Letters as bytes
-pub mod LetterLemmas
--- The words of outputs, and where their letters stand
-pub mod OutputLemmas
--- The digits of a number and of the next one
-pub mod DigitLemmas
 -- Texts of parts: where each part stands, and what a text is once the middle of one is written over
 pub mod PartLemmas
 -- The lines and words that are kept, node by node, and what is written of them

@@ -16,7 +16,7 @@ use Rattle.hz_desk.specs.declared.finding.Row.{Row}
 use Rattle.hz_desk.specs.Finding.{FindingOf}
 use Rattle.hz_options.specs.declared.show.Show.{Show}
 use Rattle.hz_options.specs.declared.show.Show.TheVariants.{Nodes, All}
-use Rattle.hz_report.specs.Words.{tri_letter}
+use Rattle.hz_core.specs.Letters.{tri_letter}
 
 -- how many inputs, gates, wires and variables there are
 unfoldable pub netlist_line : Netlist → List ℕ

@@ -1,7 +1,7 @@
 //! The text that `analyse` writes: the lines of a circuit with its start, and those of each change; and the summary of one
 //! change, which `demo` writes.
 //!
-//! The lines are given to a [`Writer`](hz_write::Writer). Of the calls here only [`OutputLine::new`] and [`Plate::new`] take memory.
+//! The lines are given to a [`Writer`](hz_write::Writer). Of the calls here only [`Plate::new`] takes memory.
 //!
 //! | Module | What lives in it |
 //! |---|---|
@@ -10,25 +10,17 @@
 //! | `plate` | [`Plate`]: what the lines of changes are made with, and which of them are kept from one change to the next |
 //! | `kept` | the lines and words of nodes that are kept, as bytes |
 //! | `rows` | the lines of variables: their values, their number of changes and their class |
-//! | `digits` | the digits of a number that is counted up |
-//! | `letter` | [`Letter`]: the letter of a value |
-//! | `outputs` | [`OutputLine`]: the line of a number, in which each output has two values |
 //! | `summary` | the summary of a change: how many variables have each class, and the size of its runs |
 #![tactic(auto, using(hz_write::proofs::Writers::writes_then, hz_write::proofs::Writers::writes_nothing))]
 
 mod change;
-mod digits;
 mod head;
 mod kept;
-mod letter;
-mod outputs;
 mod plate;
 mod rows;
 mod summary;
 
 pub use change::{write_change, write_stopped};
 pub use head::write_head;
-pub use letter::Letter;
-pub use outputs::OutputLine;
 pub use plate::Plate;
 pub use summary::write_summary;

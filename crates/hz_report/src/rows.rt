@@ -10,7 +10,7 @@ ghost use Rattle.hz_desk.specs.declared.finding.Rest.{Rest};
 ghost use Rattle.hz_desk.specs.declared.finding.Row.{Row};
 ghost use Rattle.hz_desk.specs.RowsOf.{row_at_rest};
 ghost use Rattle.hz_report.specs.Report.{changes_word, class_word, row_line, row_lines, row_text, shown_count, shown_rows};
-ghost use Rattle.hz_report.specs.Words.{tri_letter};
+ghost use Rattle.hz_core.specs.Letters.{tri_letter};
 
 use crate::kept::COMMON;
 use hz_core::Tri;

@@ -4,7 +4,7 @@
 //! | Module | What is tested in it |
 //! |---|---|
 //! | `netlists` | circuits that are read and printed, and generated ones |
-//! | `texts` | scripts, patterns and run texts that are read and printed |
+//! | `texts` | scripts and patterns that are read and printed, and a run text that is made |
 //! | `lines` | how many puts a line takes |
 //! | `outputs` | standard output, gathered output, and files and sinks in memory |
 //! | `dumps` | the first wrong words of value change dumps |

@@ -1,43 +1,16 @@
-//! Circuits that are read, printed and read back: each spelling once, and the circuits of small numbers.
-ghost use Rattle.std.specs.Prelude.{◌≡◌, IfErr, IfOk};
-ghost use Rattle.hz_core.specs.Netlist.{IsWhole};
+//! Circuits that are read and printed: each spelling once, and the circuits of small numbers.
 
-use hz_bench::{BenchFault, print, read};
-use hz_core::Circuit;
+use hz_bench::print;
 use hz_gen::make;
-use hz_line::MAX_TEXT;
 use hz_samples::circuit_of;
 use hz_text::print_script;
 use std::alloc::Global;
 use std::test::Fail;
 
-// Prints a circuit and reads it again: this gives the circuit, where memory does and the text is not too long.
-#[tactic(auto, using(hz_bench::proofs::PrintedFaults::memory_alone))]
-fn read_back(alloc: Global, circuit: &Circuit) -> Result<Circuit, BenchFault>
-    requires { IsWhole circuit.now }
-    ensures circuit { IfOk result (λ back. back ≡ circuit.now) }
-    ensures memory { IfErr result (λ fault. fault ≡ BenchFault.Memory) }
-{
-    let Ok(text) = print(alloc, circuit) else {
-        return Err(BenchFault::Memory);
-    };
-    if text.len() > MAX_TEXT {
-        return Err(BenchFault::Memory);
-    }
-    read(alloc, text.as_slice())
-}
-
 // The circuit of a netlist, printed.
 fn printed(alloc: Global, text: &str) -> Result<Vec<u8>, Fail> {
     let circuit = circuit_of(alloc, text)?;
     Ok(print(alloc, &circuit)?)
-}
-
-// Whether the circuit of a netlist is whole, and has as many nodes once it is printed and read back.
-fn is_read_back(alloc: Global, text: &str) -> Result<bool, Fail> {
-    let circuit = circuit_of(alloc, text)?;
-    let back = read_back(alloc, &circuit)?;
-    Ok(circuit.whole() && back.nodes() == circuit.nodes())
 }
 
 #[test]
@@ -63,7 +36,6 @@ fn circuits_are_read_and_printed(rt: HostRuntime) -> Result<(), Fail> {
     ];
     for (text, wanted) in rows {
         assert_eq!(rt; printed(rt.alloc(), text)?.as_slice(), wanted.as_bytes());
-        assert!(rt; is_read_back(rt.alloc(), text)?, "{text}");
     }
     Ok(())
 }

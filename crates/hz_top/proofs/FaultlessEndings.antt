@@ -13,10 +13,10 @@ use Rattle.hz_refusal.specs.declared.status.Status.{Status}
 use Rattle.hz_refusal.specs.declared.status.Status.TheVariants as status
 use Rattle.hz_refusal.specs.Answer.{Answers}
 use Rattle.hz_top.specs.Faultless.{AreGoodFiles, IsFaultlessJob}
-use Rattle.hz_refusal.specs.Netlists.{IsLeastNetlistFault}
+use Rattle.hz_formats.specs.Netlists.{IsLeastNetlistFault}
 use Rattle.hz_top.specs.Outcome.{Observation, IsSecondFileOutcome, IsFilesOutcome, IsJobOutcome}
 use Rattle.hz_top.specs.Tasks.{comes_of}
-use Rattle.hz_refusal.proofs.NetlistTexts.{not-both, one-netlist}
+use Rattle.hz_formats.proofs.NetlistTexts.{not-both, one-netlist}
 use Rattle.hz_top.proofs.TextEnds.{text-ends}
 
 -- the bytes of a file that is told are the told ones

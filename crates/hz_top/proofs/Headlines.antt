@@ -33,7 +33,7 @@ use Rattle.hz_refusal.specs.declared.status.Status.{Status}
 use Rattle.hz_refusal.specs.declared.status.Status.TheVariants as status
 use Rattle.hz_refusal.specs.Answer.{Answers, WroteWhole}
 use Rattle.hz_top.specs.Headline.{TakesBoth, IsExact, StartsAt, IsExactChange, IsStoppedBy, IsExactReport, Headline}
-use Rattle.hz_refusal.specs.Netlists.{IsNetlistText, TextsAreCircuits}
+use Rattle.hz_formats.specs.Netlists.{IsNetlistText, TextsAreCircuits}
 use Rattle.hz_top.specs.Outcome.{Observation, IsFilesOutcome, IsJobOutcome}
 use Rattle.hz_changes.specs.Reports.{AnalysisReplays, IsReport, Reports}
 use Rattle.hz_refusal.specs.Second.{OfScript, Started}

@@ -10,8 +10,8 @@ use Rattle.hz_words.specs.declared.job.Task.{Task}
 use Rattle.hz_words.specs.Job.{JobOf, OnFiles, Demo}
 use Rattle.hz_top.specs.Outcome.{Observation, CountsStay}
 use Rattle.hz_top.specs.LeftFiles.{IsRefusedFirst, LeavesFiles}
-use Rattle.hz_refusal.specs.Netlists.{IsNetlistText}
-use Rattle.hz_refusal.proofs.NetlistTexts.{not-both}
+use Rattle.hz_formats.specs.Netlists.{IsNetlistText}
+use Rattle.hz_formats.proofs.NetlistTexts.{not-both}
 
 -- whatever is told
 stays-anyway : (held : Option (List ℕ → List ℕ)) (first : List ℕ) (stays : Type 0) → stays → IfSome held (λ bytes_of. IsRefusedFirst first (bytes_of first) → stays)

@@ -7,7 +7,7 @@ use Rattle.hz_refusal.specs.declared.status.Status.{Status}
 use Rattle.hz_refusal.specs.declared.status.Status.TheVariants.{Done}
 use Rattle.hz_words.specs.declared.job.Task.{Task}
 use Rattle.hz_words.specs.Job.{JobOf, OnFiles, Demo}
-use Rattle.hz_refusal.specs.Netlists.{IsNetlistText}
+use Rattle.hz_formats.specs.Netlists.{IsNetlistText}
 use Rattle.hz_top.specs.Outcome.{Observation}
 use Rattle.hz_top.specs.Tasks.{good_of}
 

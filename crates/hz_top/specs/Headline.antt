@@ -26,7 +26,7 @@ use Rattle.hz_refusal.specs.declared.status.Status.{Status}
 use Rattle.hz_refusal.specs.declared.status.Status.TheVariants.{Done, Memory}
 use Rattle.hz_line.specs.Line.{most_text_bytes}
 use Rattle.hz_top.specs.Faultless.{AreGoodFiles}
-use Rattle.hz_refusal.specs.Netlists.{IsNetlistText, KeepsItsCovers}
+use Rattle.hz_formats.specs.Netlists.{IsNetlistText, KeepsItsCovers}
 use Rattle.hz_top.specs.Outcome.{Observation}
 use Rattle.hz_changes.specs.Reports.{AnalysisReplays, analyses_text}
 

@@ -4,7 +4,7 @@ use Rattle.hz_outside.specs.declared.fault.Place.{Place}
 use Rattle.hz_outside.specs.declared.fault.Place.TheVariants.{Second}
 use Rattle.hz_line.specs.Line.{most_text_bytes}
 use Rattle.hz_words.specs.Job.{JobOf, OnFiles, Demo}
-use Rattle.hz_refusal.specs.Netlists.{NetlistRefused}
+use Rattle.hz_formats.specs.Netlists.{NetlistRefused}
 use Rattle.hz_top.specs.Outcome.{Observation, CountsStay}
 
 -- the bytes of the first file are too many, or no netlist

@@ -7,7 +7,7 @@ use Rattle.hz_core.specs.Netlist.{Netlist}
 use Rattle.hz_refusal.specs.declared.status.Status.{Status}
 use Rattle.hz_refusal.specs.declared.status.Status.TheVariants as status
 use Rattle.hz_refusal.specs.Answer.{Prints}
-use Rattle.hz_refusal.specs.Netlists.{NetlistRefused, IsNetlistText}
+use Rattle.hz_formats.specs.Netlists.{NetlistRefused, IsNetlistText}
 use Rattle.hz_top.specs.Tasks.{comes_of}
 use Rattle.hz_words.specs.Job.{JobOf, OnFiles, Demo}
 use Rattle.hz_refusal.specs.Refusal.{words_line, unread_line, long_line}

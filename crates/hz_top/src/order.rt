@@ -11,14 +11,14 @@ ghost use Rattle.hz_top.specs.Outcome.{observation_of, IsFilesOutcome, IsSecondF
 ghost use Rattle.hz_top.specs.Tasks.{comes_of};
 
 use hz_changes::{Analyses, Splits};
+use hz_formats::{read_netlist, refuse_netlist};
 use hz_line::MAX_TEXT;
 use hz_net::Net;
 use hz_options::Options;
 use hz_outside::{Files, Place, Sink};
 use hz_patterns::{Batches, Resets};
 use hz_refusal::{
-    OnPatterns, OnRuns, OnScript, Status, on_patterns, on_runs, on_script, read_netlist,
-    refuse_load, refuse_netlist,
+    OnPatterns, OnRuns, OnScript, Status, on_patterns, on_runs, on_script, refuse_load,
 };
 use hz_replay::{Converts, Dumps, Replays};
 use hz_text::PatternReader;

@@ -12,8 +12,9 @@ ghost use Rattle.hz_top.specs.Outcome.{observation_of, IsJobOutcome, MayLoad};
 
 use crate::order::{FileWork, work_on_files};
 use hz_changes::demo;
+use hz_formats::texts_are_circuits;
 use hz_outside::{Files, Sink};
-use hz_refusal::{Status, put_words, status_after, status_flushed, texts_are_circuits};
+use hz_refusal::{Status, put_words, status_after, status_flushed};
 use hz_words::{Job, WordsFault};
 use std::alloc::Global;
 

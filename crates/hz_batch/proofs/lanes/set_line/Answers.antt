@@ -2,7 +2,7 @@
 use Rattle.std.proofs.Common.{◌≡◌, ◌<◌, ◌+◌, ◌∙◌, [], get_or, arith, ap, sym, subst, ℕ, List, length, set}
 use Rattle.hz_core.specs.declared.tri.Tri.{Tri}
 use Rattle.hz_core.specs.Netlist.{Netlist}
-use Rattle.hz_report.specs.Outputs.{LineOf}
+use Rattle.hz_batch.specs.Outputs.{LineOf}
 use Rattle.hz_batch.specs.Columns.{no_values}
 use Rattle.hz_batch.specs.Keys.{AreKeys}
 use Rattle.hz_batch.proofs.LineLemmas.{IsSetTo, in_lane, set-none, set-next, set-whole}

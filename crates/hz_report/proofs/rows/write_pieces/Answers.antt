@@ -3,7 +3,7 @@ use Rattle.std.proofs.Common.{refl}
 use Rattle.hz_text.specs.Printed.{letter_of}
 use Rattle.hz_write.proofs.Writers.{writes_then}
 use Rattle.hz_report.specs.Report.{changes_word, class_word}
-use Rattle.hz_report.specs.Words.{tri_letter}
+use Rattle.hz_core.specs.Letters.{tri_letter}
 use Rattle.hz_report.proofs.RowLemmas.{row-pieces}
 use Rattle.hz_report.proofs.rows.write_pieces.Goals as goal
 

@@ -1,13 +1,14 @@
 use Rattle.std.proofs.Common.{inl, inr, ap, sym, subst, ◌∙◌, Err}
 use Rattle.hz_outside.specs.declared.fault.Place.TheVariants.{First}
 use Rattle.hz_top.specs.Outcome.{IsFilesOutcome, IsSecondFileOutcome, observation_of}
-use Rattle.hz_refusal.specs.Netlists.{IsNetlistText}
+use Rattle.hz_formats.specs.Netlists.{IsNetlistText}
 use Rattle.hz_top.specs.Tasks.{comes_of}
-use Rattle.hz_refusal.specs.Refusal.{netlist_fault_line}
-use Rattle.hz_refusal.specs.Refused.{LoadPrints, NetlistPrints}
+use Rattle.hz_formats.specs.Refusal.{netlist_fault_line}
+use Rattle.hz_formats.specs.Refused.{NetlistPrints}
+use Rattle.hz_refusal.specs.Refused.{LoadPrints}
 use Rattle.hz_refusal.proofs.PutEndings.{Ends-more}
 use Rattle.hz_top.proofs.JobOutcomes.{FileRefused-load, IsSecondFileOutcome-before}
-use Rattle.hz_refusal.proofs.RefusedTexts.{netlist-refused}
+use Rattle.hz_formats.proofs.RefusedNetlists.{netlist-refused}
 use Rattle.hz_top.proofs.LeftFiles.{second-stays, first-read}
 use Rattle.hz_top.proofs.order.work_on_files.Goals as goal
 

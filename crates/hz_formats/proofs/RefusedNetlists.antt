@@ -1,0 +1,21 @@
+-- A line that is written of a refusal of a netlist is that of its least fault.
+use Rattle.std.proofs.Common.{ℕ, List, refl}
+use Rattle.hz_bench.specs.declared.fault.BenchFault.TheVariants as bench
+use Rattle.hz_bench.specs.Fault as bench_fault
+use Rattle.hz_blif.specs.declared.fault.BlifFault.TheVariants as blif
+use Rattle.hz_blif.specs.Fault as blif_fault
+use Rattle.hz_refusal.specs.declared.status.Status.{Status}
+use Rattle.hz_refusal.specs.declared.status.Status.TheVariants as status
+use Rattle.hz_refusal.specs.Answer.{Prints}
+use Rattle.hz_refusal.proofs.RefusedTexts.{refused}
+use Rattle.hz_formats.specs.declared.netlist.NetlistFault.{NetlistFault}
+use Rattle.hz_formats.specs.declared.netlist.NetlistFault.TheVariants.{Bench, Blif}
+use Rattle.hz_formats.specs.Netlists.{IsNetlistRefusal, NetlistRefused}
+use Rattle.hz_formats.specs.Refusal.{netlist_fault_line}
+use Rattle.hz_formats.specs.Refused.{NetlistPrints}
+
+-- a line that is written of a fault of a netlist refuses its text
+pub netlist-refused : (name text : List ℕ) (fault : NetlistFault) → IsNetlistRefusal name text fault → (own : Status) (written : List ℕ) → NetlistPrints fault own written
+    → NetlistRefused name text (netlist_fault_line fault) × Prints status.Netlist (netlist_fault_line fault) own written
+netlist-refused name text (Bench fault) least own written says = ((Bench fault, (least.0, refused bench.Memory (bench_fault.IsLeastFault text) fault least.1 says.0), refl), says.1)
+netlist-refused name text (Blif fault) least own written says = ((Blif fault, (least.0, refused blif.Memory (blif_fault.IsLeastFault text) fault least.1 says.0), refl), says.1)

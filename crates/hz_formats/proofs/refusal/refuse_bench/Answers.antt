@@ -1,0 +1,11 @@
+use Rattle.std.proofs.Common.{refl}
+use Rattle.hz_refusal.specs.declared.status.Status.TheVariants as status
+use Rattle.hz_formats.specs.Refused.{BenchPrints}
+use Rattle.hz_formats.specs.Refusal.{bench_fault_line}
+use Rattle.hz_refusal.proofs.PutEndings.{Ends-put}
+use Rattle.hz_formats.proofs.refusal.refuse_bench.Goals as goal
+
+pub returns-in_default : goal.returns-in_default
+returns-in_default g c =
+    Ends-put g.K.Sink.output g.K.Sink.faults (BenchPrints c.args.fault) c.args.out.now c.put_bench_fault.new.out status.Netlist (bench_fault_line c.args.fault)
+    c.put_bench_fault.result c.status_after.result tt (c.in_default.not-Memory, (refl, refl)) c.put_bench_fault.ensures c.status_after.ensures

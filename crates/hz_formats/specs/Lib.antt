@@ -1,0 +1,12 @@
+-- Words, with their arguments, in the order in which one needs them.
+--
+-- has_blif_name name: the file is read as BLIF
+-- IsNetlistText name bytes netlist: the text is that of this circuit
+-- netlist_fault_line fault: the line of a refusal
+-- NetlistRefused name bytes line: the text is refused with this line
+-- NetlistPrints fault status text: what is written of a refusal
+-- TextsAreCircuits: each text of a circuit is that of a whole one, and keeps its covers
+
+pub mod Refusal
+pub mod Netlists
+pub mod Refused
