@@ -7,7 +7,7 @@ use hz_core::Circuit;
 use hz_gen::make;
 use hz_line::MAX_TEXT;
 use hz_samples::circuit_of;
-use hz_text::print_script;
+use hz_script::print_script;
 use std::alloc::Global;
 use std::test::Fail;
 

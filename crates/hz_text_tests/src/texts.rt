@@ -1,7 +1,7 @@
 //! Scripts, patterns and run texts that are read and printed. Those that are refused stand in `tests/run`.
 
 ghost use Rattle.std.specs.Prelude.{IfOk};
-ghost use Rattle.hz_text.specs.PatternText.{ArePatternsFor};
+ghost use Rattle.hz_pattern_text.specs.PatternText.{ArePatternsFor};
 
 use hz_core::Circuit;
 use hz_gmw::Run;
@@ -9,10 +9,10 @@ use hz_line::MAX_TEXT;
 use hz_net::Net;
 use hz_outside::Receive;
 use hz_samples::{LATCH, circuit_of, net_of, runs_of};
-use hz_text::{
-    PatternReader, Patterns, RunText, TextFault, print_patterns, print_run, print_script,
-    read_patterns, read_script,
-};
+use hz_pattern_text::{PatternReader, Patterns, print_patterns, read_patterns};
+use hz_run_text::{RunText, print_run};
+use hz_script::{print_script, read_script};
+use hz_text::TextFault;
 use std::alloc::Global;
 use std::test::Fail;
 

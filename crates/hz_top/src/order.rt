@@ -21,7 +21,7 @@ use hz_refusal::{
     refuse_load, refuse_netlist,
 };
 use hz_replay::{Converts, Dumps, Replays};
-use hz_text::PatternReader;
+use hz_pattern_text::PatternReader;
 use hz_words::Task;
 use std::alloc::Global;
 
