@@ -1,5 +1,5 @@
 -- The commonest line of a run text.
-use Rattle.std.proofs.Common.{◌≡◌, ◌∙◌, ℕ, Bool, true, false, List, [], ◌∷◌, ◌++◌, Option, Some, None, length, map, codes, refl, ap, sym, arith, append_assoc}
+use Rattle.std.proofs.Common.{◌≡◌, ◌∙◌, ℕ, true, List, [], ◌∷◌, ◌++◌, Option, Some, None, map, codes, refl, ap, arith}
 use Rattle.std.specs.List.{list_all}
 use Rattle.std.specs.Option.{option_map}
 use Rattle.std.specs.Str.{bytes_eq}
@@ -8,11 +8,11 @@ use Rattle.hz_core.specs.Netlist.{Netlist}
 use Rattle.hz_line.specs.Byte.{class_of, is_word_byte}
 use Rattle.hz_line.specs.Reading.{by_tokens}
 use Rattle.hz_line.specs.Statement.{Means, meaning_of, meaning_of_tokens}
-use Rattle.hz_line.specs.Token.{TokenOf, WordOf, tokens_of, with_token, has_no_token}
+use Rattle.hz_line.specs.Token.{TokenOf, WordOf, tokens_of, with_token}
 use Rattle.hz_line.proofs.WrittenLemmas.{tokens_of-space, tokens_of-word_before, is_word_byte-separators}
 use Rattle.hz_run_text.specs.RunKeyword as keyword
-use Rattle.hz_run_text.specs.RunStatement.{Variable, Step, RunStatement, run_keyword_of, run_statement_of, variables_of_tokens, with_first}
-use Rattle.hz_run_text.specs.RunResolution.{resolve_run_tokens, resolve_run_statement, variables_by, variable_named}
+use Rattle.hz_run_text.specs.RunStatement.{Variable, Step, run_keyword_of, variables_of_tokens}
+use Rattle.hz_run_text.specs.RunResolution.{resolve_run_tokens, variables_by, variable_named}
 
 step_word : (run_keyword_of (codes "step") ≡ Some keyword.Step) × (list_all is_word_byte (codes "step") ≡ true)
 unfolding run_keyword_of class_of

@@ -1,5 +1,5 @@
 -- Wires by numbers of pins.
-use Rattle.std.proofs.Common.{◌≡◌, ◌∙◌, ℕ, ◌+◌, ◌*◌, ◌-◌, ◌<◌, ◌≤◌, Bool, true, false, ◌&&◌, nat_le, List, [], ◌∷◌, ◌++◌, Option, Some, None, length, take, drop, refl, ap, sym, arith, fold, take-append-drop, cond}
+use Rattle.std.proofs.Common.{◌≡◌, ◌∙◌, ℕ, ◌+◌, ◌*◌, ◌-◌, ◌<◌, ◌≤◌, Bool, true, false, ◌&&◌, nat_le, List, [], ◌∷◌, ◌++◌, Option, Some, None, length, refl, arith, cond}
 use Rattle.std.specs.Option.{IfSome}
 use Rattle.std.specs.Str.{bytes_eq}
 use Rattle.std.proofs.lemmas.Bool.Decides.{nat_tests}
@@ -8,7 +8,6 @@ use Rattle.hz_core.proofs.CircuitLemmas.{most_pins-bound}
 use Rattle.hz_core.specs.declared.kind.Kind.TheVariants.{And}
 use Rattle.hz_core.specs.Netlist.{Netlist, IsCircuit, gate_at, node_named}
 use Rattle.hz_net.specs.Variables.{first_wire}
-use Rattle.hz_text.specs.Decimal.{number_by}
 use Rattle.hz_run_text.specs.RunResolution.{wire_into}
 use Rattle.hz_core.specs.Limits.{most_gate_pins}
 

@@ -1,12 +1,11 @@
 -- The printed text of a run text.
-use Rattle.std.specs.Prelude.{ℕ, ◌+◌, Bool, List, [], ◌∷◌, ◌++◌, map, codes, decimal, Option, Some, None}
-use Rattle.std.specs.List.{flat_map, slice_index_or}
-use Rattle.hz_core.specs.Netlist.{Netlist, node_name}
-use Rattle.hz_net.specs.Network.{Wire, wires_of}
+use Rattle.std.specs.Prelude.{ℕ, ◌+◌, Bool, List, [], ◌∷◌, ◌++◌, codes, decimal, Option, Some, None}
+use Rattle.std.specs.List.{flat_map}
+use Rattle.hz_core.specs.Netlist.{Netlist}
 use Rattle.hz_write.specs.Writes.{line_of}
 use Rattle.hz_run_text.specs.declared.size.Size.{Size}
 use Rattle.hz_run_text.specs.RunSize.{size_of}
-use Rattle.hz_text.specs.Printed.{statement_text, listed_from, all_listed}
+use Rattle.hz_text.specs.Printed.{statement_text, all_listed}
 use Rattle.hz_text.specs.RunParts.{RunOf}
 use Rattle.hz_run_text.specs.RunValue.{RunTextOf}
 use Rattle.hz_text.specs.VariableWord.{spaced_word}

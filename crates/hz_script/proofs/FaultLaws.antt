@@ -1,28 +1,19 @@
 -- The first answer of the passes over a script is its least fault.
-use Rattle.std.proofs.Common.{◌≡◌, ◌∙◌, ℕ, ◌+◌, ◌<◌, ◌≤◌, Bool, true, false, not, ◌||◌, cond, nat_eq, List, [], ◌∷◌, Option, Some, None, zero, suc, length, get_or, map, filter, refl, ap, sym, subst, inl, inr, arith, ltb}
-use Rattle.std.specs.List.{list_any, position, position_or_len}
-use Rattle.std.specs.Str.{bytes_eq}
-use Rattle.std.proofs.lemmas.List.Quantifiers.{position-Some}
-use Rattle.std.proofs.lemmas.Slice.Eq.{bytes_eq-Decides}
-use Rattle.std.proofs.lemmas.Bool.Decides.{nat_tests}
-use Rattle.std.proofs.lemmas.Bool.{cases_lt, ltb-false}
+use Rattle.std.proofs.Common.{◌≡◌, ◌∙◌, ℕ, ◌+◌, ◌<◌, ◌≤◌, Bool, true, false, not, ◌||◌, cond, List, [], ◌∷◌, Option, Some, None, suc, filter, refl, ap, sym, subst, inl, inr, arith}
 use Rattle.std.specs.Prelude.{◌⊎◌}
 use Rattle.std.proofs.lemmas.Option.{same_Some}
-use Rattle.hz_core.specs.Netlist.{Netlist, node_named, primary_inputs, node_name}
+use Rattle.hz_core.specs.Netlist.{Netlist, primary_inputs}
 use Rattle.hz_lists.specs.Least.{IsLeastOf}
 use Rattle.hz_line.specs.Line.{lines_of}
 use Rattle.hz_line.specs.Statement.{Numbered, PassesOn, first_passing_line, numbered_statements, first_malformed}
 use Rattle.hz_line.proofs.StatementLemmas.{Ascends, numbered_from-Ascends, PassesOn-above, first_passing_line-Some, first_passing_line-None, numbered_from-map}
 use Rattle.hz_script.specs.Statement.{script_statement_of, script_statements_of}
-use Rattle.hz_text.specs.Assignment.{Assigned, Allowed, Assignment, has_repeat, assigned_of, is_not_allowed, assigns}
 use Rattle.hz_script.specs.Resolution.{ResolvedStatement, resolve_statement, resolve_tokens}
 use Rattle.hz_script.specs.ScriptFault.{resolved_statements, allowed_in, has_unknown, has_twice, has_no_bit, is_start, IsMissing, IsOutOfOrder, line_beyond, HasScriptFault, IsScriptFaultless}
-use Rattle.hz_text.specs.Rules.{assigned_nodes, least_unassigned, first_fault_of}
+use Rattle.hz_text.specs.Rules.{least_unassigned, first_fault_of}
 use Rattle.hz_script.specs.ScriptRules.{has_node_twice, least_missing, first_out_of_order, last_beyond, script_rules, first_script_fault}
-use Rattle.hz_text.proofs.BuildLemmas.{or_parts}
 use Rattle.hz_text.proofs.LeastFault.{unanswered, Outcome, answers_first, answers_itself, OneMismatch}
 use Rattle.hz_text.proofs.TextLaws.{Judged, looked-Ascends, answers_malformed, text-outcome, twice-line}
-use Rattle.hz_text.proofs.NodeLemmas.{marks_of, length-marks, get_or-marks}
 use Rattle.hz_text.proofs.PassLaws.{unassigned-Some, unassigned-None, true-false, known, twice-names}
 
 -- the statements that the reader reads are those of the text, looked up

@@ -1,22 +1,16 @@
 -- A printed script has no fault, and stands for the script.
-use Rattle.std.proofs.Common.{◌≡◌, ◌∙◌, ℕ, ◌+◌, ◌<◌, ◌≤◌, Bool, true, false, not, ◌||◌, cond, nat_eq, nat_le, ltb, List, [], ◌∷◌, Option, Some, None, zero, suc, length, get_or, map, codes, refl, ap, sym, subst, arith, zero-add}
-use Rattle.std.specs.List.{list_any, flat_map, position, range_with_len, All}
-use Rattle.std.specs.Option.{option_map, IsSome}
-use Rattle.std.specs.Str.{bytes_eq}
-use Rattle.std.proofs.lemmas.Bool.Decides.{nat_tests}
-use Rattle.std.proofs.lemmas.List.{same_lists, length-map, length-take-le, get_or-take, get_or_default}
+use Rattle.std.proofs.Common.{◌≡◌, ◌∙◌, ℕ, ◌+◌, ◌<◌, ◌≤◌, Bool, false, ◌||◌, cond, nat_eq, List, [], ◌∷◌, Some, None, suc, length, map, codes, refl, ap, sym, subst, arith}
+use Rattle.std.specs.List.{flat_map, All}
+use Rattle.std.specs.Option.{option_map}
+use Rattle.std.proofs.lemmas.List.{length-take-le, get_or-take}
 use Rattle.std.proofs.lemmas.List.Elements.{All-head, All-tail, All-weaker}
-use Rattle.std.proofs.lemmas.List.FromFn.{length-range_with_len, get_or-map-range_with_len}
-use Rattle.std.proofs.lemmas.List.Sums.{position_or_len_is}
-use Rattle.std.proofs.lemmas.Map.Keys.{apart_from_distinct}
 use Rattle.std.proofs.lemmas.Option.{slice_get_past}
-use Rattle.std.proofs.lemmas.Slice.Eq.{bytes_eq-Decides}
-use Rattle.hz_core.specs.Netlist.{Netlist, IsCircuit, node_named, primary_inputs, node_name}
+use Rattle.hz_core.specs.Netlist.{Netlist, IsCircuit, primary_inputs}
 use Rattle.hz_line.specs.Line.{lines_of}
 use Rattle.hz_line.specs.Statement.{Numbered, numbered_from, first_passing_line, first_malformed}
 use Rattle.hz_line.proofs.StatementLemmas.{first_malformed-map}
 use Rattle.hz_script.specs.Statement.{Keyword, Start, Change, script_statement_of}
-use Rattle.hz_text.specs.Assignment.{Assigned, has_repeat, bit_of, assigned_of, is_same_node, assigns, assigned_bit, assignment_to}
+use Rattle.hz_text.specs.Assignment.{Assigned, has_repeat, assignment_to}
 use Rattle.hz_script.specs.Resolution.{ResolvedStatement, resolve_statement, resolve_numbered}
 use Rattle.hz_script.specs.ScriptFault.{resolved_statements, has_unknown, has_no_bit, is_start, IsScriptFaultless}
 use Rattle.hz_script.specs.ScriptRules.{has_node_twice, first_out_of_order, last_beyond, first_script_fault}
@@ -24,14 +18,13 @@ use Rattle.hz_text.specs.Rules.{least_unassigned}
 use Rattle.hz_script.specs.ScriptValue.{ScriptOf}
 use Rattle.hz_text.specs.Bits.{IsChange}
 use Rattle.hz_script.specs.ScriptText.{IsScriptOf, IsScriptFor, IsValue}
-use Rattle.hz_text.specs.Printed.{letter_of, statement_text, listed_from}
+use Rattle.hz_text.specs.Printed.{statement_text, listed_from}
 use Rattle.hz_script.specs.ScriptPrinted.{script_text}
-use Rattle.hz_text.proofs.NodeLemmas.{marks_of, length-marks, get_or-marks}
 use Rattle.hz_text.proofs.BuildLemmas.{assigned_nodes-pairs, repeat_from_IsDistinct}
 use Rattle.hz_script.proofs.FaultLaws.{clear-faultless}
 use Rattle.hz_text.proofs.TextLaws.{first_passing_line-cons}
 use Rattle.hz_text.proofs.PrintLemmas.{listed-below}
-use Rattle.hz_text.proofs.WordLaws.{AreNodes, spelled}
+use Rattle.hz_text.proofs.WordLaws.{AreNodes}
 use Rattle.hz_script.proofs.StatementLines.{stated, numbered-statement, formed-statement}
 use Rattle.hz_text.proofs.ListedLaws.{assigned_back, start-known, all-bits, inputs-known, listed-fresh, listed-whole, listed-back}
 

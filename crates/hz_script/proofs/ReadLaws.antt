@@ -1,7 +1,7 @@
 -- What holds of a script in which the passes find no fault.
-use Rattle.std.proofs.Common.{◌≡◌, ◌∙◌, ℕ, ◌<◌, ◌≤◌, Bool, true, false, ◌||◌, cond, nat_eq, nat_le, List, [], ◌∷◌, Option, Some, None, length, get_or, map, refl, ap, sym, subst, inl, inr, arith, zero-add}
+use Rattle.std.proofs.Common.{◌≡◌, ◌∙◌, ℕ, ◌<◌, ◌≤◌, Bool, false, ◌||◌, nat_eq, nat_le, List, [], ◌∷◌, None, length, get_or, map, refl, ap, sym, subst, inl, inr, arith, zero-add}
 use Rattle.std.specs.List.{list_any, range_with_len, All}
-use Rattle.std.specs.Option.{option_map, option_or, IfSome, IsSome, IsSomeAnd, is_none}
+use Rattle.std.specs.Option.{option_map}
 use Rattle.std.proofs.lemmas.List.Elements.{All-nil, All-cons, All-head, All-tail}
 use Rattle.std.proofs.lemmas.List.{get_or-map, length-map, length-take-le, get_or-take}
 use Rattle.std.proofs.lemmas.List.FromFn.{length-range_with_len, get_or-map-range_with_len}
@@ -14,19 +14,18 @@ use Rattle.hz_line.specs.Statement.{Numbered, first_passing_line}
 use Rattle.hz_script.specs.Statement.{Keyword, Start, Change}
 use Rattle.hz_text.specs.declared.fault.TextFault.{TextFault}
 use Rattle.hz_text.specs.declared.fault.TextFault.TheVariants.{Unknown, Twice, Missing, Bit, Order, TooMany}
-use Rattle.hz_text.specs.Assignment.{Assigned, Allowed, Inputs, has_repeat, is_not_allowed, any_unknown, is_same_node, assigns, assigned_bit, assignment_to}
+use Rattle.hz_text.specs.Assignment.{Assigned, Inputs, has_repeat, is_not_allowed, any_unknown, assigned_bit, assignment_to}
 use Rattle.hz_script.specs.Resolution.{ScriptEntry, ResolvedStatement, keyword_by, resolve_tokens, resolution_of, numbered_resolution}
 use Rattle.hz_line.specs.Reading.{AreStatementsOf}
 use Rattle.hz_script.specs.ScriptFault.{resolved_statements, allowed_in, has_unknown, has_no_bit, is_start, is_start_word, HasScriptFault, IsScriptRefusal}
 use Rattle.hz_text.specs.Rules.{assigned_nodes, AreBelow, least_unassigned, first_fault_of, IsFaultOrMemory, IsChecked}
 use Rattle.hz_script.specs.ScriptRules.{has_node_twice, least_missing, first_out_of_order, last_beyond, script_rules, first_script_fault}
-use Rattle.hz_text.specs.Bits.{IsPair, IsChange}
+use Rattle.hz_text.specs.Bits.{IsChange}
 use Rattle.hz_script.specs.ScriptReading.{IsSound, IsAcceptedScript}
 use Rattle.hz_script.specs.ScriptValue.{ScriptOf}
 use Rattle.hz_script.specs.ScriptText.{IsScriptOf, IsScriptFor}
-use Rattle.hz_text.proofs.PassLaws.{known, unassigned-None, none_parts, All-from_first_line, pairs-sound, All-unmap, bit-some}
+use Rattle.hz_text.proofs.PassLaws.{unassigned-None, none_parts, All-from_first_line, pairs-sound, All-unmap, bit-some}
 use Rattle.hz_script.proofs.FaultLaws.{order-None, IsOrdered, resolved_statements-read, script-outcome}
-use Rattle.hz_text.proofs.TextLaws.{first_passing_line-cons}
 use Rattle.hz_text.proofs.LeastFault.{answered, unanswered, checked-none}
 use Rattle.hz_text.proofs.BuildLemmas.{or_parts, assigned_nodes-pairs, IsDistinct-from_repeat}
 

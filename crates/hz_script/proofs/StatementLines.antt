@@ -1,19 +1,15 @@
 -- The lines of a printed script are read as its statements.
-use Rattle.std.proofs.Common.{◌≡◌, ◌∙◌, ℕ, ◌<◌, Bool, true, false, List, [], ◌∷◌, ◌++◌, Some, suc, length, map, codes, refl, ap, arith, append_assoc}
-use Rattle.std.specs.List.{list_all, flat_map, All}
-use Rattle.std.specs.Option.{option_map}
+use Rattle.std.proofs.Common.{◌≡◌, ◌∙◌, ℕ, ◌<◌, Bool, true, List, [], ◌∷◌, ◌++◌, Some, suc, length, map, codes, refl, ap, arith, append_assoc}
+use Rattle.std.specs.List.{list_all, flat_map}
 use Rattle.std.proofs.lemmas.List.Folds.{list_all-append}
-use Rattle.std.proofs.lemmas.List.Elements.{All-head, All-tail}
-use Rattle.hz_core.specs.Netlist.{Netlist, IsName, IsCircuit, node_name, is_name_byte}
-use Rattle.hz_line.specs.declared.bytes.Punctuation.TheVariants.{Equals}
+use Rattle.hz_core.specs.Netlist.{Netlist, IsCircuit}
 use Rattle.hz_line.specs.Byte.{class_of, is_word_byte}
 use Rattle.hz_line.specs.Line.{lines_of}
-use Rattle.hz_line.specs.Token.{TokenOf, WordOf, PunctuationOf, tokens_of, with_token, begins_in_word}
+use Rattle.hz_line.specs.Token.{WordOf, tokens_of, with_token}
 use Rattle.hz_line.specs.Statement.{meaning_of, Means, numbered_from, with_meaning, first_malformed, malformed_before}
-use Rattle.hz_line.proofs.WrittenLemmas.{is_word_byte-is, word_bytes, tokens_of-equals, tokens_of-space, is_word_byte-separators, tokens_of-word_before, is_inline, lines_of-written}
+use Rattle.hz_line.proofs.WrittenLemmas.{tokens_of-word_before, is_inline, lines_of-written}
 use Rattle.hz_script.specs.Statement.{Keyword, Start, Change, ScriptStatement, keyword_of, script_statement_of}
-use Rattle.hz_text.specs.Assignment.{Assignment, assignments_of}
-use Rattle.hz_text.specs.Printed.{letter_of, assignment_text, statement_text}
+use Rattle.hz_text.specs.Printed.{assignment_text, statement_text}
 use Rattle.hz_text.proofs.WordLaws.{pair_tokens, AreNodes, no_word, pairs_read, pairs_inline, spelled, assignments_read}
 
 -- the keyword of a statement, spelled

@@ -1,14 +1,13 @@
 -- Assignments as pairs of a node and a bit, and the bits that they give.
-use Rattle.std.proofs.Common.{◌≡◌, ◌≢◌, ◌∙◌, ℕ, ◌+◌, ◌-◌, ◌<◌, Bool, true, false, ◌||◌, cond, nat_eq, List, [], ◌∷◌, ◌++◌, Option, Some, None, length, get_or, set, take, drop, map, replicate, refl, ap, sym, subst, inl, inr, arith, zero-add, take-append-drop}
+use Rattle.std.proofs.Common.{◌≡◌, ◌≢◌, ◌∙◌, ℕ, ◌+◌, ◌<◌, Bool, true, false, ◌||◌, cond, nat_eq, List, [], ◌∷◌, ◌++◌, Option, Some, None, length, get_or, set, take, drop, map, replicate, refl, ap, sym, inl, inr, arith, zero-add, take-append-drop}
 use Rattle.std.specs.List.{list_any, range_with_len, filter_map, cons_option, All, AllByRecursion, IsDistinct}
 use Rattle.std.specs.Option.{IsSome, IsSomeAnd, option_to_list}
 use Rattle.std.proofs.lemmas.Bool.{cases_eq}
 use Rattle.std.proofs.lemmas.Bool.Decides.{nat_tests}
-use Rattle.std.proofs.lemmas.List.{same_lists, get_or-set_same, get_or-set_other, length-set, length-map, length-replicate, get_or-replicate, take_more, map-append, length-take-le, take_all}
+use Rattle.std.proofs.lemmas.List.{same_lists, get_or-set_same, get_or-set_other, length-set, length-map, length-replicate, get_or-replicate, take_more, map-append}
 use Rattle.std.proofs.lemmas.List.Elements.{filter_map-append, All-head, All-tail, All-cons, All-nil}
 use Rattle.std.proofs.lemmas.List.FromFn.{get_or-map-range_with_len, length-range_with_len}
 use Rattle.hz_text.specs.Assignment.{Assigned, has_repeat, assigned_bit, assignment_to}
-use Rattle.hz_line.specs.Statement.{Numbered}
 use Rattle.hz_text.specs.Bits.{IsChange, ArePairs, assigned_bits, IsPair, pair_of}
 use Rattle.hz_text.specs.Rules.{assigned_nodes}
 use Rattle.hz_text.proofs.NodeLemmas.{has_repeat-push, has_repeat-append}

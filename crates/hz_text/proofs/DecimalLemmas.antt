@@ -1,19 +1,12 @@
 -- Decimal digits are read back.
-use Rattle.std.proofs.Common.{◌≡◌, ◌∙◌, ℕ, zero, suc, ◌<◌, ◌≤◌, ◌^◌, true, false, ◌==◌, nat_le, List, [], ◌∷◌, Some, length, get_or, refl, ap, arith, decimal, ◌+◌, ◌*◌, ◌-◌, Bool, ◌&&◌, ◌++◌, Option, None, take, drop, sym, fold, take-append-drop, cond}
+use Rattle.std.proofs.Common.{◌≡◌, ◌∙◌, ℕ, zero, suc, ◌<◌, ◌≤◌, ◌^◌, true, false, ◌==◌, nat_le, List, [], ◌∷◌, Some, length, get_or, refl, ap, arith, decimal, ◌+◌, ◌*◌, ◌-◌, ◌++◌, take, drop, sym, fold, take-append-drop}
 use Rattle.std.specs.List.{list_all}
 use Rattle.std.proofs.lemmas.Bool.Decides.{nat_tests}
 use Rattle.std.proofs.lemmas.Fmt.{decimal_is_IsNumeral, decimal_digit, first_decimal}
 use Rattle.std.proofs.lemmas.Str.Parse.{IsDigitsTest, FoldsDigits, IsNumeralModel, numerals_by_fold}
-use Rattle.hz_core.specs.Netlist.{is_name_byte, Netlist, IsCircuit, gate_at, node_named}
+use Rattle.hz_core.specs.Netlist.{is_name_byte}
 use Rattle.hz_line.proofs.WrittenLemmas.{both}
 use Rattle.hz_text.specs.Decimal.{is_digit, is_decimal, number_by, count_of}
-use Rattle.std.specs.Option.{IfSome}
-use Rattle.std.specs.Str.{bytes_eq}
-use Rattle.std.proofs.lemmas.List.Quantifiers.{position-Some}
-use Rattle.hz_core.proofs.CircuitLemmas.{most_pins-bound}
-use Rattle.hz_core.specs.declared.kind.Kind.TheVariants.{And}
-use Rattle.hz_net.specs.Variables.{first_wire}
-use Rattle.hz_core.specs.Limits.{most_gate_pins}
 
 -- the number that digits stand for after a number before them
 abbrev pub number_after : ℕ → List ℕ → ℕ

@@ -1,28 +1,20 @@
 -- What a start lists is read back.
-use Rattle.std.proofs.Common.{◌≡◌, ◌∙◌, ℕ, ◌+◌, ◌<◌, ◌≤◌, Bool, true, false, not, ◌||◌, cond, nat_eq, nat_le, ltb, List, [], ◌∷◌, Option, Some, None, zero, suc, length, get_or, map, codes, refl, ap, sym, subst, arith, zero-add}
-use Rattle.std.specs.List.{list_any, flat_map, position, range_with_len, All}
-use Rattle.std.specs.Option.{option_map, IsSome}
+use Rattle.std.proofs.Common.{◌≡◌, ◌∙◌, ℕ, ◌+◌, ◌<◌, Bool, true, false, not, ◌||◌, nat_eq, nat_le, ltb, List, [], ◌∷◌, Option, Some, None, zero, suc, length, get_or, map, refl, ap, sym, arith, zero-add}
+use Rattle.std.specs.List.{list_any, position, range_with_len, All}
+use Rattle.std.specs.Option.{IsSome}
 use Rattle.std.specs.Str.{bytes_eq}
 use Rattle.std.proofs.lemmas.Bool.Decides.{nat_tests}
-use Rattle.std.proofs.lemmas.List.{same_lists, length-map, length-take-le, get_or-take, get_or_default}
-use Rattle.std.proofs.lemmas.List.Elements.{All-head, All-tail, All-weaker}
+use Rattle.std.proofs.lemmas.List.{same_lists, length-map, get_or_default}
+use Rattle.std.proofs.lemmas.List.Elements.{All-head, All-tail}
 use Rattle.std.proofs.lemmas.List.FromFn.{length-range_with_len, get_or-map-range_with_len}
 use Rattle.std.proofs.lemmas.List.Sums.{position_or_len_is}
 use Rattle.std.proofs.lemmas.Map.Keys.{apart_from_distinct}
-use Rattle.std.proofs.lemmas.Option.{slice_get_past}
 use Rattle.std.proofs.lemmas.Slice.Eq.{bytes_eq-Decides}
-use Rattle.hz_core.specs.Netlist.{Netlist, IsCircuit, node_named, primary_inputs, node_name}
-use Rattle.hz_line.specs.Line.{lines_of}
-use Rattle.hz_line.specs.Statement.{Numbered, numbered_from, first_passing_line, first_malformed}
-use Rattle.hz_line.proofs.StatementLemmas.{first_malformed-map}
+use Rattle.hz_core.specs.Netlist.{Netlist, IsCircuit, node_named, node_name}
 use Rattle.hz_text.specs.Assignment.{Assigned, Nodes, Inputs, any_unknown, any_bitless, has_repeat, bit_of, assigned_of, is_same_node, assigns, assigned_bit, assignment_to}
 use Rattle.hz_text.specs.Rules.{least_unassigned}
-use Rattle.hz_text.specs.Bits.{IsChange}
-use Rattle.hz_text.specs.Printed.{letter_of, statement_text, listed_from}
+use Rattle.hz_text.specs.Printed.{letter_of, listed_from}
 use Rattle.hz_text.proofs.NodeLemmas.{marks_of, length-marks, get_or-marks}
-use Rattle.hz_text.proofs.BuildLemmas.{assigned_nodes-pairs, repeat_from_IsDistinct}
-use Rattle.hz_text.proofs.TextLaws.{first_passing_line-cons}
-use Rattle.hz_text.proofs.PrintLemmas.{listed-below}
 use Rattle.hz_text.proofs.WordLaws.{AreNodes, spelled}
 
 bytes_eq-flip : (a b : List ℕ) → bytes_eq a b ≡ false → bytes_eq b a ≡ false

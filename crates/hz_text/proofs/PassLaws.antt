@@ -1,32 +1,25 @@
 -- What the passes over assignments answer, and what holds of assignments in which they find nothing.
-use Rattle.std.proofs.Common.{◌≡◌, ◌∙◌, ℕ, ◌+◌, ◌<◌, ◌≤◌, Bool, true, false, not, ◌||◌, cond, nat_eq, List, [], ◌∷◌, Option, Some, None, zero, suc, length, get_or, map, filter, refl, ap, sym, subst, inl, inr, arith, ltb, nat_le, zero-add}
-use Rattle.std.specs.List.{list_any, position, position_or_len, range_with_len, All}
+use Rattle.std.proofs.Common.{◌≡◌, ◌∙◌, ℕ, ◌+◌, ◌<◌, ◌≤◌, Bool, true, false, not, ◌||◌, cond, nat_eq, List, [], ◌∷◌, Option, Some, None, zero, suc, length, get_or, map, refl, ap, sym, subst, inl, inr, arith, ltb}
+use Rattle.std.specs.List.{list_any, position, position_or_len, All}
 use Rattle.std.specs.Str.{bytes_eq}
 use Rattle.std.proofs.lemmas.List.Quantifiers.{position-Some}
 use Rattle.std.proofs.lemmas.Slice.Eq.{bytes_eq-Decides}
 use Rattle.std.proofs.lemmas.Bool.Decides.{nat_tests}
 use Rattle.std.proofs.lemmas.Bool.{cases_lt, ltb-false}
 use Rattle.std.specs.Prelude.{◌⊎◌}
-use Rattle.std.proofs.lemmas.Option.{same_Some, none-some, slice_get-get_or}
-use Rattle.hz_core.specs.Netlist.{Netlist, node_named, primary_inputs, node_name, IsCircuit}
-use Rattle.hz_lists.specs.Least.{IsLeastOf}
-use Rattle.hz_line.specs.Line.{lines_of}
-use Rattle.hz_line.specs.Statement.{Numbered, PassesOn, first_passing_line, numbered_statements, first_malformed}
-use Rattle.hz_line.proofs.StatementLemmas.{Ascends, numbered_from-Ascends, PassesOn-above, first_passing_line-Some, first_passing_line-None, numbered_from-map}
-use Rattle.hz_text.specs.Assignment.{Assigned, Allowed, Assignment, has_repeat, assigned_of, is_not_allowed, assigns, Inputs, any_unknown, is_same_node, assigned_bit, assignment_to}
-use Rattle.hz_text.specs.Rules.{assigned_nodes, least_unassigned, first_fault_of, AreBelow, IsFaultOrMemory, IsChecked}
-use Rattle.hz_text.proofs.BuildLemmas.{or_parts, assigned_nodes-pairs, IsDistinct-from_repeat}
-use Rattle.hz_text.proofs.LeastFault.{unanswered, Outcome, answers_first, answers_itself, OneMismatch, answered, checked-none}
-use Rattle.hz_text.proofs.TextLaws.{Judged, looked-Ascends, answers_malformed, text-outcome, twice-line, first_passing_line-cons}
+use Rattle.std.proofs.lemmas.Option.{same_Some}
+use Rattle.hz_core.specs.Netlist.{Netlist, node_named, node_name}
+use Rattle.hz_line.specs.Statement.{Numbered, first_passing_line}
+use Rattle.hz_text.specs.Assignment.{Assigned, Allowed, Assignment, has_repeat, assigned_of, is_not_allowed, assigns, is_same_node, assigned_bit}
+use Rattle.hz_text.specs.Rules.{assigned_nodes, least_unassigned, AreBelow}
+use Rattle.hz_text.proofs.BuildLemmas.{or_parts}
+use Rattle.hz_text.proofs.TextLaws.{first_passing_line-cons}
 use Rattle.hz_text.proofs.NodeLemmas.{marks_of, length-marks, get_or-marks}
 use Rattle.std.specs.Option.{option_map, option_or, IfSome, IsSome, IsSomeAnd, is_none}
 use Rattle.std.proofs.lemmas.List.Elements.{All-nil, All-cons, All-head, All-tail}
-use Rattle.std.proofs.lemmas.List.{get_or-map, length-map, length-take-le, get_or-take}
-use Rattle.std.proofs.lemmas.List.FromFn.{length-range_with_len, get_or-map-range_with_len}
+use Rattle.std.proofs.lemmas.List.{get_or-map, length-map}
 use Rattle.hz_text.specs.declared.fault.TextFault.{TextFault}
-use Rattle.hz_text.specs.declared.fault.TextFault.TheVariants.{Unknown, Twice, Missing, Bit, Order, TooMany}
-use Rattle.hz_line.specs.Reading.{AreStatementsOf}
-use Rattle.hz_text.specs.Bits.{IsPair, IsChange}
+use Rattle.hz_text.specs.Bits.{IsPair}
 
 -- the first input that is not assigned
 pub record IsLeastUnassigned (inputs : ℕ) (all : List Assigned) (node : ℕ) : Type 0 where

@@ -1,5 +1,5 @@
 -- The tokens of printed assignments.
-use Rattle.std.proofs.Common.{◌≡◌, ◌∙◌, ℕ, ◌<◌, Bool, true, false, List, [], ◌∷◌, ◌++◌, Some, suc, length, map, codes, refl, ap, arith, append_assoc}
+use Rattle.std.proofs.Common.{◌≡◌, ◌∙◌, ℕ, ◌<◌, Bool, true, false, List, [], ◌∷◌, ◌++◌, Some, length, map, refl, ap, arith, append_assoc}
 use Rattle.std.specs.List.{list_all, flat_map, All}
 use Rattle.std.specs.Option.{option_map}
 use Rattle.std.proofs.lemmas.List.Folds.{list_all-append}
@@ -7,12 +7,10 @@ use Rattle.std.proofs.lemmas.List.Elements.{All-head, All-tail}
 use Rattle.hz_core.specs.Netlist.{Netlist, IsName, IsCircuit, node_name, is_name_byte}
 use Rattle.hz_line.specs.declared.bytes.Punctuation.TheVariants.{Equals}
 use Rattle.hz_line.specs.Byte.{class_of, is_word_byte}
-use Rattle.hz_line.specs.Line.{lines_of}
 use Rattle.hz_line.specs.Token.{TokenOf, WordOf, PunctuationOf, tokens_of, with_token, begins_in_word}
-use Rattle.hz_line.specs.Statement.{meaning_of, Means, numbered_from, with_meaning, first_malformed, malformed_before}
-use Rattle.hz_line.proofs.WrittenLemmas.{is_word_byte-is, word_bytes, tokens_of-equals, tokens_of-space, is_word_byte-separators, tokens_of-word_before, is_inline, lines_of-written}
+use Rattle.hz_line.proofs.WrittenLemmas.{is_word_byte-is, word_bytes, tokens_of-equals, tokens_of-space, is_word_byte-separators, tokens_of-word_before, is_inline}
 use Rattle.hz_text.specs.Assignment.{Assignment, assignments_of}
-use Rattle.hz_text.specs.Printed.{letter_of, assignment_text, statement_text}
+use Rattle.hz_text.specs.Printed.{letter_of, assignment_text}
 
 letter_word : (bit : Bool) → (list_all is_word_byte (letter_of bit ∷ []) ≡ true) × (is_inline (letter_of bit) ≡ true)
 unfolding class_of

@@ -1,5 +1,4 @@
-use Rattle.std.proofs.Common.{◌≡◌, ◌∙◌, ap}
-use Rattle.hz_run_text.specs.RunStatement.{Step}
+use Rattle.std.proofs.Common.{◌≡◌, ◌∙◌}
 use Rattle.hz_run_text.proofs.RunBuildLaws.{all_known}
 use Rattle.hz_run_text.proofs.build.add_step.Goals as goal
 
