@@ -1,19 +1,18 @@
 //! Printing run texts.
 
-ghost use Rattle.std.specs.Prelude.{◌≡◌, ◌+◌, ◌<◌, ◌≤◌, ◌∷◌, ◌++◌, [], length, All, IfOk, codes, decimal};
+ghost use Rattle.std.specs.Prelude.{◌≡◌, ◌<◌, ◌≤◌, ◌∷◌, [], length, All, IfOk, codes};
 ghost use Rattle.std.specs.List.{flat_map};
 ghost use Rattle.std.specs.Option.{option_map};
-ghost use Rattle.hz_core.specs.Netlist.{IsCircuit, node_name};
+ghost use Rattle.hz_core.specs.Netlist.{IsCircuit};
 ghost use Rattle.hz_net.specs.Network.{IsVariable};
 ghost use Rattle.hz_write.specs.Writer.{Writes, NoneWaits};
 ghost use Rattle.hz_write.specs.Writes.{Wrote};
 ghost use Rattle.hz_run_text.specs.RunFault.{IsRunFaultless};
-ghost use Rattle.hz_text.specs.VariableWord.{spaced_word, variable_word};
+ghost use Rattle.hz_text.specs.VariableWord.{spaced_word};
 ghost use Rattle.hz_run_text.specs.RunPrinted.{step_text, cycle_text, run_text, net_line, format_text, states_text, run_text_printed};
 ghost use Rattle.hz_run_text.specs.RunText.{IsRunTextFor, IsRunValue};
 ghost use Rattle.hz_run_text.specs.RunValue.{all_steps};
 ghost use Rattle.hz_text.specs.RunParts.{cycle_steps};
-ghost use Rattle.hz_core.specs.Limits.{most_gate_pins};
 
 use crate::size::{Size, size_of};
 use crate::text::RunText;

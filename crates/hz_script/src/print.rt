@@ -1,6 +1,6 @@
 //! Printing scripts.
 
-ghost use Rattle.std.specs.Prelude.{◌≡◌, ◌<◌, length, IfOk, codes};
+ghost use Rattle.std.specs.Prelude.{◌≡◌, ◌<◌, length, All, IfOk, codes};
 ghost use Rattle.std.specs.List.{flat_map};
 ghost use Rattle.hz_core.specs.Netlist.{IsCircuit};
 ghost use Rattle.hz_write.specs.Writer.{Writes, NoneWaits};

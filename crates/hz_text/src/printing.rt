@@ -1,9 +1,9 @@
 //! Printing what all texts share: assignments, and statements of assignments.
-ghost use Rattle.std.specs.Prelude.{◌≡◌, ◌<◌, ◌≤◌, ◌∷◌, [], length, All};
+ghost use Rattle.std.specs.Prelude.{◌<◌, ◌≤◌, length, All};
 ghost use Rattle.std.specs.List.{flat_map};
 ghost use Rattle.hz_core.specs.Netlist.{IsCircuit};
 ghost use Rattle.hz_write.specs.Writer.{Writes, NoneWaits};
-ghost use Rattle.hz_text.specs.Printed.{letter_of, assignment_text, statement_text, listed_from, all_listed};
+ghost use Rattle.hz_text.specs.Printed.{assignment_text, statement_text, listed_from, all_listed};
 
 use hz_core::Circuit;
 use hz_outside::Sink;
