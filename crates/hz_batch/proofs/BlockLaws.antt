@@ -4,7 +4,7 @@ use Rattle.std.specs.Prelude.{◌⊎◌}
 use Rattle.std.proofs.lemmas.Bool.{cases_lt}
 use Rattle.std.proofs.lemmas.List.{length-drop, take_all, take_at, take-append-drop, take-take, drop-take}
 use Rattle.hz_core.specs.Netlist.{Netlist}
-use Rattle.hz_text.specs.PatternValue.{PatternsOf}
+use Rattle.hz_pattern_text.specs.PatternValue.{PatternsOf}
 use Rattle.hz_plane.specs.declared.stage.Stage.TheVariants.{Settled as AllSettled}
 use Rattle.hz_plane.specs.View.{Seen, AreOf}
 use Rattle.hz_batch.specs.Blocks.{block_count, block_of, lanes_with, planes_after}

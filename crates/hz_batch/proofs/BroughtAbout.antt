@@ -10,8 +10,8 @@ use Rattle.hz_net.specs.TernaryStarts.{SettlesTo, unknown_start}
 use Rattle.hz_plane.specs.Lanes.{IsFilledStart}
 use Rattle.hz_plane.specs.Loads.{listed_with}
 use Rattle.hz_reset.specs.Values.{HoldsGates, SettlesAlong}
-use Rattle.hz_text.specs.PatternText.{ArePatternsFor, IsPatternOf}
-use Rattle.hz_text.specs.PatternValue.{PatternOf, PatternsOf}
+use Rattle.hz_pattern_text.specs.PatternText.{ArePatternsFor, IsPatternOf}
+use Rattle.hz_pattern_text.specs.PatternValue.{PatternOf, PatternsOf}
 use Rattle.hz_text.specs.Printed.{listed_from}
 use Rattle.hz_batch.specs.Blocks.{no_gate, without_held}
 use Rattle.hz_batch.specs.Laws.{AreLaws}

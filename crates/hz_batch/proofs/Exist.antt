@@ -12,8 +12,8 @@ use Rattle.hz_net.specs.Passes.{algorithm_a, algorithm_b, IsResult}
 use Rattle.hz_net.specs.Starts.{ListsInputs, IsAcceptedStart}
 use Rattle.hz_pass.specs.Decided.{StartsAreDecided, HasOpenNode, HasUnstableGate, GivesStart}
 use Rattle.hz_net.specs.PassEnds.{ResultOfAExists, ResultOfBExists}
-use Rattle.hz_text.specs.PatternText.{ArePatternsFor, IsPatternOf}
-use Rattle.hz_text.specs.PatternValue.{PatternOf, PatternsOf}
+use Rattle.hz_pattern_text.specs.PatternText.{ArePatternsFor, IsPatternOf}
+use Rattle.hz_pattern_text.specs.PatternValue.{PatternOf, PatternsOf}
 use Rattle.hz_write.specs.declared.writer.Writer.{Writer}
 use Rattle.hz_write.specs.Writer.{Writes, has_failed}
 use Rattle.hz_write.proofs.Writers.{writes_then, writes_failed}

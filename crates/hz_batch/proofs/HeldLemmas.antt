@@ -4,8 +4,8 @@ use Rattle.std.proofs.lemmas.List.{length-append, length-map, length-take-le, se
 use Rattle.std.proofs.lemmas.List.{length-drop, length-replicate, take-replicate}
 use Rattle.std.proofs.lemmas.List.Elements.{All-nil, All-cons, All-head, All-tail, All-weaker, All-same, All-replicate}
 use Rattle.hz_core.specs.Netlist.{Netlist, IsCircuit, IsGateNumber}
-use Rattle.hz_text.specs.PatternText.{ArePatternsFor}
-use Rattle.hz_text.specs.PatternValue.{PatternOf, PatternsOf}
+use Rattle.hz_pattern_text.specs.PatternText.{ArePatternsFor}
+use Rattle.hz_pattern_text.specs.PatternValue.{PatternOf, PatternsOf}
 use Rattle.hz_text.specs.Printed.{listed_from}
 use Rattle.hz_plane.specs.Loads.{held_at, listed_with}
 use Rattle.hz_batch.specs.declared.job.Job.{Job}

@@ -5,7 +5,7 @@ use Rattle.std.proofs.lemmas.List.Sums.{sum_by-append, count_by-le-length}
 use Rattle.hz_core.specs.Ternary.{is_unknown}
 use Rattle.hz_outside.specs.WrittenText.{Output}
 use Rattle.hz_core.specs.Netlist.{Netlist}
-use Rattle.hz_text.specs.PatternValue.{PatternOf}
+use Rattle.hz_pattern_text.specs.PatternValue.{PatternOf}
 use Rattle.hz_write.specs.declared.writer.Writer.{Writer}
 use Rattle.hz_write.specs.Writer.{Writes}
 use Rattle.hz_write.proofs.Writers.{writes_then, writes_nothing}

@@ -7,10 +7,10 @@ use Rattle.std.proofs.lemmas.List.Elements.{All-head, All-tail, All-take, All-dr
 use Rattle.std.proofs.lemmas.List.{length-append, length-map, length-drop, length-take-le, get_or_append_left, get_or-map, get_or-take}
 use Rattle.std.proofs.lemmas.Option.{slice_get-get_or}
 use Rattle.hz_core.specs.Netlist.{Netlist, IsCircuit}
-use Rattle.hz_text.specs.PatternText.{ArePatternsFor, IsPatternOf}
-use Rattle.hz_text.specs.PatternValue.{PatternOf, PatternsOf, bits_of_pattern}
+use Rattle.hz_pattern_text.specs.PatternText.{ArePatternsFor, IsPatternOf}
+use Rattle.hz_pattern_text.specs.PatternValue.{PatternOf, PatternsOf, bits_of_pattern}
 use Rattle.hz_text.specs.Printed.{listed_from}
-use Rattle.hz_text.proofs.PatternBuildLaws.{cut}
+use Rattle.hz_pattern_text.proofs.PatternBuildLaws.{cut}
 use Rattle.hz_plane.specs.Loads.{Loaded, loads_in, block_loads}
 use Rattle.hz_batch.specs.Blocks.{load_of, lanes_with}
 use Rattle.hz_batch.proofs.HeldLemmas.{listing-loaded}

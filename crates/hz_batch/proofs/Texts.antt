@@ -5,7 +5,7 @@ use Rattle.hz_outside.specs.WrittenText.{Output}
 use Rattle.hz_outside.proofs.WrittenLemmas.{TookPrefix-nothing}
 use Rattle.hz_outside.specs.declared.fault.PutFault.TheVariants.{Memory}
 use Rattle.hz_core.specs.Netlist.{Netlist, IsCircuit}
-use Rattle.hz_text.specs.PatternValue.{PatternsOf}
+use Rattle.hz_pattern_text.specs.PatternValue.{PatternsOf}
 use Rattle.hz_write.specs.declared.writer.Writer.{Writer}
 use Rattle.hz_write.specs.Writer.{Writes, has_failed}
 use Rattle.hz_write.specs.Writes.{Stops}

@@ -4,7 +4,7 @@ use Rattle.std.specs.List.{list_any}
 use Rattle.hz_core.specs.Ternary.{is_unknown}
 use Rattle.hz_core.specs.Netlist.{Netlist, node_name}
 use Rattle.hz_write.specs.Writes.{line_of}
-use Rattle.hz_text.specs.PatternValue.{PatternsOf}
+use Rattle.hz_pattern_text.specs.PatternValue.{PatternsOf}
 use Rattle.hz_batch.specs.Outputs.{outputs_line, output_values}
 use Rattle.hz_batch.specs.PatternEnd.{PatternEnd, Open, Unstable, Settled, ArePatternEnds}
 

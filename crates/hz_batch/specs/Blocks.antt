@@ -1,6 +1,6 @@
 -- Patterns in blocks of 512, and what is left in the planes.
 use Rattle.std.specs.Prelude.{ℕ, zero, suc, ◌+◌, ◌-◌, ◌*◌, ◌/◌, ◌^◌, Bool, Option, Some, None, List, ◌++◌, length, map, take, drop, replicate, min}
-use Rattle.hz_text.specs.PatternValue.{PatternOf, PatternsOf}
+use Rattle.hz_pattern_text.specs.PatternValue.{PatternOf, PatternsOf}
 use Rattle.hz_plane.specs.declared.stage.Stage.TheVariants.{Settled as AllSettled}
 use Rattle.hz_plane.specs.Loads.{Loaded}
 use Rattle.hz_plane.specs.View.{Seen}

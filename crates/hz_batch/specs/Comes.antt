@@ -1,7 +1,7 @@
 -- What a pattern comes to, by what is done with it.
 use Rattle.std.specs.Prelude.{ℕ, Bool, Option, List, length, count_by}
 use Rattle.hz_core.specs.Netlist.{Netlist}
-use Rattle.hz_text.specs.PatternValue.{PatternOf, PatternsOf}
+use Rattle.hz_pattern_text.specs.PatternValue.{PatternOf, PatternsOf}
 use Rattle.hz_plane.specs.declared.stage.Stage.{Stage}
 use Rattle.hz_plane.specs.declared.stage.Stage.TheVariants.{Completed, Spread}
 use Rattle.hz_batch.specs.declared.job.Job.{Job}

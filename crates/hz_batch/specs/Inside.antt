@@ -1,7 +1,7 @@
 -- What a block is made of, and what is used anew for each.
 use Rattle.std.specs.Prelude.{◌≡◌}
 use Rattle.hz_core.specs.Netlist.{Netlist}
-use Rattle.hz_text.specs.PatternText.{ArePatternsFor}
+use Rattle.hz_pattern_text.specs.PatternText.{ArePatternsFor}
 use Rattle.hz_text.specs.Printed.{listed_from}
 use Rattle.hz_batch.specs.declared.blocks.Work.{Work}
 use Rattle.hz_batch.specs.declared.blocks.Room.{Room}

@@ -5,7 +5,7 @@ use Rattle.hz_core.specs.Netlist.{Netlist}
 use Rattle.hz_net.specs.Network.{network_of}
 use Rattle.hz_net.specs.Passes.{algorithm_a, algorithm_b, IsResult}
 use Rattle.hz_net.specs.Starts.{IsAcceptedStart, IsLeastOpen, IsLeastUnstable}
-use Rattle.hz_text.specs.PatternValue.{PatternOf}
+use Rattle.hz_pattern_text.specs.PatternValue.{PatternOf}
 use Rattle.hz_batch.specs.Each.{AreEach}
 
 -- The start of a pattern is refused for its least open node, or if no node is open for its least unstable gate. Otherwise there

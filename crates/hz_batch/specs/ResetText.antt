@@ -8,7 +8,7 @@ use Rattle.hz_net.specs.Network.{network_of}
 use Rattle.hz_net.specs.TernaryStarts.{unknown_start}
 use Rattle.hz_reset.specs.Values.{SettlesAlong}
 use Rattle.hz_write.specs.Writes.{line_of}
-use Rattle.hz_text.specs.PatternValue.{PatternOf, PatternsOf}
+use Rattle.hz_pattern_text.specs.PatternValue.{PatternOf, PatternsOf}
 use Rattle.hz_batch.specs.Outputs.{outputs_line, output_values}
 use Rattle.hz_batch.specs.Each.{AreEach}
 

@@ -23,7 +23,7 @@ use crate::outputs::OutputLine;
 use hz_net::Net;
 use hz_outside::Sink;
 use hz_plane::{LaneValues, Planes};
-use hz_text::Patterns;
+use hz_pattern_text::Patterns;
 use hz_write::Writer;
 
 /// How many patterns a block has.

@@ -1,7 +1,7 @@
 //! All patterns, and the last line.
 ghost use Rattle.std.specs.Prelude.{◌≡◌, ◌≤◌, ℕ, List, false, length, IfOk, OnOk};
 ghost use Rattle.hz_plane.specs.View.{AreOf};
-ghost use Rattle.hz_text.specs.PatternText.{ArePatternsFor};
+ghost use Rattle.hz_pattern_text.specs.PatternText.{ArePatternsFor};
 ghost use Rattle.hz_write.specs.Writer.{Writes, has_failed};
 ghost use Rattle.hz_write.specs.Writes.{Wrote};
 ghost use Rattle.hz_batch.specs.Answer.{WroteBatch};
@@ -27,7 +27,7 @@ use hz_outside::{PutFault, Sink};
 use hz_pass::starts_are_decided;
 use hz_plane::{Planes, listed_inputs_fill};
 use hz_reset::{held_is_forgotten, values_exist};
-use hz_text::Patterns;
+use hz_pattern_text::Patterns;
 use hz_write::Writer;
 use std::alloc::Global;
 

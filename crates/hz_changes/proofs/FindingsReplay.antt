@@ -12,8 +12,8 @@ use Rattle.hz_net.proofs.Places.{length-network_of}
 use Rattle.hz_gmw.specs.Runs.{end_of}
 use Rattle.hz_gmw.specs.RunRecord.{flip_count}
 use Rattle.hz_reach.specs.Counts.{StepsAreNoMoreThanFlips}
-use Rattle.hz_text.specs.RunReadBack.{PrintedRunsAreRead}
-use Rattle.hz_text.specs.RunValue.{all_steps}
+use Rattle.hz_run_text.specs.RunReadBack.{PrintedRunsAreRead}
+use Rattle.hz_run_text.specs.RunValue.{all_steps}
 use Rattle.hz_desk.specs.declared.finding.Row.{Row}
 use Rattle.hz_desk.specs.Finding.{FindingOf, values_a, values_b}
 use Rattle.hz_seq.specs.Sequence.{changed_input, IsFindingOfChange}
@@ -24,7 +24,7 @@ use Rattle.hz_report.specs.Report.{runs_of_finding}
 use Rattle.hz_replay.specs.Replaying.{IsAcceptedRun, start_of}
 use Rattle.hz_changes.specs.Reports.{AnalysisReplays}
 use Rattle.hz_changes.proofs.Writable.{fits}
-use Rattle.hz_text.specs.Limits.{most_steps}
+use Rattle.hz_run_text.specs.Limits.{most_steps}
 use Rattle.hz_core.specs.Limits.{most_variables}
 use Rattle.hz_replay.proofs.ReadBack.{stable-expansion_of, accepted-replays}
 

@@ -19,8 +19,8 @@ use Rattle.hz_seq.proofs.Existence.{settled-or-unknown}
 use Rattle.hz_refusal.specs.declared.status.Status.{Status}
 use Rattle.hz_refusal.specs.declared.status.Status.TheVariants as status
 use Rattle.hz_split.specs.Attempts.{outcome_of}
-use Rattle.hz_text.specs.RunPrinted.{states_text, run_text, run_text_printed}
-use Rattle.hz_text.specs.RunValue.{RunOf}
+use Rattle.hz_run_text.specs.RunPrinted.{states_text, run_text, run_text_printed}
+use Rattle.hz_text.specs.RunParts.{RunOf}
 use Rattle.hz_write.specs.Writes.{line_of}
 use Rattle.hz_changes.specs.Splits.{closed, change_line, is_unsettled, changes_text, split_text, found_in, AreSplits, SplitsChange, SplitsChanges}
 use Rattle.hz_changes.proofs.Writable.{first-inside}

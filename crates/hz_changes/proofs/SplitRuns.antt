@@ -12,7 +12,7 @@ use Rattle.hz_desk.specs.RightFinding.{IsRightFinding}
 use Rattle.hz_seq.specs.Sequence.{IsFindingOfChange, changed_input}
 use Rattle.hz_split.specs.Splits.{IsSettledRun, AreSettledRuns}
 use Rattle.hz_split.proofs.OutcomeRuns.{stable-cycle}
-use Rattle.hz_text.specs.RunReadBack.{PrintedRunsAreRead}
+use Rattle.hz_run_text.specs.RunReadBack.{PrintedRunsAreRead}
 use Rattle.hz_replay.specs.Replaying.{IsAcceptedRun, start_of}
 use Rattle.hz_changes.specs.declared.splitting.Unsettled.{Unsettled}
 use Rattle.hz_changes.specs.Splits.{closed, found_in, is_unsettled, runs_of_split, IsSplitOf}

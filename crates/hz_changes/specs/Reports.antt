@@ -3,7 +3,7 @@ use Rattle.std.specs.Prelude.{◌≡◌, ℕ, ◌+◌, Bool, List, [], ◌∷◌
 use Rattle.hz_core.specs.Netlist.{Netlist}
 use Rattle.hz_net.specs.Network.{network_of}
 use Rattle.hz_free.specs.Feedback.{AreFeedbackCycles}
-use Rattle.hz_text.specs.RunPrinted.{run_text_printed}
+use Rattle.hz_run_text.specs.RunPrinted.{run_text_printed}
 use Rattle.hz_seq.specs.Analyses.{Analysis, Found, Stopped, AreAnalyses}
 use Rattle.hz_options.specs.declared.options.Options.{Options}
 use Rattle.hz_options.specs.declared.show.Show.{Show}

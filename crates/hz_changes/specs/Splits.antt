@@ -11,9 +11,10 @@ use Rattle.hz_split.specs.Attempts.{runs_found, outcome_of}
 use Rattle.hz_split.specs.Splits.{AreSettledRuns}
 use Rattle.hz_split.specs.declared.outcome.Outcome.{Outcome}
 use Rattle.hz_split.specs.declared.outcome.Outcome.TheVariants.{Nowhere, OneState, Critical}
-use Rattle.hz_text.specs.Limits.{most_steps}
-use Rattle.hz_text.specs.RunPrinted.{run_text_printed}
-use Rattle.hz_text.specs.RunValue.{RunOf, RunTextOf, all_steps}
+use Rattle.hz_run_text.specs.Limits.{most_steps}
+use Rattle.hz_run_text.specs.RunPrinted.{run_text_printed}
+use Rattle.hz_text.specs.RunParts.{RunOf}
+use Rattle.hz_run_text.specs.RunValue.{RunTextOf, all_steps}
 use Rattle.hz_write.specs.Writes.{line_of}
 use Rattle.hz_refusal.specs.declared.status.Status.{Status}
 use Rattle.hz_refusal.specs.declared.status.Status.TheVariants as status

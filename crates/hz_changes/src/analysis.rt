@@ -7,7 +7,7 @@ use hz_options::Options;
 use hz_outside::Sink;
 use hz_pass::complete;
 use hz_refusal::{OnScript, Status, refuse_start};
-use hz_text::Script;
+use hz_script::Script;
 use std::alloc::Global;
 
 /// The job `analyse`, with these options.

@@ -5,7 +5,7 @@ ghost use Rattle.hz_net.specs.Starts.{IsStableStart};
 ghost use Rattle.hz_options.specs.Numbers.{IsCap, IsDemoNumber};
 ghost use Rattle.hz_desk.specs.Finding.{finding_of};
 ghost use Rattle.hz_report.specs.Report.{summary_text};
-ghost use Rattle.hz_text.specs.ScriptText.{IsScriptFor};
+ghost use Rattle.hz_script.specs.ScriptText.{IsScriptFor};
 ghost use Rattle.hz_write.specs.Writes.{Wrote};
 ghost use Rattle.hz_refusal.specs.Ends.{Ends};
 ghost use Rattle.hz_changes.specs.Demos.{IsDemoOutcome, IsSummaryOutcome};
@@ -18,7 +18,7 @@ use hz_pass::complete;
 use hz_refusal::{Status, refuse_start, status_after};
 use hz_report::write_summary;
 use hz_seq::Sequence;
-use hz_text::Script;
+use hz_script::Script;
 use hz_write::Writer;
 use std::alloc::Global;
 

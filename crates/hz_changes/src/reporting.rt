@@ -3,7 +3,7 @@ ghost use Rattle.std.specs.Prelude.{◌≡◌, ◌<◌, ℕ, List, None, All, If
 ghost use Rattle.hz_core.specs.Netlist.{IsCircuit};
 ghost use Rattle.hz_net.specs.Network.{IsVariable};
 ghost use Rattle.hz_net.specs.Starts.{IsStableStart};
-ghost use Rattle.hz_text.specs.ScriptText.{IsScriptFor};
+ghost use Rattle.hz_script.specs.ScriptText.{IsScriptFor};
 ghost use Rattle.hz_write.specs.Writer.{Writes, NoneWaits};
 ghost use Rattle.hz_write.specs.Writes.{Wrote};
 ghost use Rattle.hz_seq.specs.Analyses.{Analysis, AreAnalyses, GoesOn};
@@ -19,7 +19,8 @@ use hz_reach::run_counts;
 use hz_refusal::{Status, status_after};
 use hz_report::{Plate, write_change, write_head, write_stopped};
 use hz_seq::Sequence;
-use hz_text::{Script, printed_runs_are_read};
+use hz_run_text::printed_runs_are_read;
+use hz_script::Script;
 use hz_write::Writer;
 use std::alloc::Global;
 

@@ -5,7 +5,7 @@ use Rattle.std.proofs.lemmas.List.Elements.{All-nil, All-cons, All-append}
 use Rattle.hz_core.specs.declared.kind.Kind.{Kind}
 use Rattle.hz_core.specs.declared.kind.Kind.TheVariants.{And, Or, Not}
 use Rattle.hz_core.specs.Netlist.{Gate, IsWhole, has_output, variable_count}
-use Rattle.hz_text.specs.ScriptText.{IsScriptFor}
+use Rattle.hz_script.specs.ScriptText.{IsScriptFor}
 use Rattle.hz_gen.specs.Demo.{demo_netlist, demo_script}
 use Rattle.hz_gen.specs.BuiltDemo.{ring_gates, buffer_gate, multiplexer_gates, last_gate}
 use Rattle.hz_gen.proofs.Counts.{length-chain_names, count-chain}

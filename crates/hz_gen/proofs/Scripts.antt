@@ -5,8 +5,9 @@ use Rattle.std.specs.Option.{IsSome}
 use Rattle.std.proofs.Math.ListN.{length-set}
 use Rattle.std.proofs.lemmas.List.{length-replicate}
 use Rattle.std.proofs.lemmas.List.Elements.{All-nil, All-cons}
-use Rattle.hz_text.specs.ScriptValue.{ScriptOf, IsChange}
-use Rattle.hz_text.specs.ScriptText.{IsScriptFor}
+use Rattle.hz_script.specs.ScriptValue.{ScriptOf}
+use Rattle.hz_text.specs.Bits.{IsChange}
+use Rattle.hz_script.specs.ScriptText.{IsScriptFor}
 use Rattle.hz_gen.specs.Demo.{r_name, node_in, with_listed, demo_script}
 use Rattle.hz_gen.specs.BuiltDemo.{chain_netlist}
 use Rattle.hz_gen.proofs.Counts.{length-chain_names}

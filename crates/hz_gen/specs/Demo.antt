@@ -5,7 +5,7 @@ use Rattle.std.specs.Str.{bytes_eq}
 use Rattle.hz_core.specs.declared.kind.Kind.{Kind}
 use Rattle.hz_core.specs.declared.kind.Kind.TheVariants.{And, Or, Not, Buff}
 use Rattle.hz_core.specs.Netlist.{Gate, Netlist, empty_netlist}
-use Rattle.hz_text.specs.ScriptValue.{ScriptOf}
+use Rattle.hz_script.specs.ScriptValue.{ScriptOf}
 
 -- a gate's line: its name, its kind, and the names of the nodes that its pins read
 pub record GateLine : Type 0 where

@@ -2,7 +2,7 @@
 
 ghost use Rattle.std.specs.Prelude.{◌≡◌, ◌+◌, ◌*◌, ◌↔◌, IfOk, IsErrOf};
 ghost use Rattle.hz_core.specs.Netlist.{IsCircuit, IsWhole, variable_count};
-ghost use Rattle.hz_text.specs.ScriptText.{IsScriptFor};
+ghost use Rattle.hz_script.specs.ScriptText.{IsScriptFor};
 ghost use Rattle.hz_options.specs.Numbers.{IsDemoNumber};
 ghost use Rattle.hz_gen.specs.Demo.{demo_netlist, demo_script};
 
@@ -11,7 +11,7 @@ use crate::fault::GenFault;
 use crate::script::make_script;
 use hz_core::Circuit;
 use hz_options::MAX_DEMO_NUMBER;
-use hz_text::Script;
+use hz_script::Script;
 use std::alloc::Global;
 
 /// Makes the circuit of a number, and its script: a start, and the one change that raises the input `go`.

@@ -6,7 +6,7 @@ ghost use Rattle.hz_gen.specs.Demo.{demo_script};
 
 use crate::node::{GO, X, ring_gate};
 use hz_core::Memory;
-use hz_text::Script;
+use hz_script::Script;
 use std::alloc::Global;
 
 // Makes the script of a number, for its circuit's nodes: the ring at rest, and `go` rises.

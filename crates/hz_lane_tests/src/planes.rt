@@ -9,7 +9,7 @@ use hz_line::MAX_TEXT;
 use hz_net::Net;
 use hz_plane::{LaneFault, Planes};
 use hz_samples::{LATCH, MULTIPLEXER, letter_of, net_of, push_numbers};
-use hz_text::{Patterns, read_patterns};
+use hz_pattern_text::{Patterns, read_patterns};
 use std::alloc::Global;
 use std::test::Fail;
 

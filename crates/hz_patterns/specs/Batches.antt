@@ -1,7 +1,7 @@
 -- What patterns come to in the job `batch`.
 use Rattle.std.specs.Prelude.{◌≡◌, ℕ, List}
 use Rattle.hz_core.specs.Netlist.{Netlist}
-use Rattle.hz_text.specs.PatternValue.{PatternsOf}
+use Rattle.hz_pattern_text.specs.PatternValue.{PatternsOf}
 use Rattle.hz_batch.specs.BatchText.{IsBatchText}
 use Rattle.hz_refusal.specs.declared.status.Status.{Status}
 use Rattle.hz_refusal.specs.declared.status.Status.TheVariants as status

@@ -6,7 +6,7 @@ use Rattle.hz_core.specs.Netlist.{Netlist}
 use Rattle.hz_net.specs.Network.{network_of, bit_at, value_at}
 use Rattle.hz_net.specs.TernaryStarts.{unknown_start}
 use Rattle.hz_reset.specs.Values.{IsOutcomeAlong}
-use Rattle.hz_text.specs.PatternValue.{PatternOf, PatternsOf}
+use Rattle.hz_pattern_text.specs.PatternValue.{PatternOf, PatternsOf}
 use Rattle.hz_batch.specs.Each.{AreEach}
 use Rattle.hz_batch.specs.ResetText.{BothValues, IsResetText}
 use Rattle.hz_refusal.specs.declared.status.Status.{Status}

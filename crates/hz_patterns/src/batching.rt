@@ -5,7 +5,7 @@ use hz_net::Net;
 use hz_outside::Sink;
 use hz_plane::Planes;
 use hz_refusal::{OnPatterns, Status};
-use hz_text::Patterns;
+use hz_pattern_text::Patterns;
 use std::alloc::Global;
 
 /// The job `batch`.

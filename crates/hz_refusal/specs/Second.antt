@@ -4,15 +4,15 @@ use Rattle.hz_core.specs.Netlist.{Netlist}
 use Rattle.hz_net.specs.Starts.{IsAcceptedStart, IsLeastOpen, IsLeastUnstable}
 use Rattle.hz_text.specs.declared.fault.TextFault.{TextFault}
 use Rattle.hz_text.specs.Fault.{IsLeastFaultOf}
-use Rattle.hz_text.specs.ScriptFault.{HasScriptFault}
-use Rattle.hz_text.specs.ScriptText.{IsValue}
-use Rattle.hz_text.specs.ScriptValue.{ScriptOf}
-use Rattle.hz_text.specs.PatternFault.{HasPatternFault}
-use Rattle.hz_text.specs.PatternText.{IsPatternsValue}
-use Rattle.hz_text.specs.PatternValue.{PatternsOf}
-use Rattle.hz_text.specs.RunFault.{HasRunFault}
-use Rattle.hz_text.specs.RunText.{IsRunValue}
-use Rattle.hz_text.specs.RunValue.{RunTextOf}
+use Rattle.hz_script.specs.ScriptFault.{HasScriptFault}
+use Rattle.hz_script.specs.ScriptText.{IsValue}
+use Rattle.hz_script.specs.ScriptValue.{ScriptOf}
+use Rattle.hz_pattern_text.specs.PatternFault.{HasPatternFault}
+use Rattle.hz_pattern_text.specs.PatternText.{IsPatternsValue}
+use Rattle.hz_pattern_text.specs.PatternValue.{PatternsOf}
+use Rattle.hz_run_text.specs.RunFault.{HasRunFault}
+use Rattle.hz_run_text.specs.RunText.{IsRunValue}
+use Rattle.hz_run_text.specs.RunValue.{RunTextOf}
 use Rattle.hz_refusal.specs.declared.status.Status.{Status}
 use Rattle.hz_refusal.specs.declared.status.Status.TheVariants as status
 use Rattle.hz_refusal.specs.Answer.{Prints}

@@ -2,12 +2,12 @@
 ghost use Rattle.std.specs.Prelude.{◌≡◌, ◌≤◌, ℕ, List, length};
 ghost use Rattle.hz_core.specs.Netlist.{Netlist, IsCircuit};
 ghost use Rattle.hz_line.specs.Line.{most_text_bytes};
-ghost use Rattle.hz_text.specs.PatternText.{ArePatternsFor};
-ghost use Rattle.hz_text.specs.PatternValue.{PatternsOf};
-ghost use Rattle.hz_text.specs.RunText.{IsRunTextFor};
-ghost use Rattle.hz_text.specs.RunValue.{RunTextOf};
-ghost use Rattle.hz_text.specs.ScriptText.{IsScriptFor};
-ghost use Rattle.hz_text.specs.ScriptValue.{ScriptOf};
+ghost use Rattle.hz_pattern_text.specs.PatternText.{ArePatternsFor};
+ghost use Rattle.hz_pattern_text.specs.PatternValue.{PatternsOf};
+ghost use Rattle.hz_run_text.specs.RunText.{IsRunTextFor};
+ghost use Rattle.hz_run_text.specs.RunValue.{RunTextOf};
+ghost use Rattle.hz_script.specs.ScriptText.{IsScriptFor};
+ghost use Rattle.hz_script.specs.ScriptValue.{ScriptOf};
 ghost use Rattle.hz_refusal.specs.Ends.{Ends};
 ghost use Rattle.hz_refusal.specs.Second.{OfScript, OfRuns, OfPatterns};
 ghost use Rattle.hz_refusal.specs.declared.status.Status.{Status};
@@ -17,7 +17,9 @@ use crate::status::Status;
 use hz_core::Circuit;
 use hz_net::Net;
 use hz_outside::Sink;
-use hz_text::{PatternReader, Patterns, RunText, Script, read_run, read_script};
+use hz_pattern_text::{PatternReader, Patterns};
+use hz_run_text::{RunText, read_run};
+use hz_script::{Script, read_script};
 use std::alloc::Global;
 
 /// What a job does with a script. `judges` says which text comes with which status.

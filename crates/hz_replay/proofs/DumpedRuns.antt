@@ -7,8 +7,9 @@ use Rattle.hz_net.specs.Network.{Driver, network_of}
 use Rattle.hz_gmw.specs.Runs.{IsStep, IsRun, state_after}
 use Rattle.hz_gmw.specs.Cycles.{IsNontransient}
 use Rattle.hz_lists.proofs.ListedLemmas.{All-each}
-use Rattle.hz_text.specs.RunText.{IsRunTextFor}
-use Rattle.hz_text.specs.RunValue.{RunOf, RunTextOf, cycle_steps}
+use Rattle.hz_run_text.specs.RunText.{IsRunTextFor}
+use Rattle.hz_text.specs.RunParts.{RunOf, cycle_steps}
+use Rattle.hz_run_text.specs.RunValue.{RunTextOf}
 use Rattle.hz_vcd.specs.Dump.{AreFlips, variables_of}
 use Rattle.hz_replay.specs.Dumps.{last_run}
 use Rattle.hz_replay.specs.Replaying.{steps_of, AreAccepted}

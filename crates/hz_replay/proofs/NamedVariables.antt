@@ -13,8 +13,9 @@ use Rattle.hz_gmw.specs.declared.replay_fault.CycleFault.TheVariants.{Differs, N
 use Rattle.hz_gmw.proofs.CoverB.{length-end_of}
 use Rattle.hz_lists.proofs.ListedLemmas.{All-listed}
 use Rattle.hz_gmw.proofs.LeastLemmas.{times_listed-listed}
-use Rattle.hz_text.specs.RunText.{IsRunTextFor}
-use Rattle.hz_text.specs.RunValue.{RunOf, RunTextOf, all_steps}
+use Rattle.hz_run_text.specs.RunText.{IsRunTextFor}
+use Rattle.hz_text.specs.RunParts.{RunOf}
+use Rattle.hz_run_text.specs.RunValue.{RunTextOf, all_steps}
 use Rattle.hz_replay.specs.declared.replaying.RunRefusal.{RunRefusal}
 use Rattle.hz_replay.specs.declared.replaying.RunRefusal.TheVariants.{Step, Cycle}
 use Rattle.hz_replay.specs.Replaying.{steps_of, IsRefusedRun, IsFirstRefusal}

@@ -10,13 +10,14 @@ use Rattle.hz_net.proofs.Places.{no_wire, All-wires_of, length-wires_of, length-
 use Rattle.hz_gmw.specs.Runs.{state_after, IsRun, end_of}
 use Rattle.hz_gmw.specs.Cycles.{IsNontransient}
 use Rattle.hz_gmw.specs.RunRecord.{flip_count}
-use Rattle.hz_text.specs.RunPrinted.{run_text_printed}
-use Rattle.hz_text.specs.RunReadBack.{PrintedRunsAreRead}
-use Rattle.hz_text.specs.RunText.{IsRunTextFor}
-use Rattle.hz_text.specs.RunValue.{RunOf, RunTextOf, cycle_steps, all_steps}
+use Rattle.hz_run_text.specs.RunPrinted.{run_text_printed}
+use Rattle.hz_run_text.specs.RunReadBack.{PrintedRunsAreRead}
+use Rattle.hz_run_text.specs.RunText.{IsRunTextFor}
+use Rattle.hz_text.specs.RunParts.{RunOf, cycle_steps}
+use Rattle.hz_run_text.specs.RunValue.{RunTextOf, all_steps}
 use Rattle.hz_replay.specs.Replaying.{IsAcceptedRun, start_of, AreAccepted}
 use Rattle.hz_replay.specs.RunTexts.{ReplaysAs}
-use Rattle.hz_text.specs.Limits.{most_steps}
+use Rattle.hz_run_text.specs.Limits.{most_steps}
 use Rattle.hz_lists.proofs.ListedLemmas.{All-each}
 
 -- Bits of one length that are the same at each place are the same.

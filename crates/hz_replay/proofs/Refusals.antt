@@ -8,7 +8,8 @@ use Rattle.hz_gmw.specs.Cycles.{IsNontransient}
 use Rattle.hz_gmw.specs.declared.replay_fault.StepFault.{StepFault}
 use Rattle.hz_gmw.proofs.Paths.{IsRun-append, IsRun-rest}
 use Rattle.hz_gmw.proofs.ReplayLemmas.{step-or-fault, cycle-or-fault}
-use Rattle.hz_text.specs.RunValue.{RunOf, RunTextOf, cycle_steps}
+use Rattle.hz_text.specs.RunParts.{RunOf, cycle_steps}
+use Rattle.hz_run_text.specs.RunValue.{RunTextOf}
 use Rattle.hz_replay.specs.declared.replaying.RunRefusal.{RunRefusal}
 use Rattle.hz_replay.specs.declared.replaying.RunRefusal.TheVariants.{Step, Cycle}
 use Rattle.hz_replay.specs.Replaying.{steps_of, IsAcceptedRun, IsRefusedStep, IsRefusedRun, start_of, AreAccepted, IsRefusalOfText}

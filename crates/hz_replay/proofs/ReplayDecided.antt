@@ -23,8 +23,9 @@ use Rattle.hz_gmw.proofs.Flips.{length-state_after}
 use Rattle.hz_gmw.proofs.CoverB.{length-end_of}
 use Rattle.hz_gmw.proofs.Paths.{IsRun-front, IsRun-rest}
 use Rattle.hz_net.proofs.Places.{length-expansion_of}
-use Rattle.hz_text.specs.RunText.{IsRunTextFor}
-use Rattle.hz_text.specs.RunValue.{RunOf, RunTextOf, cycle_steps, all_steps}
+use Rattle.hz_run_text.specs.RunText.{IsRunTextFor}
+use Rattle.hz_text.specs.RunParts.{RunOf, cycle_steps}
+use Rattle.hz_run_text.specs.RunValue.{RunTextOf, all_steps}
 use Rattle.hz_replay.specs.declared.replaying.RunRefusal.{RunRefusal}
 use Rattle.hz_replay.specs.declared.replaying.RunRefusal.TheVariants.{Step, Cycle}
 use Rattle.hz_replay.specs.Replaying.{steps_of, IsAcceptedRun, IsRefusedStep, IsRefusedRun, IsFirstRefusal, start_of, AreAccepted, IsRefusalOfText}

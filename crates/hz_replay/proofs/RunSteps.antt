@@ -11,13 +11,14 @@ use Rattle.hz_net.specs.Network.{Driver, network_of}
 use Rattle.hz_net.specs.Variables.{expansion_of}
 use Rattle.hz_gmw.specs.Cycles.{IsNontransient}
 use Rattle.hz_gmw.specs.Replayer.{Replayer, initial_replayer}
-use Rattle.hz_text.specs.RunValue.{RunOf, RunTextOf, cycle_steps, all_steps}
+use Rattle.hz_text.specs.RunParts.{RunOf, cycle_steps}
+use Rattle.hz_run_text.specs.RunValue.{RunTextOf, all_steps}
 use Rattle.hz_replay.specs.declared.replaying.RunRefusal.{RunRefusal}
 use Rattle.hz_replay.specs.Replaying.{steps_of, total_steps, IsAcceptedRun, IsRefusedRun, IsFirstRefusal}
 use Rattle.hz_replay.specs.ReplayerSteps.{AreVariables, run_of, KeepsInitialState, MakesSteps, IsRefusedFrom}
 use Rattle.hz_replay.specs.Named.{no_run}
 use Rattle.hz_replay.proofs.ReplayerStepLemmas.{cut-at, run-refused}
-use Rattle.hz_text.specs.Limits.{most_steps}
+use Rattle.hz_run_text.specs.Limits.{most_steps}
 
 -- the steps behind others name variables too
 behind-variables : (netlist : Netlist) (lead steps : List (List ℕ)) → AreVariables netlist (lead ++ steps) → AreVariables netlist steps

@@ -2,7 +2,8 @@
 use Rattle.std.specs.Prelude.{◌≡◌, ℕ, ◌-◌, List, [], length, None}
 use Rattle.std.specs.List.{slice_index_or}
 use Rattle.hz_core.specs.Netlist.{Netlist}
-use Rattle.hz_text.specs.RunValue.{RunOf, RunTextOf}
+use Rattle.hz_text.specs.RunParts.{RunOf}
+use Rattle.hz_run_text.specs.RunValue.{RunTextOf}
 use Rattle.hz_vcd.specs.Word.{words_of}
 use Rattle.hz_vcd.specs.Dump.{IsDump}
 use Rattle.hz_vcd.specs.Printed.{dump_text}

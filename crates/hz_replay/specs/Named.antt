@@ -6,7 +6,7 @@ use Rattle.hz_gmw.specs.declared.replay_fault.StepFault.{StepFault}
 use Rattle.hz_gmw.specs.declared.replay_fault.StepFault.TheVariants.{Empty, Repeated, Stable}
 use Rattle.hz_gmw.specs.declared.replay_fault.CycleFault.{CycleFault}
 use Rattle.hz_gmw.specs.declared.replay_fault.CycleFault.TheVariants.{Differs, NotStable, Transient}
-use Rattle.hz_text.specs.RunValue.{RunOf}
+use Rattle.hz_text.specs.RunParts.{RunOf}
 use Rattle.hz_replay.specs.declared.replaying.RunRefusal.{RunRefusal}
 use Rattle.hz_replay.specs.declared.replaying.RunRefusal.TheVariants as refused
 

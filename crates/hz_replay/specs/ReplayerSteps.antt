@@ -5,7 +5,7 @@ use Rattle.hz_net.specs.Network.{Driver, network_of, IsVariable}
 use Rattle.hz_gmw.specs.Runs.{IsRun, end_of}
 use Rattle.hz_gmw.specs.Replayer.{Replayer, StandsFor}
 use Rattle.hz_gmw.specs.ReplayFaults.{IsCycleFault}
-use Rattle.hz_text.specs.RunValue.{RunOf}
+use Rattle.hz_text.specs.RunParts.{RunOf}
 use Rattle.hz_replay.specs.declared.replaying.RunRefusal.{RunRefusal}
 use Rattle.hz_replay.specs.declared.replaying.RunRefusal.TheVariants.{Step, Cycle}
 use Rattle.hz_replay.specs.Replaying.{IsRefusedStep}

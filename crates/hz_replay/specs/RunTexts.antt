@@ -1,8 +1,9 @@
 -- What runs come to in the jobs `replay` and `convert`, and how a replay ends.
 use Rattle.std.specs.Prelude.{◌≡◌, ℕ, ◌⊎◌, List}
 use Rattle.hz_core.specs.Netlist.{Netlist}
-use Rattle.hz_text.specs.RunPrinted.{run_text_printed}
-use Rattle.hz_text.specs.RunValue.{RunOf, RunTextOf}
+use Rattle.hz_run_text.specs.RunPrinted.{run_text_printed}
+use Rattle.hz_text.specs.RunParts.{RunOf}
+use Rattle.hz_run_text.specs.RunValue.{RunTextOf}
 use Rattle.hz_replay.specs.declared.replaying.RunRefusal.{RunRefusal}
 use Rattle.hz_refusal.specs.declared.status.Status.{Status}
 use Rattle.hz_refusal.specs.declared.status.Status.TheVariants as status

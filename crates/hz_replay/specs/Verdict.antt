@@ -7,8 +7,9 @@ use Rattle.hz_gmw.specs.declared.replay_fault.StepFault.{StepFault}
 use Rattle.hz_gmw.specs.declared.replay_fault.StepFault.TheVariants.{Empty, Repeated, Stable}
 use Rattle.hz_gmw.specs.declared.replay_fault.CycleFault.{CycleFault}
 use Rattle.hz_gmw.specs.declared.replay_fault.CycleFault.TheVariants.{Differs, NotStable, Transient}
-use Rattle.hz_text.specs.RunPrinted.{variable_word}
-use Rattle.hz_text.specs.RunValue.{RunOf, RunTextOf}
+use Rattle.hz_text.specs.VariableWord.{variable_word}
+use Rattle.hz_text.specs.RunParts.{RunOf}
+use Rattle.hz_run_text.specs.RunValue.{RunTextOf}
 use Rattle.hz_refusal.specs.declared.status.Status.{Status}
 use Rattle.hz_refusal.specs.declared.status.Status.TheVariants as status
 use Rattle.hz_replay.specs.declared.replaying.RunRefusal.{RunRefusal}

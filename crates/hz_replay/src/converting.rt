@@ -3,7 +3,7 @@
 use hz_net::Net;
 use hz_outside::Sink;
 use hz_refusal::{OnRuns, Status, status_after};
-use hz_text::{RunText, write_run_text};
+use hz_run_text::{RunText, write_run_text};
 use std::alloc::Global;
 
 /// The job `convert`.

@@ -1,5 +1,5 @@
 //! The job `vcd`: the last run of a run text as a value change dump, once all its runs are replayed.
-ghost use Rattle.hz_text.specs.RunText.{IsRunTextFor};
+ghost use Rattle.hz_run_text.specs.RunText.{IsRunTextFor};
 ghost use Rattle.hz_vcd.specs.Word.{words_of};
 ghost use Rattle.hz_replay.specs.Dumps.{last_dump, MeansLast};
 ghost use Rattle.hz_replay.specs.Replaying.{AreAccepted};
@@ -13,7 +13,7 @@ use hz_gmw::Run;
 use hz_net::Net;
 use hz_outside::{PutFault, Sink};
 use hz_refusal::{OnRuns, Status, status_after};
-use hz_text::RunText;
+use hz_run_text::RunText;
 use hz_vcd::write;
 use hz_write::Writer;
 use std::alloc::Global;

@@ -4,11 +4,11 @@ ghost use Rattle.std.specs.Option.{option_map};
 ghost use Rattle.hz_net.specs.Network.{network_of, IsState};
 ghost use Rattle.hz_net.specs.Variables.{expansion_of};
 ghost use Rattle.hz_gmw.specs.Cycles.{IsNontransient};
-ghost use Rattle.hz_text.specs.RunText.{IsRunTextFor};
+ghost use Rattle.hz_run_text.specs.RunText.{IsRunTextFor};
 ghost use Rattle.hz_replay.specs.Named.{named_variable, NamesVariable};
 ghost use Rattle.hz_replay.specs.Replaying.{steps_of, AreAccepted, IsAcceptedRun, IsRefusalOfText, IsRefusedRun, IsRefusedStep, IsFirstRefusal};
 ghost use Rattle.hz_replay.specs.ReplayerSteps.{AreVariables, run_of, KeepsInitialState, MakesSteps, IsRefusedFrom};
-ghost use Rattle.hz_text.specs.Limits.{most_steps};
+ghost use Rattle.hz_run_text.specs.Limits.{most_steps};
 
 use crate::verdict::{put_no, put_yes};
 use hz_core::Memory;
@@ -16,7 +16,7 @@ use hz_gmw::{CycleFault, Replay, Run, StepFault};
 use hz_net::Net;
 use hz_outside::Sink;
 use hz_refusal::{OnRuns, Status, status_after};
-use hz_text::RunText;
+use hz_run_text::RunText;
 use std::alloc::Global;
 
 /// Why `replay` refuses a run of a text.

@@ -6,13 +6,14 @@ ghost use Rattle.hz_write.specs.Writes.{Wrote};
 ghost use Rattle.hz_replay.specs.Replaying.{total_steps, total_cycles, steps_of};
 ghost use Rattle.hz_replay.specs.Verdict.{yes_line, naming_line, step_line, cycle_line, no_line, accepted_line};
 ghost use Rattle.hz_replay.specs.Named.{no_run, step_variable, cycle_variable, named_variable, NamesVariable};
-ghost use Rattle.hz_text.specs.Limits.{most_steps};
+ghost use Rattle.hz_run_text.specs.Limits.{most_steps};
 
 use crate::replaying::RunRefusal;
 use hz_gmw::{CycleFault, StepFault};
 use hz_net::Net;
 use hz_outside::{PutFault, Sink};
-use hz_text::{RunText, write_variable};
+use hz_run_text::RunText;
+use hz_text::write_variable;
 use hz_write::Piece::{Count, Text};
 use hz_write::{Piece, Writer, put_line};
 

@@ -10,7 +10,7 @@ use Rattle.std.proofs.lemmas.Slice.{between_is, between_from_start}
 use Rattle.hz_core.specs.Netlist.{Netlist, node_name}
 use Rattle.hz_write.specs.Writes.{newline}
 use Rattle.hz_text.specs.Printed.{letter_of, assignment_text, listed_from}
-use Rattle.hz_text.specs.RunPrinted.{variable_word}
+use Rattle.hz_text.specs.VariableWord.{variable_word}
 use Rattle.hz_text.proofs.VariableWords.{variable_word-node}
 use Rattle.hz_desk.specs.declared.finding.Row.{Row}
 use Rattle.hz_report.specs.Report.{row_line, row_lines, row_text}

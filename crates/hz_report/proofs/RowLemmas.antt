@@ -10,7 +10,7 @@ use Rattle.hz_desk.specs.declared.finding.Row.{Row}
 use Rattle.hz_options.specs.declared.show.Show.{Show}
 use Rattle.hz_options.specs.declared.show.Show.TheVariants.{Nodes, All}
 use Rattle.hz_text.specs.Printed.{letter_of}
-use Rattle.hz_text.specs.RunPrinted.{variable_word}
+use Rattle.hz_text.specs.VariableWord.{variable_word}
 use Rattle.hz_report.specs.Report.{changes_word, class_word, row_line, row_lines, shown_count, shown_rows}
 use Rattle.hz_core.specs.Letters.{tri_letter}
 

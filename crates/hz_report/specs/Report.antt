@@ -7,9 +7,10 @@ use Rattle.hz_net.specs.Network.{network_of}
 use Rattle.hz_gmw.specs.RunRecord.{flip_count}
 use Rattle.hz_word.specs.declared.count.Count.{Count}
 use Rattle.hz_word.specs.declared.count.Count.TheVariants.{Exact, Many}
-use Rattle.hz_text.specs.Printed.{letter_of, statement_text}
-use Rattle.hz_text.specs.RunPrinted.{variable_word, spaced_word, all_listed, run_text_printed}
-use Rattle.hz_text.specs.RunValue.{RunTextOf}
+use Rattle.hz_text.specs.Printed.{letter_of, statement_text, all_listed}
+use Rattle.hz_text.specs.VariableWord.{variable_word, spaced_word}
+use Rattle.hz_run_text.specs.RunPrinted.{run_text_printed}
+use Rattle.hz_run_text.specs.RunValue.{RunTextOf}
 use Rattle.hz_desk.specs.declared.class.Class.{Class}
 use Rattle.hz_desk.specs.declared.class.Class.TheVariants.{Steady, Single, Static, MaybeDynamic, Change, Unsettled}
 use Rattle.hz_desk.specs.declared.finding.Row.{Row}

@@ -3,7 +3,8 @@ ghost use Rattle.std.specs.Prelude.{◌≡◌, ◌<◌, ◌++◌, length, codes,
 ghost use Rattle.hz_net.specs.Network.{AreByVariable, IsInput, IsVariable};
 ghost use Rattle.hz_write.specs.Writer.{Writes, NoneWaits};
 ghost use Rattle.hz_write.specs.Writes.{newline};
-ghost use Rattle.hz_text.specs.RunPrinted.{spaced_word, run_text_printed};
+ghost use Rattle.hz_text.specs.VariableWord.{spaced_word};
+ghost use Rattle.hz_run_text.specs.RunPrinted.{run_text_printed};
 ghost use Rattle.hz_desk.specs.Finding.{finding_of};
 ghost use Rattle.hz_report.specs.Report.{change_line, rounds_line, races_line, runs_of_finding, change_text, stopped_text};
 
@@ -11,7 +12,8 @@ use crate::plate::Plate;
 use hz_desk::Finding;
 use hz_net::Net;
 use hz_outside::Sink;
-use hz_text::{write_assignments, write_end, write_format, write_run, write_variable};
+use hz_run_text::{write_end, write_format, write_run};
+use hz_text::{write_assignments, write_variable};
 use hz_write::Piece::{Number, Text};
 use hz_write::Writer;
 

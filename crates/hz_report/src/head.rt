@@ -5,8 +5,8 @@ ghost use Rattle.hz_net.specs.Network.{IsState, IsVariable, bit_at};
 ghost use Rattle.hz_free.specs.FreePart.{IsFreePart};
 ghost use Rattle.hz_write.specs.Writer.{Writes, NoneWaits};
 ghost use Rattle.hz_write.specs.Writes.{newline};
-ghost use Rattle.hz_text.specs.Printed.{letter_of, assignment_text};
-ghost use Rattle.hz_text.specs.RunPrinted.{spaced_word, all_listed};
+ghost use Rattle.hz_text.specs.Printed.{letter_of, assignment_text, all_listed};
+ghost use Rattle.hz_text.specs.VariableWord.{spaced_word};
 ghost use Rattle.hz_report.specs.Kept.{AreBits};
 ghost use Rattle.hz_report.specs.Report.{netlist_line, feedback_line, start_line, head_text};
 

@@ -2,8 +2,7 @@
 ghost use Rattle.std.specs.Prelude.{◌≡◌, ◌≤◌, IfOk, length};
 ghost use Rattle.hz_net.specs.Network.{AreByVariable};
 ghost use Rattle.hz_write.specs.Writer.{Writes, NoneWaits};
-ghost use Rattle.hz_text.specs.Printed.{statement_text};
-ghost use Rattle.hz_text.specs.RunPrinted.{all_listed};
+ghost use Rattle.hz_text.specs.Printed.{statement_text, all_listed};
 ghost use Rattle.hz_report.specs.Report.{row_lines, shown_rows};
 
 use crate::head::write_kept_bits;

@@ -1,12 +1,12 @@
 //! What tests read from a text: circuits, their networks, and run texts.
 ghost use Rattle.std.specs.Prelude.{IfOk};
 ghost use Rattle.hz_core.specs.Netlist.{IsWhole};
-ghost use Rattle.hz_text.specs.RunText.{IsRunTextFor};
+ghost use Rattle.hz_run_text.specs.RunText.{IsRunTextFor};
 
 use hz_core::Circuit;
 use hz_line::MAX_TEXT;
 use hz_net::Net;
-use hz_text::RunText;
+use hz_run_text::RunText;
 use std::alloc::Global;
 use std::test::Fail;
 
@@ -46,5 +46,5 @@ pub fn runs_of(alloc: Global, net: &Net, text: &str) -> Result<RunText, Fail>
     if text.len() > MAX_TEXT {
         return Err("a long text".into());
     }
-    Ok(hz_text::read_run(alloc, net, text.as_bytes())?)
+    Ok(hz_run_text::read_run(alloc, net, text.as_bytes())?)
 }

@@ -1,13 +1,34 @@
 -- Decimal digits are read back.
-use Rattle.std.proofs.Common.{◌≡◌, ◌∙◌, ℕ, zero, suc, ◌<◌, ◌≤◌, ◌^◌, true, false, ◌==◌, nat_le, List, [], ◌∷◌, Some, length, get_or, refl, ap, arith, decimal}
+use Rattle.std.proofs.Common.{◌≡◌, ◌∙◌, ℕ, zero, suc, ◌<◌, ◌≤◌, ◌^◌, true, false, ◌==◌, nat_le, List, [], ◌∷◌, Some, length, get_or, refl, ap, arith, decimal, ◌+◌, ◌*◌, ◌-◌, ◌++◌, take, drop, sym, fold, take-append-drop}
 use Rattle.std.specs.List.{list_all}
 use Rattle.std.proofs.lemmas.Bool.Decides.{nat_tests}
 use Rattle.std.proofs.lemmas.Fmt.{decimal_is_IsNumeral, decimal_digit, first_decimal}
 use Rattle.std.proofs.lemmas.Str.Parse.{IsDigitsTest, FoldsDigits, IsNumeralModel, numerals_by_fold}
 use Rattle.hz_core.specs.Netlist.{is_name_byte}
 use Rattle.hz_line.proofs.WrittenLemmas.{both}
-use Rattle.hz_text.specs.RunStatement.{is_digit, is_decimal, number_by, count_of}
-use Rattle.hz_text.proofs.VariableLemmas.{number_after}
+use Rattle.hz_text.specs.Decimal.{is_digit, is_decimal, number_by, count_of}
+
+-- the number that digits stand for after a number before them
+abbrev pub number_after : ℕ → List ℕ → ℕ
+number_after number digits = fold (λ number digit. 10 * number + (digit - 48)) number digits
+
+number-grows : (number : ℕ) (digits : List ℕ) → number ≤ number_after number digits
+number-grows number [] = omega arith
+number-grows number (digit ∷ digits) = omega (arith, number-grows (10 * number + (digit - 48)) digits)
+
+number_after-append : (number : ℕ) (front digits : List ℕ) → number_after number (front ++ digits) ≡ number_after (number_after number front) digits
+number_after-append number [] digits = refl
+number_after-append number (digit ∷ front) digits = number_after-append (10 * number + (digit - 48)) front digits
+
+pub number_by-push : (digits : List ℕ) (digit : ℕ) → number_by (digits ++ digit ∷ []) ≡ 10 * number_by digits + (digit - 48)
+number_by-push digits digit = number_after-append 0 digits (digit ∷ [])
+
+-- a prefix stands for no greater number
+pub number_by-take : (digits : List ℕ) (i : ℕ) → number_by (take i digits) ≤ number_by digits
+number_by-take digits i =
+    let whole : number_by digits ≡ number_after (number_by (take i digits)) (drop i digits) =
+    ap number_by (sym (take-append-drop i digits)) ∙ number_after-append 0 (take i digits) (drop i digits) in
+    omega (arith, whole, number-grows (number_by (take i digits)) (drop i digits))
 
 digit_range : (byte : ℕ) → is_digit byte ≡ true → (48 ≤ byte) × (byte ≤ 57)
 digit_range byte h = let parts = both (nat_le 48 byte) (nat_le byte 57) h in (grind (arith, nat_tests, parts.0), grind (arith, nat_tests, parts.1))

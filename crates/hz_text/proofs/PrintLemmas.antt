@@ -4,8 +4,7 @@ use Rattle.std.specs.List.{flat_map, All}
 use Rattle.std.proofs.lemmas.List.{take_more, append-nil, length-take-le, length-map, map-append}
 use Rattle.std.proofs.lemmas.List.Concat.{flat_map-append}
 use Rattle.std.proofs.lemmas.List.Elements.{All-nil, All-cons}
-use Rattle.hz_text.specs.Printed.{listed_from}
-use Rattle.hz_text.specs.RunPrinted.{all_listed}
+use Rattle.hz_text.specs.Printed.{listed_from, all_listed}
 
 listed-within : (node bound : ℕ) (start : List (Option Bool)) → node + length start ≤ bound → All (λ pair. pair.0 < bound) (listed_from node start)
 listed-within node bound [] h = All-nil (λ (pair : ℕ × Bool). pair.0 < bound)

@@ -1,7 +1,8 @@
 -- The words of variables, by what a variable is.
-use Rattle.std.proofs.Common.{◌≡◌, ◌∙◌, sym, ap, subst, refl, suc, ℕ, ◌+◌, ◌-◌, ◌<◌, ◌≤◌, List, [], ◌∷◌, length, Some, get_or, map, take, arith, slice_get, inl, inr, decimal, ◌++◌}
+use Rattle.std.proofs.Common.{◌≡◌, ◌∙◌, sym, ap, subst, refl, suc, ℕ, ◌+◌, ◌-◌, ◌<◌, ◌≤◌, List, [], ◌∷◌, length, Some, get_or, map, take, arith, slice_get, inl, inr, decimal, ◌++◌, append_assoc}
 use Rattle.std.specs.Prelude.{sum_by}
 use Rattle.std.proofs.lemmas.Bool.{cases_lt}
+use Rattle.std.proofs.lemmas.Fmt.{decimal_digit}
 use Rattle.std.proofs.lemmas.List.{get_or-map, get_or_append_left, get_or-append_right, get_or_default}
 use Rattle.std.proofs.lemmas.List.Sums.{sum_by-cons}
 use Rattle.std.proofs.lemmas.Option.{same_Some, get_or_from_slice_get}
@@ -16,7 +17,7 @@ use Rattle.hz_net.specs.declared.variable.VarKind.{VarKind}
 use Rattle.hz_net.specs.declared.variable.VarKind.TheVariants.{Input as InputKind, Gate as GateKind, Wire as WireKind}
 use Rattle.hz_net.proofs.Places.{no_gate, no_wire, pins_of, length-wires_of, length-network_of, length-entries_of, variable_kinds-entry, IsEntryAt-entries_of, wire_at-pin}
 use Rattle.hz_net.proofs.Wires.{variable_kinds-wire}
-use Rattle.hz_text.specs.RunPrinted.{wire_word, variable_word}
+use Rattle.hz_text.specs.VariableWord.{wire_word, variable_word}
 use Rattle.hz_core.specs.Limits.{most_gate_pins}
 
 -- the wire that a variable past the nodes is
@@ -155,3 +156,9 @@ told_bounds netlist var gate pin source circuit whole there told =
     let at = wire_is_pin netlist var circuit is.0 (omega (arith, there, length-network_of netlist circuit)) in
     let is_gate = at.is_gate in
     (omega (arith, is.1, is_gate), omega (arith, is.2, pin-bound netlist var _ _ circuit at))
+
+-- a pin whose number has one digit
+pub pin_of_digit : (name : List ℕ) (digit pin : ℕ) → pin < 9 → digit ≡ 49 + pin → name ++ (40 ∷ digit ∷ 41 ∷ []) ≡ name ++ 40 ∷ decimal (pin + 1) ++ 41 ∷ []
+pin_of_digit name digit pin few is =
+    let one : digit ∷ [] ≡ decimal (pin + 1) = ap (λ (n : ℕ). n ∷ []) (omega (arith, is)) ∙ sym (decimal_digit (pin + 1) (omega (arith, few))) in
+    ap (λ (digits : List ℕ). name ++ (40 ∷ digits ++ 41 ∷ [])) one ∙ sym (append_assoc name (40 ∷ decimal (pin + 1)) (41 ∷ []))

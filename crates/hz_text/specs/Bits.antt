@@ -1,6 +1,6 @@
 -- Assignments as pairs of a node and a bit.
-use Rattle.std.specs.Prelude.{◌≡◌, ℕ, ◌<◌, Bool, false, List, map, All, Option, None, IsSome, IsSomeAnd}
-use Rattle.std.specs.List.{range_with_len}
+use Rattle.std.specs.Prelude.{◌≡◌, ℕ, ◌<◌, Bool, false, nat_eq, List, map, All, Option, None, IsSome, IsSomeAnd}
+use Rattle.std.specs.List.{range_with_len, IsDistinct}
 use Rattle.std.specs.Option.{option_zip}
 use Rattle.hz_text.specs.declared.assignments.Allowed.{Allowed as AllowedHere}
 use Rattle.hz_text.specs.declared.assignments.Allowed.TheVariants as here
@@ -37,3 +37,8 @@ pair_of assigned = option_zip assigned.node assigned.bit
 -- for each of so many nodes, the bit that is assigned to it
 abbrev pub assigned_bits : List (ℕ × Bool) → ℕ → List (Option Bool)
 assigned_bits pairs nodes = map (assigned_bit (map assignment_to pairs)) (range_with_len 0 nodes)
+
+-- a change of numbers below a bound, each at most once
+pub record IsChange (bound : ℕ) (change : List (ℕ × Bool)) : Type 0 where
+  pub below : All (λ pair. pair.0 < bound) change
+  pub distinct : IsDistinct nat_eq (map (λ pair. pair.0) change)

@@ -1,8 +1,7 @@
--- The printed text of a script.
-use Rattle.std.specs.Prelude.{ℕ, suc, Bool, true, false, List, [], ◌∷◌, ◌++◌, codes, Option, Some, None}
+-- The printed text of assignments.
+use Rattle.std.specs.Prelude.{ℕ, suc, Bool, true, false, List, [], ◌∷◌, ◌++◌, map, Option, Some, None}
 use Rattle.std.specs.List.{flat_map}
 use Rattle.hz_core.specs.Netlist.{Netlist, node_name}
-use Rattle.hz_text.specs.ScriptValue.{ScriptOf}
 
 -- the letter of a bit
 abbrev pub letter_of : Bool → ℕ
@@ -24,8 +23,6 @@ listed_from node [] = []
 listed_from node (None ∷ later) = listed_from (suc node) later
 listed_from node (Some bit ∷ later) = (node, bit) ∷ listed_from (suc node) later
 
--- a line for the start, in the order of the nodes, and one for each change, in its own order
-abbrev pub script_text : Netlist → ScriptOf → List ℕ
-script_text netlist script =
-    statement_text netlist (codes "start") (listed_from 0 script.start)
-    ++ flat_map (statement_text netlist (codes "change")) script.changes
+-- bits, each with its number, as a start lists them
+abbrev pub all_listed : List Bool → List (ℕ × Bool)
+all_listed bits = listed_from 0 (map Some bits)

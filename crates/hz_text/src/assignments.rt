@@ -16,7 +16,7 @@ use std::marker::Model;
 
 /// An assignment `name = word`: the node that has the name and the bit that the word is, if there are such.
 #[derive(Debug, Drop)]
-pub(crate) struct Assigned {
+pub struct Assigned {
     pub(crate) node: Option<u32>,
     pub(crate) bit: Option<bool>,
 }
@@ -31,7 +31,7 @@ impl Model for Assigned {
 
 /// Which nodes a statement may assign.
 #[derive(Clone, Copy, Debug)]
-pub(crate) enum Allowed {
+pub enum Allowed {
     Nodes,
     Inputs,
     Gates,
@@ -45,8 +45,8 @@ struct Written<'a> {
     rest: &'a [u8],
 }
 
-// The assignments that the tokens of a line are.
-pub(crate) fn read_assignments(
+/// The assignments that the tokens of a line are.
+pub fn read_assignments(
     alloc: Global,
     circuit: &Circuit,
     line: &[u8],
@@ -107,8 +107,8 @@ fn bit(word: &[u8]) -> Option<bool>
     }
 }
 
-// Whether some assignment is to what may not be assigned.
-pub(crate) fn any_unknown(all: &[Assigned], allowed: Allowed, inputs: u32) -> bool
+/// Whether some assignment is to what may not be assigned. The first nodes are the inputs, so many of them.
+pub fn any_unknown(all: &[Assigned], allowed: Allowed, inputs: u32) -> bool
     ensures { result ≡ any_unknown inputs (allowed_by allowed) all.now }
 {
     all.iter()
@@ -127,8 +127,8 @@ fn is_unknown(node: Option<u32>, allowed: Allowed, inputs: u32) -> bool
     }
 }
 
-// Whether a word is assigned that is no bit.
-pub(crate) fn any_without_bit(all: &[Assigned]) -> bool
+/// Whether a word is assigned that is no bit.
+pub fn any_without_bit(all: &[Assigned]) -> bool
     ensures { result ≡ any_bitless all.now }
 {
     all.iter().any(|assigned| assigned.bit.is_none())
@@ -152,12 +152,8 @@ pub(crate) fn repeats(all: &[Assigned], marks: &mut [usize], mark: usize) -> boo
     false
 }
 
-// The least of the first so many nodes that is not assigned.
-pub(crate) fn least_unassigned(
-    alloc: Global,
-    all: &[Assigned],
-    nodes: u32,
-) -> Result<Option<u32>, Memory>
+/// The least of the first so many nodes that is not assigned.
+pub fn least_unassigned(alloc: Global, all: &[Assigned], nodes: u32) -> Result<Option<u32>, Memory>
     ensures { IfOk result (λ missing. missing ≡ least_unassigned nodes all.now) }
 {
     let listed = listed_nodes(alloc, all, nodes)?;

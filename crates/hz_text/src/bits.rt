@@ -3,19 +3,14 @@
 ghost use Rattle.std.specs.Prelude.{◌≡◌, ◌++◌, length, map, replicate, None, IfOk, OnOk, option_to_list};
 ghost use Rattle.std.specs.List.{filter_map, range_with_len};
 ghost use Rattle.hz_text.specs.Assignment.{assigned_bit};
-ghost use Rattle.hz_text.specs.Bits.{ArePairs, assigned_bits, pair_of};
-ghost use Rattle.hz_text.specs.ScriptValue.{IsChange};
+ghost use Rattle.hz_text.specs.Bits.{ArePairs, assigned_bits, pair_of, IsChange};
 
 use crate::assignments::Assigned;
 use hz_core::Memory;
 use std::alloc::Global;
 
-// For each of that many nodes, the bit that is assigned to it.
-pub(crate) fn bits_of(
-    alloc: Global,
-    all: &[Assigned],
-    nodes: u32,
-) -> Result<Vec<Option<bool>>, Memory>
+/// For each of that many nodes, the bit that is assigned to it.
+pub fn bits_of(alloc: Global, all: &[Assigned], nodes: u32) -> Result<Vec<Option<bool>>, Memory>
     requires { ArePairs nodes all.now }
     ensures { IfOk result
         (λ bits. bits.items ≡ map (assigned_bit all.now) (range_with_len 0 nodes)) }
@@ -27,8 +22,8 @@ pub(crate) fn bits_of(
     Ok(bits)
 }
 
-// The nodes and bits of assignments, in place of those that the vector had.
-pub(crate) fn read_pairs(all: &[Assigned], pairs: &mut Vec<(u32, bool)>) -> Result<(), Memory>
+/// The nodes and bits of assignments, in place of those that the vector had.
+pub fn read_pairs(all: &[Assigned], pairs: &mut Vec<(u32, bool)>) -> Result<(), Memory>
     ensures { OnOk result (pairs.new.items ≡ filter_map pair_of all.now) }
 {
     pairs.clear();

@@ -44,10 +44,10 @@ pub enum TextFault {
 
 /// The first count of a network's size that a text has wrong.
 #[derive(Clone, Copy, Debug)]
-pub(crate) struct Mismatch {
-    pub(crate) line: u32,
-    pub(crate) told: u32,
-    pub(crate) real: u32,
+pub struct Mismatch {
+    pub line: u32,
+    pub told: u32,
+    pub real: u32,
 }
 
 impl From<Memory> for TextFault {

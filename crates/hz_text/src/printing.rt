@@ -1,10 +1,9 @@
-//! Printing what scripts and run texts share: assignments, and statements of assignments.
-ghost use Rattle.std.specs.Prelude.{◌≡◌, ◌<◌, ◌≤◌, ◌∷◌, [], length, All};
+//! Printing what all texts share: assignments, and statements of assignments.
+ghost use Rattle.std.specs.Prelude.{◌<◌, ◌≤◌, length, All};
 ghost use Rattle.std.specs.List.{flat_map};
 ghost use Rattle.hz_core.specs.Netlist.{IsCircuit};
 ghost use Rattle.hz_write.specs.Writer.{Writes, NoneWaits};
-ghost use Rattle.hz_text.specs.Printed.{letter_of, assignment_text, statement_text, listed_from};
-ghost use Rattle.hz_text.specs.RunPrinted.{all_listed};
+ghost use Rattle.hz_text.specs.Printed.{assignment_text, statement_text, listed_from, all_listed};
 
 use hz_core::Circuit;
 use hz_outside::Sink;
@@ -39,30 +38,8 @@ pub fn write_assignments<K: Sink>(
     }
 }
 
-// Gives a statement on a line of its own.
-#[tactic(auto, using(hz_write::proofs::Writers::writes_then), unfolding(crate::specs::Printed::statement_text))]
-pub(crate) fn write_statement<K: Sink>(
-    writer: &mut Writer<'_, K>,
-    circuit: &Circuit,
-    keyword: &[u8],
-    pairs: &[(u32, bool)],
-)
-    requires { All (λ pair. pair.0 < length circuit.now.names) pairs.now }
-    ensures gave { Writes K.output K.faults
-        (statement_text circuit.now keyword.now pairs.now) writer.old writer.new }
-    ensures none_waits { NoneWaits writer.new }
-{
-    writer.text(keyword);
-    write_assignments(writer, circuit, pairs);
-    writer.end();
-}
-
-// Gives the nodes that a start lists, with their bits. The start has an entry for each of the first nodes.
-pub(crate) fn write_listed<K: Sink>(
-    writer: &mut Writer<'_, K>,
-    circuit: &Circuit,
-    start: &[Option<bool>],
-)
+/// Gives the nodes that a start lists, with their bits. The start has an entry for each of the first nodes.
+pub fn write_listed<K: Sink>(writer: &mut Writer<'_, K>, circuit: &Circuit, start: &[Option<bool>])
     requires circuit { IsCircuit circuit.now }
     requires nodes { length start.now ≤ length circuit.now.names }
     ensures { Writes K.output K.faults

@@ -18,7 +18,7 @@ use std::alloc::Global;
 ///
 /// `Held`, `Context`, `stated` and `grammar` are as in [`Grammar`]. `rules` are what the passes return, and `node_count` is
 /// above each node that a statement assigns.
-pub(crate) trait Text<'t>: Drop {
+pub trait Text<'t>: Drop {
     ghost use Rattle.std.specs.Prelude.{ℕ, List, Option};
     ghost use Rattle.hz_line.specs.Token.{TokenOf};
     ghost use Rattle.hz_text.specs.Rules.{Rules};
@@ -39,7 +39,7 @@ pub(crate) trait Text<'t>: Drop {
 
     ghost node_count: { Context → ℕ };
 
-    // The statement of a line that begins with this token, and goes on with this rest.
+    /// The statement of a line that begins with this token, and goes on with this rest.
     fn statement(&mut self, first: Token<'t>, rest: &'t [u8]) -> Result<Self::Held, StatementFault>
         ensures read { MatchResult result
             (λ held. by_tokens (λ later. grammar (context self.old) (token_of first.entry ∷ later))
@@ -53,7 +53,7 @@ pub(crate) trait Text<'t>: Drop {
             ((rules (context self.old)).assigned (stated held))) }
         ensures same { context self.new ≡ context self.old };
 
-    // The statement of a line in the commonest form, read without its tokens. `None` says nothing of the line.
+    /// The statement of a line in the commonest form, read without its tokens. `None` says nothing of the line.
     fn short(&self, line: &'t [u8]) -> Option<Self::Held>
         ensures read { IfSome result
             (λ held. meaning_of (grammar (context self.now)) line.now ≡ Means (stated held)) }
@@ -61,23 +61,23 @@ pub(crate) trait Text<'t>: Drop {
             (λ held. AreBelow (node_count (context self.now))
             ((rules (context self.now)).assigned (stated held))) };
 
-    // The number of nodes.
+    /// The number of nodes.
     fn node_count(&self) -> u32
         ensures { result ≡ node_count (context self.now) };
 
-    // What a statement assigns.
+    /// What a statement assigns.
     fn assigned<'h>(&self, held: &'h Self::Held) -> &'h [Assigned]
         ensures { result.now ≡ (rules (context self.now)).assigned (stated held.now) };
 
-    // Whether a statement names what is not there or may not be named.
+    /// Whether a statement names what is not there or may not be named.
     fn is_unknown(&self, held: &Self::Held) -> bool
         ensures { result ≡ (rules (context self.now)).unknown (stated held.now) };
 
-    // Whether a statement has a word that is to be a bit and is none.
+    /// Whether a statement has a word that is to be a bit and is none.
     fn lacks_bit(&self, held: &Self::Held) -> bool
         ensures { result ≡ (rules (context self.now)).bitless (stated held.now) };
 
-    // The least node that has to be assigned and is not.
+    /// The least node that has to be assigned and is not.
     fn least_missing(
         &self,
         alloc: Global,
@@ -87,17 +87,17 @@ pub(crate) trait Text<'t>: Drop {
             (λ node. node ≡ (rules (context self.now)).missing
             (map (numbered_by stated) entries.now)) };
 
-    // The line that breaks the order.
+    /// The line that breaks the order.
     fn first_out_of_order(&self, entries: &[Numbered<Self::Held>]) -> Option<u32>
         ensures { result ≡ (rules (context self.now)).order
             (map (numbered_by stated) entries.now) };
 
-    // The line that passes a limit.
+    /// The line that passes a limit.
     fn line_beyond(&self, entries: &[Numbered<Self::Held>]) -> Option<u32>
         ensures { result ≡ (rules (context self.now)).beyond
             (map (numbered_by stated) entries.now) };
 
-    // The first count of the network's size that the text has wrong.
+    /// The first count of the network's size that the text has wrong.
     fn first_mismatch(&self, entries: &[Numbered<Self::Held>]) -> Option<Mismatch>
         ensures { result ≡ (rules (context self.now)).mismatch
             (map (numbered_by stated) entries.now) };
@@ -135,8 +135,8 @@ impl<'t, T: Text<'t>> Grammar<'t> for Lines<T> {
     }
 }
 
-// The statements of a text in which no fault stands.
-pub(crate) fn read_text<'t, T: Text<'t>>(
+/// The statements of a text in which no fault stands.
+pub fn read_text<'t, T: Text<'t>>(
     alloc: Global,
     reader: T,
     text: &'t [u8],

@@ -3,7 +3,7 @@
 use hz_bench::print;
 use hz_gen::make;
 use hz_samples::circuit_of;
-use hz_text::print_script;
+use hz_script::print_script;
 use std::alloc::Global;
 use std::test::Fail;
 

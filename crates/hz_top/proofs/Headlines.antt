@@ -17,8 +17,8 @@ use Rattle.hz_gmw.specs.Runs.{state_after}
 use Rattle.hz_gmw.specs.Cycles.{states_of}
 use Rattle.hz_gmw.proofs.Flips.{at-state_after, length-state_after}
 use Rattle.hz_reach.specs.Spread.{changes_in}
-use Rattle.hz_text.specs.ScriptText.{IsValue}
-use Rattle.hz_text.specs.ScriptValue.{ScriptOf}
+use Rattle.hz_script.specs.ScriptText.{IsValue}
+use Rattle.hz_script.specs.ScriptValue.{ScriptOf}
 use Rattle.hz_desk.specs.Finding.{FindingOf, values_a, values_b}
 use Rattle.hz_desk.specs.RightFinding.{IsRightFinding}
 use Rattle.hz_seq.specs.Sequence.{changed_input, IsSettledAt, IsFirstUnknown}

@@ -4,15 +4,15 @@ use Rattle.hz_core.specs.Netlist.{Netlist}
 use Rattle.hz_gen.specs.Starts.{IsCompletable}
 use Rattle.hz_options.specs.declared.options.Options.{Options}
 use Rattle.hz_text.specs.declared.fault.TextFault.{TextFault}
-use Rattle.hz_text.specs.ScriptFault.{HasScriptFault}
-use Rattle.hz_text.specs.ScriptText.{IsValue}
-use Rattle.hz_text.specs.ScriptValue.{ScriptOf}
-use Rattle.hz_text.specs.PatternFault.{HasPatternFault}
-use Rattle.hz_text.specs.PatternText.{IsPatternsValue}
-use Rattle.hz_text.specs.PatternValue.{PatternsOf}
-use Rattle.hz_text.specs.RunFault.{HasRunFault}
-use Rattle.hz_text.specs.RunText.{IsRunValue}
-use Rattle.hz_text.specs.RunValue.{RunTextOf}
+use Rattle.hz_script.specs.ScriptFault.{HasScriptFault}
+use Rattle.hz_script.specs.ScriptText.{IsValue}
+use Rattle.hz_script.specs.ScriptValue.{ScriptOf}
+use Rattle.hz_pattern_text.specs.PatternFault.{HasPatternFault}
+use Rattle.hz_pattern_text.specs.PatternText.{IsPatternsValue}
+use Rattle.hz_pattern_text.specs.PatternValue.{PatternsOf}
+use Rattle.hz_run_text.specs.RunFault.{HasRunFault}
+use Rattle.hz_run_text.specs.RunText.{IsRunValue}
+use Rattle.hz_run_text.specs.RunValue.{RunTextOf}
 use Rattle.hz_words.specs.declared.job.Task.{Task}
 use Rattle.hz_words.specs.declared.job.Task.TheVariants.{Analyse, Split, Replay, Convert, Vcd, Batch, Reset}
 use Rattle.hz_refusal.specs.declared.status.Status.{Status}

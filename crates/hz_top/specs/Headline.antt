@@ -12,8 +12,8 @@ use Rattle.hz_net.specs.Starts.{IsStableStart, IsAcceptedStart}
 use Rattle.hz_gmw.specs.Runs.{IsRun, end_of, IsReachable, JoinsTo}
 use Rattle.hz_gmw.specs.Cycles.{states_of, IsNontransient, IsOutcome}
 use Rattle.hz_free.specs.Feedback.{AreFeedbackCycles}
-use Rattle.hz_text.specs.ScriptText.{IsValue}
-use Rattle.hz_text.specs.ScriptValue.{ScriptOf}
+use Rattle.hz_script.specs.ScriptText.{IsValue}
+use Rattle.hz_script.specs.ScriptValue.{ScriptOf}
 use Rattle.hz_desk.specs.Finding.{FindingOf, values_a, values_b}
 use Rattle.hz_desk.specs.RightFinding.{IsRightFinding}
 use Rattle.hz_seq.specs.Sequence.{changed_input, IsSettledAt, IsFirstUnknown}

@@ -21,7 +21,7 @@ use hz_refusal::{
     OnPatterns, OnRuns, OnScript, Status, on_patterns, on_runs, on_script, refuse_load,
 };
 use hz_replay::{Converts, Dumps, Replays};
-use hz_text::PatternReader;
+use hz_pattern_text::PatternReader;
 use hz_words::Task;
 use std::alloc::Global;
 

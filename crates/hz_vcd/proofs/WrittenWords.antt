@@ -9,7 +9,7 @@ use Rattle.hz_core.specs.Netlist.{Netlist, IsCircuit, IsName, variable_count, no
 use Rattle.hz_net.specs.Network.{network_of}
 use Rattle.hz_net.proofs.Places.{length-network_of}
 use Rattle.hz_text.specs.Printed.{letter_of}
-use Rattle.hz_text.specs.RunPrinted.{variable_word, wire_word}
+use Rattle.hz_text.specs.VariableWord.{variable_word, wire_word}
 use Rattle.hz_text.proofs.DecimalLemmas.{decimal-digits, digits-name}
 use Rattle.hz_text.proofs.VariableWords.{wire_at, variable_word-node, variable_word-wire, wire_is_pin, pin-bound}
 use Rattle.hz_vcd.specs.Code.{code_digits, code_of}

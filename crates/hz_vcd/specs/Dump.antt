@@ -8,7 +8,7 @@ use Rattle.hz_net.specs.Network.{network_of, bit_at}
 use Rattle.hz_lists.specs.Listed.{IsRepeatFree}
 use Rattle.hz_gmw.specs.Runs.{state_after}
 use Rattle.hz_text.specs.Printed.{letter_of}
-use Rattle.hz_text.specs.RunPrinted.{variable_word}
+use Rattle.hz_text.specs.VariableWord.{variable_word}
 use Rattle.hz_vcd.specs.Code.{code_of}
 
 -- how many variables a network has

@@ -3,7 +3,7 @@ use Rattle.std.specs.Prelude.{ℕ, List, ◌++◌, Option}
 use Rattle.std.specs.Borrow.{Bor}
 use Rattle.std.specs.Option.{option_map}
 use Rattle.hz_gmw.specs.RunRecord.{RunRecord}
-use Rattle.hz_text.specs.RunValue.{cycle_steps}
+use Rattle.hz_text.specs.RunParts.{cycle_steps}
 
 -- the steps of a cycle, if there is one
 abbrev pub steps_of_cycle : Option (Bor RunRecord) → List (List ℕ)

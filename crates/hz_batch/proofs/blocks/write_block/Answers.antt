@@ -1,7 +1,7 @@
 -- A block's lanes are loaded, and all passes are made.
 use Rattle.std.proofs.Common.{◌≡◌, ◌∙◌, ◌+◌, ◌-◌, ◌^◌, ap, sym, subst, rules, ℕ, List, Option, length, min}
 use Rattle.std.specs.Vec.{vec_len}
-use Rattle.hz_text.specs.PatternValue.{PatternOf}
+use Rattle.hz_pattern_text.specs.PatternValue.{PatternOf}
 use Rattle.hz_plane.specs.declared.stage.Stage.{Stage}
 use Rattle.hz_plane.specs.declared.stage.Stage.TheVariants.{Loading, Settled as AllSettled}
 use Rattle.hz_plane.specs.declared.values.LaneValues.{LaneValues}

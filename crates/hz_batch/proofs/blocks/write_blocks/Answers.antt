@@ -1,7 +1,7 @@
 -- One block more, or the output failed.
 use Rattle.std.proofs.Common.{◌<◌, ◌≤◌, ◌+◌, ◌*◌, ◌∙◌, refl, sym, subst, List, length, take, drop, arith}
 use Rattle.std.proofs.lemmas.List.{length-take-le}
-use Rattle.hz_text.specs.PatternValue.{PatternOf}
+use Rattle.hz_pattern_text.specs.PatternValue.{PatternOf}
 use Rattle.hz_batch.specs.Blocks.{block_count}
 use Rattle.hz_batch.specs.Comes.{comes_to, loaded_by}
 use Rattle.hz_batch.specs.Counts.{no_counts}

@@ -1,8 +1,8 @@
 -- The line of one lane more.
 use Rattle.std.proofs.Common.{◌<◌, ◌≤◌, ◌+◌, ◌∷◌, [], refl, sym, subst, List, length, take, drop, get_or, arith}
 use Rattle.std.proofs.lemmas.List.{length-drop, length-take-le, take_more, get_or-drop}
-use Rattle.hz_text.specs.PatternText.{IsPatternOf}
-use Rattle.hz_text.specs.PatternValue.{PatternOf}
+use Rattle.hz_pattern_text.specs.PatternText.{IsPatternOf}
+use Rattle.hz_pattern_text.specs.PatternValue.{PatternOf}
 use Rattle.hz_plane.specs.Loads.{Loaded}
 use Rattle.hz_batch.specs.Comes.{comes_to, held_by}
 use Rattle.hz_batch.specs.PatternEnd.{listing_of}

@@ -1,8 +1,8 @@
 -- The start of a generated script is accepted.
 use Rattle.std.proofs.Common.{◌≡◌, ◌∙◌, ap, sym, subst, length, List, Bool, Option, arith}
 use Rattle.hz_core.specs.Netlist.{Netlist, IsCircuit}
-use Rattle.hz_text.specs.ScriptValue.{ScriptOf}
-use Rattle.hz_text.specs.ScriptText.{IsScriptFor}
+use Rattle.hz_script.specs.ScriptValue.{ScriptOf}
+use Rattle.hz_script.specs.ScriptText.{IsScriptFor}
 use Rattle.hz_gen.specs.Demo.{demo_netlist, demo_script}
 use Rattle.hz_pass.specs.Completed.{IsStartFault}
 use Rattle.hz_refusal.specs.Ends.{Ends}

@@ -2,7 +2,7 @@
 use Rattle.std.proofs.Common.{◌≡◌, ◌∙◌, ℕ, Bool, List, [], ◌∷◌, ◌<◌, get_or, ap, refl, sym, subst, arith}
 use Rattle.std.proofs.lemmas.Option.{get_or_from_slice_get}
 use Rattle.hz_core.specs.Netlist.{Netlist}
-use Rattle.hz_text.specs.ScriptValue.{IsChange}
+use Rattle.hz_text.specs.Bits.{IsChange}
 use Rattle.hz_desk.specs.Finding.{finding_of}
 use Rattle.hz_seq.specs.Sequence.{SequenceState}
 use Rattle.hz_seq.specs.Analyses.{Found, AreAnalyses}

@@ -3,7 +3,7 @@ use Rattle.std.proofs.Common.{◌≡◌, ◌∙◌, ◌+◌, ◌<◌, ℕ, Bool,
 use Rattle.std.proofs.lemmas.List.{length-take-le, length-append, take-append-drop}
 use Rattle.std.proofs.lemmas.Option.{get_or_from_slice_get}
 use Rattle.std.proofs.Math.Seq.{take-suc, take-length}
-use Rattle.hz_text.specs.ScriptValue.{IsChange}
+use Rattle.hz_text.specs.Bits.{IsChange}
 use Rattle.hz_write.specs.Writer.{Writes, NoneWaits}
 use Rattle.hz_write.proofs.Writers.{writes_nothing, writes_then, writes_failed}
 use Rattle.hz_seq.specs.Analyses.{Analysis, AreAnalyses}

@@ -3,7 +3,7 @@ use Rattle.std.proofs.Common.{◌≡◌, ◌∙◌, ◌+◌, ◌<◌, ℕ, suc, 
 use Rattle.std.proofs.lemmas.List.{length-take-le, length-append, take-append-drop}
 use Rattle.std.proofs.lemmas.Option.{get_or_from_slice_get}
 use Rattle.std.proofs.Math.Seq.{take-suc, take-length, drop-cons}
-use Rattle.hz_text.specs.ScriptValue.{IsChange}
+use Rattle.hz_text.specs.Bits.{IsChange}
 use Rattle.hz_write.specs.Writes.{line_of}
 use Rattle.hz_desk.specs.Finding.{finding_of}
 use Rattle.hz_seq.specs.Sequence.{IsLeftBy}

@@ -3,7 +3,7 @@ use Rattle.std.proofs.Common.{◌≡◌, ◌∙◌, ◌<◌, ℕ, List, length, 
 use Rattle.std.specs.List.{flat_map}
 use Rattle.std.proofs.Math.Seq.{take-length}
 use Rattle.hz_write.proofs.Writers.{writes_then, writes_same}
-use Rattle.hz_text.specs.RunPrinted.{run_text}
+use Rattle.hz_run_text.specs.RunPrinted.{run_text}
 use Rattle.hz_changes.specs.Splits.{closed}
 use Rattle.hz_changes.proofs.SplitLines.{closed-more}
 use Rattle.hz_changes.proofs.splitting.write_found.Goals as goal

@@ -1,6 +1,6 @@
 -- The text has a fault, or the job does its part with the patterns.
 use Rattle.std.proofs.Common.{inl, inr, codes}
-use Rattle.hz_text.specs.PatternFault.{HasPatternFault}
+use Rattle.hz_pattern_text.specs.PatternFault.{HasPatternFault}
 use Rattle.hz_refusal.specs.Second.{OfPatterns}
 use Rattle.hz_refusal.specs.Refused.{TextPrints}
 use Rattle.hz_refusal.proofs.PutEndings.{Ends-more}

@@ -1,6 +1,6 @@
 -- The text has a fault, or the job does its part with the runs.
 use Rattle.std.proofs.Common.{inl, inr, codes}
-use Rattle.hz_text.specs.RunFault.{HasRunFault}
+use Rattle.hz_run_text.specs.RunFault.{HasRunFault}
 use Rattle.hz_refusal.specs.Second.{OfRuns}
 use Rattle.hz_refusal.specs.Refused.{TextPrints}
 use Rattle.hz_refusal.proofs.PutEndings.{Ends-more}

@@ -1,7 +1,7 @@
 -- The text has a fault, or the job does its part with the script.
 use Rattle.std.proofs.Common.{inl, inr, codes, subst, sym}
 use Rattle.hz_core.specs.Netlist.{IsCircuit}
-use Rattle.hz_text.specs.ScriptFault.{HasScriptFault}
+use Rattle.hz_script.specs.ScriptFault.{HasScriptFault}
 use Rattle.hz_refusal.specs.Second.{OfScript}
 use Rattle.hz_refusal.specs.Refused.{TextPrints}
 use Rattle.hz_refusal.proofs.PutEndings.{Ends-more}

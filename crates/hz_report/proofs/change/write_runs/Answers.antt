@@ -3,7 +3,7 @@ use Rattle.std.proofs.Common.{◌≡◌, ◌∙◌, Bool, refl, sym, ap, length}
 use Rattle.std.proofs.lemmas.List.{append-nil, length-map}
 use Rattle.hz_net.specs.Network.{network_of}
 use Rattle.hz_desk.specs.declared.finding.Row.{Row}
-use Rattle.hz_text.specs.RunPrinted.{states_text, run_text_printed}
+use Rattle.hz_run_text.specs.RunPrinted.{states_text, run_text_printed}
 use Rattle.hz_write.proofs.Writers.{writes_then}
 use Rattle.hz_report.specs.Report.{start_line}
 use Rattle.hz_report.proofs.Lines.{length-nodes}

@@ -1,7 +1,7 @@
 use Rattle.std.specs.List.{flat_map}
 use Rattle.std.proofs.Common.{take}
 use Rattle.hz_write.specs.Writer.{Writes}
-use Rattle.hz_text.specs.RunPrinted.{spaced_word}
+use Rattle.hz_text.specs.VariableWord.{spaced_word}
 use Rattle.hz_report.proofs.head.write_variables.Given as goal
 
 -- the words of the variables so far

@@ -1,8 +1,7 @@
 use Rattle.std.proofs.Common.{take}
 use Rattle.std.specs.List.{flat_map}
 use Rattle.hz_write.specs.Writer.{Writes}
-use Rattle.hz_text.specs.Printed.{assignment_text}
-use Rattle.hz_text.specs.RunPrinted.{all_listed}
+use Rattle.hz_text.specs.Printed.{assignment_text, all_listed}
 use Rattle.hz_text.proofs.printing.write_all.Given as goal
 
 -- the nodes so far

@@ -1,7 +1,7 @@
 use Rattle.std.proofs.Common.{◌≡◌, ◌∙◌, ◌++◌, inl, inr, ap, subst, Err, arith, length, List, [], ℕ}
 use Rattle.std.specs.Prelude.{IfSome}
 use Rattle.hz_outside.specs.declared.fault.Place.TheVariants.{Second}
-use Rattle.hz_text.specs.PatternReading.{PatternsReceived}
+use Rattle.hz_pattern_text.specs.PatternReading.{PatternsReceived}
 use Rattle.hz_top.specs.Outcome.{IsSecondFileOutcome, observation_of}
 use Rattle.hz_refusal.specs.Refused.{LoadPrints}
 use Rattle.hz_refusal.specs.Second.{OfPatterns}

@@ -1,0 +1,10 @@
+use Rattle.std.proofs.Common.{take}
+use Rattle.std.specs.List.{flat_map}
+use Rattle.hz_write.specs.Writer.{Writes, NoneWaits}
+use Rattle.hz_run_text.specs.RunPrinted.{run_text}
+use Rattle.hz_run_text.proofs.print.write_all.Given as goal
+
+abbrev pub invariant-loop-number : goal.invariant-loop-number
+invariant-loop-number g l =
+    (Writes g.K.Sink.output g.K.Sink.faults (flat_map (run_text l.net) (take l.number l.text.runs)) l.fn.writer l.writer)
+    × NoneWaits l.writer

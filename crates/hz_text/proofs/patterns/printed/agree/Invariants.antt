@@ -1,6 +1,0 @@
-use Rattle.std.proofs.Common.{◌≡◌, true, nat_eq, take}
-use Rattle.hz_text.specs.PatternModel.{AgreesWith}
-use Rattle.hz_text.proofs.patterns.printed.agree.Given as goal
-
-abbrev pub invariant-loop-i : goal.invariant-loop-i
-invariant-loop-i l = nat_eq l.most 0 ≡ true → AgreesWith (take l.i l.bytes) l.model

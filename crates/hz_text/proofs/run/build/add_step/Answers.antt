@@ -1,7 +1,0 @@
-use Rattle.std.proofs.Common.{◌≡◌, ◌∙◌, ap}
-use Rattle.hz_text.specs.RunStatement.{Step}
-use Rattle.hz_text.proofs.RunBuildLaws.{all_known}
-use Rattle.hz_text.proofs.run.build.add_step.Goals as goal
-
-pub read_known-requires : goal.read_known-requires
-read_known-requires c = all_known c.args.variables.now c.requires.known
