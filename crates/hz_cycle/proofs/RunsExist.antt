@@ -1,9 +1,10 @@
 -- From every stable start, under every input, there are a settle run and a cycle at its end: the spread run, the settling
 -- rounds and one pass, and then two passes. They show that Algorithm B is exact.
 use Rattle.std.proofs.Common.{◌≡◌, ℕ, Bool, not, List, length, refl, sym, ap, ◌∙◌, subst, Contains, IsTrue, ◌++◌}
+use Rattle.hz_net.specs.PassEnds.{SettlingRoundsExist}
 use Rattle.hz_reach.proofs.Words.{Tri, admits, Refines, IsJoinOf, get_or-Refines, Driver, bit_at, value_at, network_of, algorithm_a, algorithm_b, AreRounds}
 use Rattle.hz_reach.proofs.Words.{AreSettlingRounds, IsRun, end_of, states_of, IsCut, cut-member, ResultOfAExists, ResultOfBExists, RanksExist}
-use Rattle.hz_reach.proofs.Words.{SettlingRoundsExist, SparingRunExists, Zero, One, Unknown, Netlist, IsCircuit, IsStableStart, wired-network_of}
+use Rattle.hz_reach.proofs.Words.{SparingRunExists, Zero, One, Unknown, Netlist, IsCircuit, IsStableStart, wired-network_of}
 use Rattle.hz_reach.proofs.Words.{IsSparingRun, IsOutcome, IsRun-front}
 use Rattle.hz_reach.proofs.Exact.{joins-by}
 use Rattle.hz_reach.proofs.RanksOrderGates.{turns-of}
