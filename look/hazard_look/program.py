@@ -4,6 +4,7 @@ import os
 import re
 import shutil
 import subprocess
+import sys
 import tempfile
 
 from . import report
@@ -33,12 +34,23 @@ def find(named, home):
     if named:
         places = [shutil.which(named)]
     else:
-        beside = [os.path.join(home, "hazard"), os.path.join(home, os.pardir, "built", "hazard")]
+        beside = [os.path.join(home, "hazard"), _built(os.path.join(home, os.pardir))]
         places = [place for place in beside if _is_program(place)] + [shutil.which("hazard")]
     if not places[0]:
         where = f"{named} is no program" if named else "not beside this command, not in its repository, not on the path"
         raise Failure(f"no program `hazard` is found: {where}; ./prove builds it, and --hazard or ${VARIABLE} names another", NO_PROGRAM)
     return Program(places[0])
+
+
+def _built(root):
+    """The program that is built from the present sources of a repository. One that is not proved is said to be so."""
+    tool = os.path.join(root, "tools", "built")
+    name = ""
+    if _is_program(tool):
+        name = subprocess.run([tool], stdin=subprocess.DEVNULL, stdout=subprocess.PIPE, text=True).stdout.strip()
+    if name == "unproved" and sys.stderr:
+        print("hazard-look: nothing proves what `hazard` says here; ./prove builds the proved program", file=sys.stderr)
+    return os.path.join(root, "built", name) if name else ""
 
 
 def _is_program(path):
