@@ -22,8 +22,8 @@ use crate::lanes::{Lane, write_lane};
 use crate::outputs::OutputLine;
 use hz_net::Net;
 use hz_outside::Sink;
-use hz_plane::{LaneValues, Planes};
 use hz_pattern_text::Patterns;
+use hz_plane::{LaneValues, Planes};
 use hz_write::Writer;
 
 /// How many patterns a block has.

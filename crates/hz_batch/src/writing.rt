@@ -25,9 +25,9 @@ use hz_core::Memory;
 use hz_net::{Net, passes_end};
 use hz_outside::{PutFault, Sink};
 use hz_pass::starts_are_decided;
+use hz_pattern_text::Patterns;
 use hz_plane::{Planes, listed_inputs_fill};
 use hz_reset::{held_is_forgotten, values_exist};
-use hz_pattern_text::Patterns;
 use hz_write::Writer;
 use std::alloc::Global;
 

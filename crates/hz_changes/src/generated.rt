@@ -17,8 +17,8 @@ use hz_outside::{PutFault, Sink};
 use hz_pass::complete;
 use hz_refusal::{Status, refuse_start, status_after};
 use hz_report::write_summary;
-use hz_seq::Sequence;
 use hz_script::Script;
+use hz_seq::Sequence;
 use hz_write::Writer;
 use std::alloc::Global;
 

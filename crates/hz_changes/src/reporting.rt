@@ -18,9 +18,9 @@ use hz_outside::{PutFault, Sink};
 use hz_reach::run_counts;
 use hz_refusal::{Status, status_after};
 use hz_report::{Plate, write_change, write_head, write_stopped};
-use hz_seq::Sequence;
 use hz_run_text::printed_runs_are_read;
 use hz_script::Script;
+use hz_seq::Sequence;
 use hz_write::Writer;
 use std::alloc::Global;
 

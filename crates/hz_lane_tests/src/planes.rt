@@ -7,9 +7,9 @@ ghost use Rattle.hz_plane.specs.declared.stage.Stage.TheVariants.{Loading, Settl
 
 use hz_line::MAX_TEXT;
 use hz_net::Net;
+use hz_pattern_text::{Patterns, read_patterns};
 use hz_plane::{LaneFault, Planes};
 use hz_samples::{LATCH, MULTIPLEXER, letter_of, net_of, push_numbers};
-use hz_pattern_text::{Patterns, read_patterns};
 use std::alloc::Global;
 use std::test::Fail;
 

@@ -3,9 +3,9 @@
 use hz_batch::{BatchFault, batch};
 use hz_net::Net;
 use hz_outside::Sink;
+use hz_pattern_text::Patterns;
 use hz_plane::Planes;
 use hz_refusal::{OnPatterns, Status};
-use hz_pattern_text::Patterns;
 use std::alloc::Global;
 
 /// The job `batch`.

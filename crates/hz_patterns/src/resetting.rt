@@ -3,10 +3,10 @@
 use hz_batch::{BatchFault, reset};
 use hz_net::Net;
 use hz_outside::Sink;
+use hz_pattern_text::Patterns;
 use hz_plane::Planes;
 use hz_refusal::{OnPatterns, Status};
 use hz_reset::values_cover;
-use hz_pattern_text::Patterns;
 use std::alloc::Global;
 
 /// The job `reset`.

@@ -4,9 +4,9 @@
 use hz_core::Circuit;
 use hz_gmw::Run;
 use hz_line::MAX_TEXT;
-use hz_samples::circuit_of;
 use hz_pattern_text::{print_patterns, read_patterns};
 use hz_run_text::RunText;
+use hz_samples::circuit_of;
 use hz_script::{print_script, read_script};
 use std::alloc::Global;
 use std::test::Fail;

@@ -16,12 +16,12 @@ use hz_line::MAX_TEXT;
 use hz_net::Net;
 use hz_options::Options;
 use hz_outside::{Files, Place, Sink};
+use hz_pattern_text::PatternReader;
 use hz_patterns::{Batches, Resets};
 use hz_refusal::{
     OnPatterns, OnRuns, OnScript, Status, on_patterns, on_runs, on_script, refuse_load,
 };
 use hz_replay::{Converts, Dumps, Replays};
-use hz_pattern_text::PatternReader;
 use hz_words::Task;
 use std::alloc::Global;
 
