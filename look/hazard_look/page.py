@@ -14,7 +14,8 @@ from .network import Network
 from .one_edge import one_edge
 from .report import CLASSES
 from .script import must_be_written_out
-from .summary import MEANINGS, ONE_EDGE, is_clean
+from .moves import is_clean
+from .summary import MEANINGS, ONE_EDGE
 
 HERE = os.path.dirname(os.path.abspath(__file__))
 # A circuit of more nodes is shown as the neighbourhood of a node.
@@ -75,14 +76,13 @@ def _circuit(circuit, network):
 
 
 def _changes(words, report, network):
-    """Each change: its title, the rows as a letter a node, and the runs, which the program has accepted."""
+    """Each change: its title, the rows as a letter a node, and the runs of the report."""
     left = MOST_FLIPS
     for change in report.changes:
         if change.stopped:
             yield {"title": change.title(), "stopped": change.stopped}
             continue
         text = runtext.read(change.run_lines)
-        words.program.must_accept(words.netlist, text)
         left -= sum(len(step) for run in text.runs for step in run.lead + (run.cycle or []))
         yield {"title": change.title(), **_rows(change, network), **(_runs(text, network) if left > 0 else {"runs": []})}
 

@@ -10,7 +10,8 @@ from .one_edge import one_edge
 from .runtext import Run
 from .script import NO_CHANGE, must_be_written_out
 from .search import Edges, Searcher
-from .summary import is_clean, meaning
+from .moves import is_clean, kind_of
+from .summary import meaning
 from .waves import LEGEND, drawn, waves
 
 # How many variables and how many steps a waveform shows.
@@ -36,7 +37,7 @@ def run(words, out):
     change = _change(words, report, circuit)
     row = change.rows[words.node]
     edges = one_edge(circuit, change.rows)
-    out.write(f"{row.name} in change {change.title()}: {row.kind}, {meaning(row, row.name in edges)}\n")
+    out.write(f"{row.name} in change {change.title()}: {kind_of(row)}, {meaning(row, row.name in edges)}\n")
     if row.kind == "steady":
         return DONE
     searcher = Searcher(Network(circuit), runtext.read(change.run_lines))
