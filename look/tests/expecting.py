@@ -103,8 +103,8 @@ def _as_data(folder, gate, run, write):
         1, 1, 1, "j.txt", 2, "g.bench:3")
     bench, text = write(folder, "h.bench", "INPUT(a)\n\nn = NOT(a)\nh = AND(a, n)\nk = BUFF(h)\n"), write(folder, "h.txt", "start a=0\n# up\nchange a=1\n")
     found = json.loads(run(["summary", "--json", bench, text], folder)[1])
-    yield "a summary as data", [(one["node"], one["kind"], one["root"], one["line"]) for one in found["changes"][0]["hazards"]], [
-        ("h", "static-0", True, 4), ("k", "static-0", False, 5)]
+    yield "a summary as data", [(one["node"], one["kind"], one["root"], one["place"].rsplit(":")[-1]) for one in found["changes"][0]["hazards"]], [
+        ("h", "static-0", True, "4"), ("k", "static-0", False, "5")]
     yield "a summary that fails", run(["summary", "--fail", "h.bench", "h.txt", "--roots"], folder)[:2], (
         1, "h.txt:3: change 1 a=1: h static-0: it is 0 before and after, and may pulse to 1 in between (h.bench:4)\n")
     yield "a summary that does not fail", run(["summary", "--fail", "h.bench", "h.txt", "--only", "n"], folder)[:2], (0, "0 findings\n")
