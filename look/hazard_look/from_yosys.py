@@ -16,7 +16,7 @@ _NOT_IN_NAMES = re.compile(r"[^!-~]|[(),=#]")
 # What `rename -enumerate` calls a node that the source text does not name.
 _ENUMERATED = re.compile(r"_\d+_$")
 # Where a cell comes from, up to the column.
-_PLACE = re.compile(r"([^\s#|]+:[0-9]+)\b")
+_PLACE = re.compile(r"([^\s#|]+:[1-9][0-9]*)\b")
 # What reading a part of another shape raises.
 _STRANGE = (AttributeError, IndexError, KeyError, RecursionError, TypeError, ValueError)
 # Cells that are no circuit.

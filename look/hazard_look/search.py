@@ -5,6 +5,7 @@ A run is here a list of steps, each a list of variable numbers. What is found is
 import heapq
 import random
 from collections import Counter, deque
+from itertools import chain
 from typing import NamedTuple
 
 from .history import History
@@ -72,22 +73,17 @@ class Searcher:
 
     def find(self, goal, cone):
         """A run that reaches a goal, as short as cuts make it, or None if none is found. The goal speaks of a cone alone."""
-        for steps in self._runs(cone):
+        for steps in chain(self.printed(), self._random_runs(cone)):
             found = play(self.follower, ([variable for variable in step if variable in cone] for step in steps), goal)
             if found is not None:
                 return shorten(self.follower, found, goal)
         return None
 
-    def _runs(self, cone):
-        """Runs under random delays, and then the runs of the report."""
-        yield from self._random_runs(cone)
-        yield from self.printed()
-
     def edges(self, node, count, moving):
         """A short run in which a node changes so often, or None if none is found. `moving` has the nodes that may move at all."""
         cone, goal = self.network.cone(node), Edges(node, count)
         found = self._built(node, count, cone) if count < 3 else None
-        for steps in [found] if found else self._runs(cone):
+        for steps in [found] if found else chain(self._random_runs(cone), self.printed()):
             steps = play(self.follower, ([variable for variable in step if variable in cone] for step in steps), goal)
             if steps is not None:
                 steps = [[variable] for step in steps for variable in step]

@@ -271,7 +271,7 @@ def _joined(folder, run):
     words = "read_verilog join.v; synth -flatten -noabc -top top; opt_clean; rename -enumerate; write_json join.json"
     subprocess.run(["yosys", "-q", "-p", words], cwd=folder, stdout=subprocess.DEVNULL, stderr=subprocess.DEVNULL, check=True)
     status, found, _ = run(["from-yosys", "--join", "join.json"], folder)
-    yield "joined gates of yosys", (status, dict(line.split(" = ") for line in found.splitlines() if " = " in line)), (0, wanted)
+    yield "joined gates of yosys", (status, dict(line.partition("  #")[0].split(" = ") for line in found.splitlines() if " = " in line)), (0, wanted)
 
 
 def _write(folder, name, text):
