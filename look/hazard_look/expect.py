@@ -37,7 +37,10 @@ class Tally:
 
 def run(words, out):
     """Checks the expectations of a script, and writes a line for each that does not hold."""
-    tally = checked(words, words.program.analyse(words.netlist, words.script))
+    report = words.program.analyse(words.netlist, words.script)
+    tally = checked(words, report.changes)
+    if not tally.all:
+        raise Failure("no comment of the script begins with `#expect`, so nothing is checked", WRONG_WORDS)
     if words.json:
         out.write(json.dumps({"netlist": words.netlist, "script": words.script, "expectations": tally.all, "failed": tally.failed,
                               "not checked": tally.not_checked, "findings": tally.findings, "not analysed": tally.stopped}, indent=1) + "\n")
@@ -51,14 +54,14 @@ def run(words, out):
     return DOES_NOT_HOLD if tally.failed or tally.not_checked else DONE
 
 
-def checked(words, report):
-    """The tally of all expectations of a script along a report."""
+def checked(words, changes):
+    """The tally of all expectations of a script along the changes of a report."""
     circuit = load(words.netlist)
     statements = script.must_be_written_out(words.script)
     expected = expectations.read(words.script, statements, circuit)
     tally, plan = Tally(), _Plan(expected, statements)
     bench = _Bench(words, circuit, plan.spans)
-    for change in report.changes:
+    for change in changes:
         bench.goes_on(change)
         for one, first in plan.checks(change.number):
             tally.all += 1
@@ -68,8 +71,6 @@ def checked(words, report):
                 _note(tally, words, bench, one, first)
         if change.stopped:
             _note_stopped(tally, words, plan, change)
-    if not tally.all:
-        raise Failure("no comment of the script begins with `#expect`, so nothing is checked", WRONG_WORDS)
     if tally.stopped:
         tally.stopped[0]["remark"] += f": {tally.not_checked} expectation{'' if tally.not_checked == 1 else 's'} not checked"
     return tally

@@ -118,17 +118,17 @@ class _Teller:
         return found
 
     def _lines(self, change, told, finding):
-        yield_all = self.words.all or len(told) <= MOST_LINES or self.words.roots
-        lines = [f"{change.title()}: {_verdict(told, finding)}"]
-        rows = told if yield_all else told[:MOST_LINES]
-        lines += [f"  {row.name} {kind_of(row)}: {meaning(row, row.name in finding.edges)}" for row in rows]
-        if len(rows) < len(told):
-            lines.append(f"  .. and {len(told) - len(rows)} more, which --all has")
-        if self.words.all:
-            names = {row.name for row in told}
-            lines += [f"  {row.name} {kind_of(row)}: {meaning(row, row.name in finding.edges)}" for row in change.rows.values()
-                      if row.name in self.chosen and row.name not in names]
-        return lines
+        """The line of a change, and those of its nodes: of many nodes only of roots, unless all are asked for."""
+        of_root = {row.name for row in finding.roots}
+        rows = told if self.words.all or len(told) <= MOST_LINES else [row for row in told if row.name in of_root][:None if self.words.roots else MOST_LINES]
+        more = len(told) - len(rows)
+        lines = [f"{change.title()}: {_verdict(told, finding)}"] + [self._line(row, finding) for row in rows]
+        lines += [f"  .. and {more} more, which --all has"] if more else []
+        names = {row.name for row in told}
+        return lines + [self._line(row, finding) for row in change.rows.values() if self.words.all and row.name in self.chosen and row.name not in names]
+
+    def _line(self, row, finding):
+        return f"  {row.name} {kind_of(row)}: {meaning(row, row.name in finding.edges)}"
 
     def _edge_lines(self, change, pulses):
         if not pulses:

@@ -43,9 +43,7 @@ def run(words, out):
     out.write(f"{row.name} in change {change.title()}: {kind_of(row)}, {meaning(row, row.name in edges)}\n")
     if row.kind == "steady":
         return DONE
-    searcher = Searcher(Network(circuit, is_sorted=True), runtext.read(change.run_lines))
-    moving = {searcher.network.number[one.name] for one in change.rows.values() if one.a == "X"}
-    shown = _shown(searcher, row, is_clean(row, edges), moving)
+    searcher, shown = explained(Network(circuit, is_sorted=True), change, row, edges)
     text = searcher.text.of([Run(searcher.named(one.lead), _named_cycle(searcher, one)) for one in shown])
     words.program.must_accept(words.netlist, text)
     # before the waveforms, of which a reader may want the first lines alone
@@ -74,6 +72,13 @@ def _change(words, report, circuit):
     if words.change is not None or edge is None:
         raise Failure(NO_CHANGE if words.change is None else f"{NO_CHANGE} {words.change}", WRONG_WORDS)
     return edge
+
+
+def explained(network, change, row, edges):
+    """A searcher for the runs of a change, and those that show the class of a node, `edges` being what the rule of one edge covers."""
+    searcher = Searcher(network, runtext.read(change.run_lines))
+    moving = {network.number[one.name] for one in change.rows.values() if one.a == "X"}
+    return searcher, _shown(searcher, row, is_clean(row, edges), moving)
 
 
 def _shown(searcher, row, is_clean_edge, moving):
