@@ -3,7 +3,7 @@
 _hazard_look() {
   local word=${COMP_WORDS[COMP_CWORD]} job=${COMP_WORDS[1]} at place=0 ends=()
   if ((COMP_CWORD == 1)); then
-    COMPREPLY=($(compgen -W 'start summary expect why page clock from-yosys --help' -- "$word"))
+    COMPREPLY=($(compgen -W 'start summary expect why page clock from-yosys from-verilog --help' -- "$word"))
     return
   fi
   case ${COMP_WORDS[COMP_CWORD - 1]} in
@@ -12,9 +12,11 @@ _hazard_look() {
   esac
   if [[ $word == -* ]]; then
     case $job in
-      summary) COMPREPLY=($(compgen -W '--help --hazard --only --all' -- "$word")) ;;
+      summary) COMPREPLY=($(compgen -W '--help --hazard --only --outputs --roots --all --fail --json' -- "$word")) ;;
+      expect) COMPREPLY=($(compgen -W '--help --hazard --json' -- "$word")) ;;
       why) COMPREPLY=($(compgen -W '--help --hazard --save' -- "$word")) ;;
       from-yosys) COMPREPLY=($(compgen -W '--help --top --join' -- "$word")) ;;
+      from-verilog) COMPREPLY=($(compgen -W '--help --gates --top --join' -- "$word")) ;;
       *) COMPREPLY=($(compgen -W '--help --hazard' -- "$word")) ;;
     esac
     return
@@ -29,6 +31,7 @@ _hazard_look() {
   done
   case $job:$place in
     from-yosys:0) ends=(json) ;;
+    from-verilog:*) ends=(v sv) ;;
     from-yosys:* | start:[1-9] | *:[2-9]) COMPREPLY=(); return ;;
     *:0) ends=(bench blif) ;;
   esac

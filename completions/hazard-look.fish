@@ -6,14 +6,21 @@ complete -c hazard-look -n '__fish_is_first_token' -f -a why -d 'a short run in 
 complete -c hazard-look -n '__fish_is_first_token' -f -a page -d 'a page for a browser with the circuit and its runs'
 complete -c hazard-look -n '__fish_is_first_token' -f -a clock -d 'a script with its clock edges written out'
 complete -c hazard-look -n '__fish_is_first_token' -f -a from-yosys -d 'a netlist from what write_json of Yosys gives'
+complete -c hazard-look -n '__fish_is_first_token' -f -a from-verilog -d 'a netlist from Verilog, which calls Yosys'
 # netlists, in .bench or .blif, and designs come before other files
-complete -c hazard-look -n 'test (count (commandline -opc)) -eq 2; and not __fish_seen_subcommand_from from-yosys' -k -a '(__fish_complete_suffix .blif)' -d netlist
-complete -c hazard-look -n 'test (count (commandline -opc)) -eq 2; and not __fish_seen_subcommand_from from-yosys' -k -a '(__fish_complete_suffix .bench)' -d netlist
+complete -c hazard-look -n 'test (count (commandline -opc)) -eq 2; and not __fish_seen_subcommand_from from-yosys from-verilog' -k -a '(__fish_complete_suffix .blif)' -d netlist
+complete -c hazard-look -n 'test (count (commandline -opc)) -eq 2; and not __fish_seen_subcommand_from from-yosys from-verilog' -k -a '(__fish_complete_suffix .bench)' -d netlist
 complete -c hazard-look -n 'test (count (commandline -opc)) -eq 2; and __fish_seen_subcommand_from from-yosys' -k -a '(__fish_complete_suffix .json)' -d design
+complete -c hazard-look -n '__fish_seen_subcommand_from from-verilog' -k -a '(__fish_complete_suffix .v)' -d source
 complete -c hazard-look -s h -l help -d 'say how it is called'
 complete -c hazard-look -n '__fish_seen_subcommand_from start summary expect why page clock' -l hazard -r -F -d 'the program to ask'
 complete -c hazard-look -n '__fish_seen_subcommand_from summary' -l only -x -d 'speak of these nodes alone'
 complete -c hazard-look -n '__fish_seen_subcommand_from summary' -l all -d 'speak of the clean nodes as well'
+complete -c hazard-look -n '__fish_seen_subcommand_from summary' -l outputs -d 'speak of the outputs alone'
+complete -c hazard-look -n '__fish_seen_subcommand_from summary' -l roots -d 'leave out the echoes'
+complete -c hazard-look -n '__fish_seen_subcommand_from summary' -l fail -d 'end with 1 if there is a hazard'
+complete -c hazard-look -n '__fish_seen_subcommand_from summary expect' -l json -d 'write it as JSON'
 complete -c hazard-look -n '__fish_seen_subcommand_from why' -l save -r -F -d 'keep the run as a run text'
-complete -c hazard-look -n '__fish_seen_subcommand_from from-yosys' -l top -x -d 'the module to take'
-complete -c hazard-look -n '__fish_seen_subcommand_from from-yosys' -l join -d 'make gates one again that yosys split'
+complete -c hazard-look -n '__fish_seen_subcommand_from from-yosys from-verilog' -l top -x -d 'the module to take'
+complete -c hazard-look -n '__fish_seen_subcommand_from from-yosys from-verilog' -l join -d 'make gates one again that yosys split'
+complete -c hazard-look -n '__fish_seen_subcommand_from from-verilog' -l gates -d 'keep each gate of the source'

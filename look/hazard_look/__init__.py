@@ -1,5 +1,5 @@
 """The companion of `hazard` for designers: see it, ask why, keep it as a test.
 
 Nothing here is proved, so nothing here is claimed: each value and class is read from a report of `hazard`, and each run that
-is shown has been accepted by `hazard replay`.
+is shown stands in a report, or has been accepted by `hazard replay`.
 """

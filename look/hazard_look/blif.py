@@ -21,30 +21,36 @@ class Cover(NamedTuple):
 
 def read(text):
     """The netlist of a text that `hazard` has accepted."""
-    inputs, outputs, covers = [], [], []
-    for tokens in filter(None, map(str.split, _joined(text))):
+    inputs, outputs, covers, line_of = [], [], [], {}
+    for number, line in _joined(text):
+        tokens = line.split()
+        if not tokens:
+            continue
         if tokens[0] == ".inputs":
             inputs += tokens[1:]
+            line_of.update(dict.fromkeys(tokens[1:], number))
         elif tokens[0] == ".outputs":
             outputs += tokens[1:]
         elif tokens[0] == ".names":
             covers.append(Cover(tokens[1:-1], tokens[-1], []))
+            line_of[tokens[-1]] = number
         elif not tokens[0].startswith("."):
             covers[-1].rows.append(tokens)
     gates = [gate for cover in covers if not cover.is_constant() for gate in _gates(cover)]
-    return Netlist(inputs, [], gates, list(dict.fromkeys(outputs)))
+    return Netlist(inputs, [], gates, list(dict.fromkeys(outputs)), line_of=line_of)
 
 
 def _joined(text):
-    """The lines without their comments. One that ends in a backslash goes on in the next; the backslash is a blank."""
-    pieces = []
-    for row in text.split("\n"):
+    """The lines without their comments, each with the number of its first. One that ends in a backslash goes on in the next; the
+    backslash is a blank."""
+    pieces, first = [], 1
+    for number, row in enumerate(text.split("\n"), 1):
         statement = row.removesuffix("\r").partition("#")[0]
         pieces.append(statement.removesuffix("\\"))
         if not statement.endswith("\\"):
-            yield " ".join(pieces)
-            pieces = []
-    yield " ".join(pieces)
+            yield first, " ".join(pieces)
+            pieces, first = [], number + 1
+    yield first, " ".join(pieces)
 
 
 def _gates(cover):

@@ -3,16 +3,21 @@
 `#clock ck` is a rising edge of `ck`, `#clock ck=0` a falling one, and `#clock` an edge of a clock that is no node. A flip-flop
 takes the value that its data node has before the edge. Which clock it has is said by a comment of its line in the netlist, as
 `from-yosys` writes it; without one it follows each.
+
+The changes are written by a simulation, in which one gate changes after the other. Then one report on the whole script has to show the
+same values at rest, and nothing is written if it does not.
 """
+import os
 import re
-import sys
 
 from . import script
 from .circuit import load
-from .errors import DOES_NOT_HOLD, DONE, SCRIPT_FAULT, Failure, read_file
+from .errors import DOES_NOT_HOLD, DONE, NOT_ACCEPTED, SCRIPT_FAULT, Failure, say
+from .expectations import EDGE
 from .lines import spelt
+from .moves import is_clean
 from .one_edge import one_edge
-from .summary import is_clean
+from .resting import Resting
 
 _CLOCK = re.compile(r"\bclock (\S+) (rising|falling)\b")
 _RESET = re.compile(r"\breset (\S+)=([01]) to ([01])(?!\S)")
@@ -20,23 +25,16 @@ _EDGE = re.compile(r"(?:([^\s=]+)(?:=([01]))?)?$")
 
 
 def run(words, out):
-    """Writes the script with its edges written out."""
-    report = words.program.analyse(words.netlist, words.script)
+    """Writes the script with its edges written out, all of it or nothing."""
+    start = words.program.analyse(words.netlist, words.script).start
     circuit = load(words.netlist)
+    writer = _Writer(circuit, words.script, start)
+    for statement in script.read(words.script):
+        writer.statement(statement)
+    text = "".join(line + "\n" for line in writer.lines)
+    _check(words, circuit, writer, text)
     _warn(circuit)
-    writer = _Writer(words, circuit, report.start, out)
-    is_started = False
-    for statement in script.read(read_file(words.script)):
-        edges = list(script.words_after(statement.comment, "clock"))
-        if edges and not is_started:
-            raise Failure(f"script line {statement.number}: an edge stands after the start", SCRIPT_FAULT)
-        is_started = is_started or statement.keyword == "start"
-        if edges:
-            writer.edge(statement, edges)
-        elif statement.keyword == "change":
-            writer.change(statement.values, statement.line, statement.number)
-        else:
-            out.write(statement.line.rstrip("\r") + "\n")
+    out.write(text)
     return DONE
 
 
@@ -45,71 +43,133 @@ def _warn(circuit):
     for name in circuit.unread_inputs():
         is_clock = any(found and found[1] == name for found in (_CLOCK.search(cut.comment) for cut in circuit.cuts))
         what = "its edges act by the flip-flops alone" if is_clock else "a change of it changes nothing else"
-        sys.stderr.write(f"hazard-look: no gate reads {name}: {what}\n")
+        say(f"hazard-look: no gate reads {name}: {what}")
+
+
+def _check(words, circuit, writer, text):
+    """Compares the values after each change with the report on the script that is to be written, and warns of pulses."""
+    at_rest = dict(writer.start)
+    for change, made in zip(words.program.analyse_lines(words.netlist, text), writer.made):
+        unsettled = next((row.name for row in change.rows.values() if row.b == "X"), None)
+        where = f"{words.script}:{made.number}"
+        if unsettled:
+            raise Failure(f"{where}: {unsettled} does not settle after `change{spelt(made.values)}`", DOES_NOT_HOLD)
+        at_rest.update(made.settled)
+        if any(str(at_rest[row.name]) != row.b for row in change.rows.values()):
+            raise Failure(f"{where}: the values after `change{spelt(made.values)}` are not those of the report", NOT_ACCEPTED)
+        for line in _pulses(circuit, change.rows):
+            say(f"hazard-look: {where}: {line}")
+
+
+def _pulses(circuit, rows):
+    """The clocks and resets that may pulse: a flip-flop may take a pulse for an edge or a reset, and the script does not."""
+    found, edges = {}, one_edge(circuit, rows)
+    for cut in circuit.cuts:
+        clock, reset = _CLOCK.search(cut.comment), _RESET.search(cut.comment)
+        if clock and not is_clean(rows[clock[1]], edges):
+            found.setdefault(f"the clock {clock[1]} may pulse, and the script has no edge for it", []).append(cut.name)
+        if reset and rows[reset[1]].kind == "static" and rows[reset[1]].start != reset[2]:
+            found.setdefault(f"the reset {reset[1]} may pulse, and the script resets nothing", []).append(cut.name)
+    for what, (first, *others) in found.items():
+        more = f" and {len(others)} more" if others else ""
+        yield f"{what}: flip-flop {first}{more}"
+
+
+class _Made:
+    """A change that is written: its line in the script that is read, what it assigns, and the nodes that it brings to another value."""
+
+    def __init__(self, number, values, settled):
+        self.number, self.values, self.settled = number, values, settled
 
 
 class _Writer:
-    """Writes changes, and knows the values of all nodes after them, each read from a report."""
+    """Writes changes, and knows the values of all nodes after them."""
 
-    def __init__(self, words, circuit, start, out):
-        self.words, self.circuit, self.values, self.out = words, circuit, start, out
+    def __init__(self, circuit, path, start):
+        self.circuit, self.path, self.start = circuit, path, start
+        self.resting = Resting(circuit, start)
+        self.lines, self.made, self.is_started = [], [], False
 
-    def change(self, values, line, number):
-        """Writes the line of a change, and then the change of the flip-flops that it resets."""
-        self.out.write(line.rstrip("\r") + "\n")
-        text = f"start{spelt(self.values)}\nchange{spelt(values)}\n"
-        _, (found,) = self.words.program.analyse_text(self.words.netlist, text)
-        unsettled = next((row.name for row in found.rows.values() if row.b == "X"), None)
-        if unsettled:
-            raise Failure(f"script line {number}: {unsettled} does not settle after `change{spelt(values)}`", DOES_NOT_HOLD)
-        self._warn_of_pulses(found.rows, number)
-        self.values = {row.name: int(row.b) for row in found.rows.values()}
-        reset = self._reset()
-        if reset:
-            self._short(reset, "  # reset", number)
+    def statement(self, statement):
+        """Writes a line of the script, or the changes for which it stands."""
+        faults = statement.faults + self._clock_in_remark(statement)
+        if faults:
+            raise self._fault(statement, faults[0])
+        if statement.texts("clock") and not self.is_started:
+            raise self._fault(statement, "an edge stands after the start")
+        self.is_started = self.is_started or statement.keyword == "start"
+        if statement.texts("clock"):
+            self._edge(statement)
+            return
+        self.lines.append(statement.line)
+        if statement.keyword == "change":
+            self._make(statement.values, statement.number)
+            self._reset(statement.number, "  # reset")
 
-    def _warn_of_pulses(self, rows, number):
-        """Warns of clocks and resets that may pulse: a flip-flop may take a pulse for an edge or a reset, and the script does not."""
-        found, edges = {}, one_edge(self.circuit, rows)
-        for cut in self.circuit.cuts:
-            clock, reset = _CLOCK.search(cut.comment), _RESET.search(cut.comment)
-            if clock and not is_clean(rows[clock[1]], edges):
-                found.setdefault(f"the clock {clock[1]} may pulse, and the script has no edge for it", []).append(cut.name)
-            if reset and rows[reset[1]].kind == "static" and rows[reset[1]].start != reset[2]:
-                found.setdefault(f"the reset {reset[1]} may pulse, and the script resets nothing", []).append(cut.name)
-        for what, (first, *others) in found.items():
-            more = f" and {len(others)} more" if others else ""
-            sys.stderr.write(f"hazard-look: script line {number}: {what}: flip-flop {first}{more}\n")
+    def _fault(self, statement, what):
+        return script.fault_of(self.path, statement.number, what, SCRIPT_FAULT)
 
-    def _reset(self):
-        """The flip-flops that a reset is to change, with their new values."""
+    def _clock_in_remark(self, statement):
+        """That a line has nothing but a remark that is an edge of an input but for a blank."""
+        found = re.fullmatch(r"#\s+clock\s+([^\s=]+)(=[01])?", statement.remark.strip())
+        is_alone = not statement.keyword and not statement.marks
+        return ["`# clock` is read as a remark: write `#clock`, without a blank"] if found and is_alone and found[1] in self.circuit.inputs else []
+
+    def _make(self, values, number):
+        """Lets the circuit come to rest after a change."""
+        self.made.append(_Made(number, values, self.resting.after(values)))
+
+    def _reset(self, number, end):
+        """Writes the change of the flip-flops that a reset changes, if there is one."""
+        values = self.resting.value
         resets = ((cut.name, _RESET.search(cut.comment)) for cut in self.circuit.cuts)
-        acting = {name: int(found[3]) for name, found in resets if found and self.values.get(found[1]) == int(found[2])}
-        return {name: bit for name, bit in acting.items() if self.values[name] != bit}
+        acting = {name: int(found[3]) for name, found in resets if found and values.get(found[1]) == int(found[2])}
+        moved = {name: bit for name, bit in acting.items() if values[name] != bit}
+        if moved:
+            self.lines.append(f"change{spelt(moved)}{end}")
+            self._make(moved, number)
 
-    def edge(self, statement, edges):
-        """Writes the changes of a line `#clock ..`; what else its comment has goes to the last of them."""
-        found = _EDGE.match("=" if edges[0] is None else edges[0])
-        if statement.keyword or len(edges) > 1 or not found:
-            raise Failure(f"script line {statement.number}: an edge is a line `#clock NAME` or `#clock NAME=BIT`", SCRIPT_FAULT)
+    def _edge(self, statement):
+        """Writes the changes of a line `#clock ..`. What is expected there is expected of each of them, and of the last one what is
+        expected of the edge."""
+        told, values = statement.texts("clock"), self.resting.value
+        found = _EDGE.match(told[0])
+        if statement.keyword or len(told) > 1 or not found:
+            raise self._fault(statement, "an edge is a line `#clock NAME` or `#clock NAME=BIT`")
         clock, bit = found[1], int(found[2] or 1)
         if clock and clock not in self.circuit.inputs:
-            raise Failure(f"script line {statement.number}: no input is named {clock}", SCRIPT_FAULT)
-        if clock and self.values[clock] == bit:
-            self._short({clock: 1 - bit}, "", statement.number)
-        before = self.values
+            raise self._fault(statement, f"no input is named {clock}")
+        if clock and values[clock] == bit:
+            self._written({clock: 1 - bit}, statement.number)
+        begin, before = len(self.lines), dict(values)
         if clock:
-            self._short({clock: bit}, f"  # the edge of {clock}, then the flip-flops", statement.number)
+            self._written({clock: bit}, statement.number)
         loaded = {cut.name: before[cut.data] for cut in self.circuit.cuts if not clock or self._follows(cut, before)}
-        rest = "".join(f"  {piece}" for piece in _others(statement.comment))
         if loaded:
-            self._short(loaded, rest, statement.number)
-        else:
-            self.out.write(f"# no flip-flop has an edge{rest}\n")
+            self._written(loaded, statement.number)
+        self._mark(statement, begin, f"{clock}={bit}" if clock else "flip-flops")
 
-    def _short(self, values, comment, number):
+    def _written(self, values, number):
         """A change that has no line of its own in the script."""
-        self.change(values, f"change{spelt(values)}{comment}", number)
+        self.lines.append(f"change{spelt(values)}")
+        self._make(values, number)
+        self._reset(number, "")
+
+    def _mark(self, statement, begin, name):
+        """Writes behind the changes of an edge that they are one, and what is expected of them."""
+        count = len(self.lines) - begin
+        expected = statement.texts("expect")
+        own = [text for text in expected if not text.lower().startswith(EDGE)]
+        of_edge = [text for text in expected if text.lower().startswith(EDGE)]
+        if count == 0:
+            if expected:
+                raise self._fault(statement, "no flip-flop has an edge, so nothing happens of which something could be expected")
+            self.lines.append("# no flip-flop has an edge" + (f"  {statement.remark}" if statement.remark else ""))
+        for at in range(begin, len(self.lines)):
+            marks = [f"#edge {name if at == begin else script.GOES_ON}"] if count > 1 or of_edge else []
+            marks += [f"#expect {text}" for text in own + (of_edge if at == len(self.lines) - 1 else [])]
+            marks += [statement.remark] if statement.remark and at == len(self.lines) - 1 else []
+            self.lines[at] = "  ".join([self.lines[at]] + marks)
 
     def _follows(self, cut, before):
         """Whether the clock of a flip-flop has had its edge; one whose clock is not known follows each edge."""
@@ -117,9 +177,4 @@ class _Writer:
         if not found:
             return True
         new = int(found[2] == "rising")
-        return before[found[1]] != new and self.values[found[1]] == new
-
-
-def _others(comment):
-    """The pieces of a comment beside its `#clock ..`."""
-    return ["#" + piece.rstrip() for piece in comment.split("#")[1:] if not piece.startswith("clock")]
+        return before[found[1]] != new and self.resting.value[found[1]] == new

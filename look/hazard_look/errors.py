@@ -1,5 +1,6 @@
-"""What ends a job before it is done, and the statuses that go with it."""
+"""What ends a job before it is done, the statuses that go with it, and what is said on standard error."""
 import os
+import sys
 
 DONE = 0
 DOES_NOT_HOLD = 1
@@ -10,16 +11,27 @@ FILE_NOT_READ = 6
 OUTPUT_FAILED = 8
 NAME_NOT_READ = 10
 NOT_ACCEPTED = 70
+OWN_FAULT = 70
 NO_PROGRAM = 127
+SIGNALLED = 128
 INTERRUPTED = 130
 
 
 class Failure(Exception):
-    """One line for standard error, and the status that the command ends with."""
+    """Lines for standard error, and the status that the command ends with."""
 
-    def __init__(self, line, status):
-        super().__init__(line)
+    def __init__(self, lines, status):
+        super().__init__(lines)
         self.status = status
+
+
+def say(line):
+    """Writes a line on standard error. If nobody reads it, that changes neither the answer nor the status."""
+    try:
+        sys.stderr.write(line + "\n")
+        sys.stderr.flush()
+    except OSError:
+        os.dup2(os.open(os.devnull, os.O_WRONLY), sys.stderr.fileno())
 
 
 def read_file(path):

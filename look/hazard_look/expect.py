@@ -1,149 +1,175 @@
 """The job `expect`: expectations in the comments of a script, so that the script stays one and is a test as well."""
-import sys
+import json
 from functools import cached_property
-from typing import NamedTuple, Union
+from typing import NamedTuple
 
-from . import runtext, script
-from .circuit import load, no_node
-from .errors import DOES_NOT_HOLD, DONE, WRONG_WORDS, Failure, read_file
-from .lines import assigned
+from . import expectations, runtext, script
+from .circuit import load
+from .errors import DOES_NOT_HOLD, DONE, WRONG_WORDS, Failure
+from .expectations import Class, Edges, Never
+from .moves import Moves, classes_of, kind_of, most_edges
 from .network import Network
 from .one_edge import one_edge
-from .report import CLASSES
 from .search import Searcher, Values
-from .summary import is_clean
-
-CLEAN = "clean"
-
-
-class Class(NamedTuple):
-    """A node has one of some classes."""
-
-    node: str
-    kinds: list
-
-
-class Never(NamedTuple):
-    """No state has all of these values."""
-
-    values: dict
-
-
-class Settled(NamedTuple):
-    """No node is unsettled."""
-
-
-class Expectation(NamedTuple):
-    """What is expected, its words, its line in the script, and its change; None for each change."""
-
-    what: Union[Class, Never, Settled]
-    text: str
-    line: int
-    change: int
 
 
 class Answer(NamedTuple):
-    """Whether an expectation holds, and a remark that is worth a line in either case."""
+    """Whether an expectation holds, a remark that is worth a line in either case, and the node of which it speaks."""
 
     holds: bool
     remark: str
+    node: str = ""
+
+
+class Tally:
+    """How many expectations were checked, each for each change or edge that it speaks of, how many failed, and how many could not be
+    checked; and what is told of them."""
+
+    def __init__(self):
+        self.all = self.failed = self.not_checked = 0
+        self.findings, self.stopped = [], []
+
+    def spelt(self):
+        """The last line."""
+        more = f", {self.not_checked} not checked" if self.not_checked else ""
+        return f"{self.all} expectation{'' if self.all == 1 else 's'}, {self.failed} failed{more}"
 
 
 def run(words, out):
     """Checks the expectations of a script, and writes a line for each that does not hold."""
     report = words.program.analyse(words.netlist, words.script)
+    tally = checked(words, report.changes)
+    if not tally.all:
+        raise Failure("no comment of the script begins with `#expect`, so nothing is checked", WRONG_WORDS)
+    if words.json:
+        out.write(json.dumps({"netlist": words.netlist, "script": words.script, "expectations": tally.all, "failed": tally.failed,
+                              "not checked": tally.not_checked, "findings": tally.findings, "not analysed": tally.stopped}, indent=1) + "\n")
+    else:
+        for finding in tally.findings:
+            out.write(f"{finding['file']}:{finding['line']}: change {finding['change']}: {finding['expectation']}: {finding['remark']}"
+                      + (f" ({finding['netlist']})" if finding["netlist"] else "") + "\n")
+        for one in tally.stopped:
+            out.write(f"{one['file']}:{one['line']}: {one['remark']}\n")
+        out.write(tally.spelt() + "\n")
+    return DOES_NOT_HOLD if tally.failed or tally.not_checked else DONE
+
+
+def checked(words, changes):
+    """The tally of all expectations of a script along the changes of a report."""
     circuit = load(words.netlist)
-    expected = expectations(read_file(words.script), circuit)
-    network, failed = Network(circuit), 0
-    for change in report.changes:
-        judge = _Judge(words, network, change)
+    statements = script.must_be_written_out(words.script)
+    expected = expectations.read(words.script, statements, circuit)
+    tally, plan = Tally(), _Plan(expected, statements)
+    bench = _Bench(words, circuit, plan.spans)
+    for change in changes:
+        bench.goes_on(change)
+        for one, first in plan.checks(change.number):
+            tally.all += 1
+            if change.stopped:
+                tally.not_checked += 1
+            else:
+                _note(tally, words, bench, one, first)
+        if change.stopped:
+            _note_stopped(tally, words, plan, change)
+    if tally.stopped:
+        tally.stopped[0]["remark"] += f": {tally.not_checked} expectation{'' if tally.not_checked == 1 else 's'} not checked"
+    return tally
+
+
+def _note(tally, words, bench, one, first):
+    """Judges an expectation, and notes what is worth a line."""
+    answer, change = bench.answer(one, first), bench.change
+    tally.failed += not answer.holds
+    if answer.remark:
+        title = change.title() if first == change.number else f"{first} to {change.title()}"
+        tally.findings.append({"file": words.script, "line": one.line, "change": title, "number": change.number, "first": first, "holds": answer.holds,
+                               "expectation": one.text, "remark": answer.remark, "node": answer.node,
+                               "netlist": bench.circuit.place(answer.node, words.netlist)})
+
+
+def _note_stopped(tally, words, plan, change):
+    """Notes in one line all changes that are not analysed."""
+    if not tally.stopped:
+        tally.stopped.append({"file": words.script, "line": plan.line_of[change.number], "first": change.number})
+    first = tally.stopped[0]["first"]
+    which = f"change {first} is" if first == change.number else f"changes {first} to {change.number} are"
+    tally.stopped[0].update(last=change.number, remark=f"{which} not analysed, {change.stopped} did not settle in change {first - 1}")
+
+
+class _Plan:
+    """Which expectations are to be judged at the end of each change, and from which change on each speaks."""
+
+    def __init__(self, expected, statements):
+        self.line_of = script.lines_of_changes(statements)
+        self.edges = script.edges_of(statements)
+        self.defaults = [one for one in expected if one.first is None]
+        self.own = {}
         for one in expected:
-            if one.change in (None, change.number):
-                answer = judge.answer(one.what)
-                failed += not answer.holds
-                if answer.remark:
-                    out.write(f"line {one.line}, change {change.title()}: {one.text}: {answer.remark}\n")
-    if not expected:
-        sys.stderr.write("hazard-look: no comment of the script begins with `#expect`, so nothing is checked\n")
-    out.write(f"{len(expected)} expectation{'' if len(expected) == 1 else 's'}, {failed} failed\n")
-    return DOES_NOT_HOLD if failed else DONE
+            if one.first is not None:
+                self.own.setdefault(one.last, []).append(one)
+        spans = {(one.first, one.last) for one in expected if one.first != one.last}
+        spans |= {(first, last) for last, first in self.edges.items() if any(one.of_edge for one in self.defaults)}
+        self.spans = sorted(spans)
+
+    def checks(self, number):
+        """The expectations of a change, each with the first change that it speaks of. What a change expects itself goes before the
+        defaults."""
+        own = self.own.get(number, [])
+        for one in self.defaults:
+            first = self.edges.get(number) if one.of_edge else number
+            if first and not any(mine.of_edge == one.of_edge and mine.first == first and mine.overrides(one) for mine in own):
+                yield one, first
+        for one in own:
+            yield one, one.first
 
 
-def expectations(text, circuit):
-    """The expectations of a script. One that stands before the first change is of each change."""
-    found, change, faults = [], None, []
-    statements = list(script.read(text))
-    for statement in statements:
-        if statement.keyword == "change":
-            change = (change or 0) + 1
-        if script.is_edge(statement):
-            faults.append(script.not_written_out(statement))
-        for items in script.words_after(statement.comment, "expect"):
-            for item in items.split(",") if items else [""]:
-                what = _read_item(item.split(), circuit)
-                if isinstance(what, str):
-                    faults.append(f"script line {statement.number}: {what}")
-                else:
-                    found.append(Expectation(what, " ".join(item.split()), statement.number, change))
-    if faults:
-        raise Failure("; ".join(faults), WRONG_WORDS)
-    script.must_have_a_change(statements)
-    return found
+class _Bench:
+    """Judges expectations of the change that is read, and of spans of changes that end with it."""
 
+    def __init__(self, words, circuit, spans):
+        self.words, self.circuit, self.network = words, circuit, Network(circuit)
+        self.begin, self.end = {}, {}
+        for first, last in spans:
+            self.begin.setdefault(first, []).append((first, last))
+        self.open, self.change = {}, None
 
-def _read_item(words, circuit):
-    """What some words expect, or why they can't be read."""
-    if words == ["settled"]:
-        return Settled()
-    if words[:1] == ["never"]:
-        values = _values(words[1:])
-        strange = [name for name in values or () if name not in circuit.nodes]
-        if not values:
-            return "after `never` stand assignments, as in `never g1=1 g2=1`"
-        return no_node(circuit, strange[0]) if strange else Never(values)
-    if len(words) % 2 or words[2::2] != ["or"] * (len(words) // 2 - 1) or not words:
-        return (f"`{' '.join(words)}` is no expectation: `NODE CLASS`, `NODE CLASS or CLASS`, `never NODE=BIT ..`, `settled`; "
-                "a remark begins with another #")
-    strange = [word for word in words[1::2] if word not in CLASSES + (CLEAN,)]
-    if strange:
-        return f"no class is named {strange[0]}; the classes are {', '.join(CLASSES + (CLEAN,))}"
-    return Class(words[0], words[1::2]) if words[0] in circuit.nodes else no_node(circuit, words[0])
-
-
-def _values(words):
-    """The values of words `node=bit`."""
-    return assigned([token for word in words for token in (word.partition("="))])
-
-
-class _Judge:
-    """Says of the expectations of a change whether they hold."""
-
-    def __init__(self, words, network, change):
-        self.words, self.network, self.change = words, network, change
+    def goes_on(self, change):
+        """Takes up the next change."""
+        self.change = change
+        self.__dict__.pop("edges", None)
+        self.open = {span: moves for span, moves in self.open.items() if span[1] >= change.number}
+        self.open.update((span, Moves(self.circuit)) for span in self.begin.get(change.number, ()))
+        if not change.stopped:
+            for moves in self.open.values():
+                moves.add(change, self.edges)
 
     @cached_property
     def edges(self):
         """The nodes that the rule of one edge covers."""
-        return one_edge(self.network.netlist, self.change.rows)
+        return one_edge(self.circuit, self.change.rows)
 
-    def answer(self, what):
-        if self.change.stopped:
-            return Answer(False, f"not analysed, {self.change.stopped} did not settle in an earlier change")
-        if isinstance(what, Class):
-            return self._of_class(what)
-        return self._of_never(what) if isinstance(what, Never) else self._of_settled()
+    def answer(self, one, first):
+        """Whether an expectation holds."""
+        if isinstance(one.what, (Class, Edges)):
+            row = self.change.rows[one.what.node]
+            if first != self.change.number:
+                row = self.open[first, self.change.number].row(one.what.node)
+            return self._of_class(one.what, row) if isinstance(one.what, Class) else self._of_edges(one.what, row)
+        return self._of_never(one.what) if isinstance(one.what, Never) else self._of_settled()
 
-    def _of_class(self, what):
-        row = self.change.rows[what.node]
-        kinds = {row.kind} | ({CLEAN} if is_clean(row, self.edges) else set())
-        if row.kind == "change" and CLEAN in kinds:
-            kinds.add("single")
+    def _of_class(self, what, row):
+        kinds = classes_of(row, self.edges)
         holds = not kinds.isdisjoint(what.kinds)
-        return Answer(holds, "" if holds else f"its class is {row.kind}")
+        return Answer(holds, "" if holds else f"its class is {kind_of(row)}", what.node)
+
+    def _of_edges(self, what, row):
+        most = most_edges(row, self.edges)
+        holds = most is not None and most <= what.most
+        return Answer(holds, "" if holds else f"it may make {'more edges, which are not counted' if most is None else most}", what.node)
 
     def _of_settled(self):
-        unsettled = [row.name for row in self.change.rows.values() if row.b == "X"]
-        return Answer(not unsettled, f"{unsettled[0]} is unsettled" if unsettled else "")
+        unsettled = next((row.name for row in self.change.rows.values() if row.b == "X"), "")
+        return Answer(not unsettled, f"{unsettled} is unsettled" if unsettled else "", unsettled)
 
     def _of_never(self, what):
         """A value that A excludes is never there, which is proved. Otherwise a state with the values is looked for."""

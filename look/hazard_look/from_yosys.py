@@ -5,17 +5,18 @@ the cell. A flip-flop is cut. What can't be translated is refused by name.
 """
 import json
 import re
-import sys
 
 from . import netlist
 from .cells import GATES, expansion_of
-from .errors import DONE, NETLIST_FAULT, Failure, read_file
+from .errors import DONE, NETLIST_FAULT, Failure, read_file, say
 from .join import joined
 from .start import line
 
 _NOT_IN_NAMES = re.compile(r"[^!-~]|[(),=#]")
 # What `rename -enumerate` calls a node that the source text does not name.
 _ENUMERATED = re.compile(r"_\d+_$")
+# Where a cell comes from, up to the column.
+_PLACE = re.compile(r"([^\s#|]+:[1-9][0-9]*)\b")
 # What reading a part of another shape raises.
 _STRANGE = (AttributeError, IndexError, KeyError, RecursionError, TypeError, ValueError)
 # Cells that are no circuit.
@@ -24,36 +25,32 @@ _SILENT = ("$scopeinfo",)
 
 def run(words, out):
     """Writes the netlist of a design to `out`, and the first line of a script to standard error."""
-    module = _module(words)
+    return write(read_file(words.design), words, words.design, out)
+
+
+def write(text, words, name, out):
+    """Writes the netlist of a design in a text; `name` is what it is called in messages."""
     try:
-        design = _Design(module)
-        text = design.text(words.join)
+        design = _Design(_module(json.loads(text)["modules"], words, name))
+        netlist_text = design.text(words.join)
     except _STRANGE as fault:
-        raise _not_a_design(words) from fault
-    if not text.strip():
-        raise Failure(f"{words.design}: the module has neither ports nor cells", NETLIST_FAULT)
-    out.write(text)
-    sys.stderr.write(design.start_line(netlist.read(text)) + "\n")
+        raise Failure(f"{name}: not what `write_json` of yosys writes", NETLIST_FAULT) from fault
+    if not netlist_text.strip():
+        raise Failure(f"{name}: the module has neither ports nor cells", NETLIST_FAULT)
+    out.write(netlist_text)
+    say(design.start_line(netlist.read(netlist_text)))
     return DONE
 
 
-def _module(words):
-    """The module to take, from the file that is named."""
-    try:
-        modules = json.loads(read_file(words.design))["modules"]
-        tops = [name for name, module in modules.items() if int(module.get("attributes", {}).get("top", "0"), 2)]
-    except _STRANGE as fault:
-        raise _not_a_design(words) from fault
+def _module(modules, words, name):
+    """The module to take."""
+    tops = [top for top, module in modules.items() if int(module.get("attributes", {}).get("top", "0"), 2)]
     if not modules:
-        raise Failure(f"{words.design}: the design has no module", NETLIST_FAULT)
+        raise Failure(f"{name}: the design has no module", NETLIST_FAULT)
     chosen = [words.top] if words.top else tops or list(modules)
     if len(chosen) != 1 or chosen[0] not in modules:
-        raise Failure(f"{words.design}: name one of its modules by --top: {', '.join(modules)}", NETLIST_FAULT)
+        raise Failure(f"{name}: name one of its modules by --top: {', '.join(modules)}", NETLIST_FAULT)
     return modules[chosen[0]]
-
-
-def _not_a_design(words):
-    return Failure(f"{words.design}: not what `write_json` of yosys writes", NETLIST_FAULT)
 
 
 class _Design:
@@ -126,7 +123,7 @@ class _Design:
             if name not in self.plain:
                 yield line
             elif name in left:
-                yield f"{name} = {left[name].kind}({', '.join(left[name].sources)})"
+                yield f"{name} = {left[name].kind}({', '.join(left[name].sources)})" + line[line.index(")") + 1:]
 
     def _output(self, name, port):
         """The lines of an output port. A bit that has the name of another port is said to be that one."""
@@ -135,22 +132,25 @@ class _Design:
             yield f"OUTPUT({node})" + ("" if node == own else f"  # {own} of the design")
 
     def _cell(self, name, cell):
-        """The lines of a cell."""
+        """The lines of a cell, each with its place in the source text."""
         kind, pins = cell["type"], cell["connections"]
+        place = _PLACE.match(cell.get("attributes", {}).get("src", ""))
+        end = f"  # {place[1]}" if place else ""
         if kind in _SILENT:
             return
         if kind in GATES:
             sources = [self.node(pins[pin][0], f"cell {name}") for pin in ("A", "B") if pin in pins]
             output = self.node(pins["Y"][0], name)
             self.plain.add(output)
-            yield f"{output} = {GATES[kind]}({', '.join(sources)})"
+            yield f"{output} = {GATES[kind]}({', '.join(sources)})" + end
             return
         expansion = expansion_of(kind)
         if expansion is None:
             hint = "" if kind.startswith("$_") else "; call `flatten` and `synth` first"
             self.faults.append(f"cell {name}: {kind} is not translated{hint}")
             return
-        yield from self._expanded(name, kind, pins, expansion)
+        for row in self._expanded(name, kind, pins, expansion):
+            yield row if row.startswith("#") else row + end
 
     def _expanded(self, name, kind, pins, expansion):
         """The lines of a cell of several gates: its pins are in capitals, its inner nodes are named after its output."""

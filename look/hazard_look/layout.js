@@ -7,7 +7,7 @@ const ROOM = { left: 24, right: 50, above: 14, below: 44 };
 
 /** The place of each drawn node: that of Graphviz, or one by layers. */
 function placesOf(nodes) {
-  if (DATA.places) {
+  if (DATA.places && nodes.length === NODES) {
     const onScreen = ([x, y]) => ({ x: x * 112 - 36, y: y * 80 - 4 });
     return new Map(nodes.map(node => [node, onScreen(DATA.places[node])]));
   }

@@ -9,6 +9,8 @@ from .lines import lines_of
 
 # What `from-yosys` writes behind an output whose node has the name of another port.
 _OTHER_NAME = re.compile(r"#\s*(\S+) of the design$")
+# What `from-yosys` writes behind a gate: its place in the source text.
+_PLACE = re.compile(r".*# (\S+:[0-9]+)$")
 INVERTED = {"NAND": "AND", "NOR": "OR", "XNOR": "XOR", "NOT": "BUFF"}
 
 
@@ -30,14 +32,21 @@ class Cut(NamedTuple):
 
 class Netlist:
     """A circuit. Its nodes are its inputs, its flip-flops and its gates, in this order, as in a report. `other_names` are those that
-    a design has for some nodes."""
+    a design has for some nodes. `line_of` says on which line of its file each node stands, `source_of` from which place of a source text
+    it comes."""
 
-    def __init__(self, primary, cuts, gates, outputs, other_names=None):
+    def __init__(self, primary, cuts, gates, outputs, other_names=None, line_of=None, source_of=None):
         self.primary, self.cuts, self.gates, self.outputs = primary, cuts, gates, outputs
         self.inputs = primary + [cut.name for cut in cuts]
         self.nodes = self.inputs + [gate.name for gate in gates]
         self.gate_of = {gate.name: gate for gate in gates}
-        self.other_names = other_names or {}
+        self.other_names, self.line_of, self.source_of = other_names or {}, line_of or {}, source_of or {}
+        self.known = set(self.nodes)
+
+    def place(self, node, path):
+        """Where a node stands in a file, and in the source text if that is known, as `top.v:3, net.bench:7`."""
+        line = f"{path}:{self.line_of[node]}" if node in self.line_of else ""
+        return ", ".join(filter(None, [self.source_of.get(node), line]))
 
     def sources(self, node):
         """The nodes that a node reads: none for an input."""
@@ -69,20 +78,25 @@ class Netlist:
 
     def loops(self, left_out=frozenset()):
         """The components of feedback without some gates: the largest sets of gates in which each reaches each other."""
-        return [component for component in self._components(left_out)
-                if len(component) > 1 or component[0] in self.sources(component[0])]
+        names = [name for name in self.gate_of if name not in left_out]
+        return [component for component in self.components(names) if self._is_loop(component)]
 
-    def _components(self, left_out):
-        """The strongly connected components without some gates, by Tarjan's algorithm with a stack of its own."""
-        order, low, stack, found = {}, dict.fromkeys(left_out, _CLOSED), [], []
-        for root in self.gate_of:
-            waiting = [] if root in order or root in left_out else [(root, iter(self.sources(root)))]
+    def _is_loop(self, component):
+        return len(component) > 1 or component[0] in self.sources(component[0])
+
+    def components(self, names):
+        """The strongly connected components of some gates alone, by Tarjan's algorithm with a stack of its own. A component comes
+        after those that it reads."""
+        within = set(names)
+        order, low, stack, found = {}, {}, [], []
+        for root in names:
+            waiting = [] if root in order else [(root, iter(self.sources(root)))]
             if waiting:
                 order[root] = low[root] = len(order)
                 stack.append(root)
             while waiting:
                 node, sources = waiting[-1]
-                source = next((name for name in sources if name in self.gate_of and low.get(name) != _CLOSED), None)
+                source = next((name for name in sources if name in within and low.get(name) != _CLOSED), None)
                 if source is None:
                     waiting.pop()
                     if waiting:
@@ -116,14 +130,20 @@ def _taken(stack, node, low):
 
 def read(text):
     """The netlist of a text that `hazard` has accepted."""
-    primary, cuts, gates, outputs, other_names = [], [], [], [], {}
+    primary, cuts, gates, outputs, other_names, line_of, source_of = [], [], [], [], {}, {}, {}
     for line in lines_of(text):
         tokens = line.tokens
         if not tokens:
             continue
-        if tokens[1] != "=" and tokens[0].upper() == "INPUT":
+        is_gate = tokens[1] == "="
+        if is_gate or tokens[0].upper() == "INPUT":
+            name = tokens[0 if is_gate else 2]
+            line_of[name], place = line.number, _PLACE.match(line.comment)
+            if place:
+                source_of[name] = place[1]
+        if not is_gate and tokens[0].upper() == "INPUT":
             primary.append(tokens[2])
-        elif tokens[1] != "=":
+        elif not is_gate:
             outputs.append(tokens[2])
             found = _OTHER_NAME.match(line.comment)
             if found:
@@ -133,4 +153,4 @@ def read(text):
         else:
             kind = tokens[2].upper()
             gates.append(Gate(tokens[0], "BUFF" if kind == "BUF" else kind, tokens[4:-1:2]))
-    return Netlist(primary, cuts, gates, outputs, other_names)
+    return Netlist(primary, cuts, gates, outputs, other_names, line_of, source_of)

@@ -6,25 +6,31 @@ from .netlist import INVERTED
 
 
 class Network:
-    """The variables of a netlist: the nodes, and then a wire for each pin, by gate and pin."""
+    """The variables of a netlist: the nodes, and then a wire for each pin, by gate and pin. If it is `sorted`, the wires of a gate stand
+    in the order of the nodes that they come from, so that the order of the pins decides nothing."""
 
-    def __init__(self, netlist):
+    def __init__(self, netlist, is_sorted=False):
         self.netlist = netlist
-        self.nodes = len(netlist.nodes)
-        self.inputs = len(netlist.inputs)
+        self.nodes, self.inputs = len(netlist.nodes), len(netlist.inputs)
         self.names = list(netlist.nodes)
-        self.number = {name: at for at, name in enumerate(self.names)}
-        self.first_wire, self.source, self.gate = {}, {}, {}
-        for place, gate in enumerate(netlist.gates, self.inputs):
-            self.first_wire[place] = len(self.names)
-            for pin, source in enumerate(gate.sources, 1):
-                self.source[len(self.names)] = self.number[source]
-                self.gate[len(self.names)] = place
-                self.names.append(f"{gate.name}({pin})")
-        self.number.update((name, at) for at, name in enumerate(self.names))
+        number = {name: at for at, name in enumerate(self.names)}
+        # of each wire its source and its gate, and of each gate its first wire
+        self.source, self.gate, self.first_wire = [None] * self.nodes, [None] * self.nodes, [None] * self.nodes
         self.fan_out = [[] for _ in range(self.nodes)]
-        for wire, source in self.source.items():
-            self.fan_out[source].append(wire)
+        # of each gate: how many ones make the connective 1, or 0 for an XOR; whether it is inverted; its number of pins
+        self.needed, self.inverted, self.pins = [0] * self.nodes, [0] * self.nodes, [0] * self.nodes
+        for place, gate in enumerate(netlist.gates, self.inputs):
+            pins = [(number[source], pin) for pin, source in enumerate(gate.sources, 1)]
+            self.first_wire[place], self.pins[place] = len(self.names), len(pins)
+            connective = INVERTED.get(gate.kind, gate.kind)
+            self.needed[place] = {"AND": len(pins), "XOR": 0}.get(connective, 1)
+            self.inverted[place] = int(gate.kind in INVERTED)
+            for source, pin in sorted(pins) if is_sorted else pins:
+                self.fan_out[source].append(len(self.names))
+                self.source.append(source)
+                self.gate.append(place)
+                self.names.append(f"{gate.name}({pin})")
+        self.number = {name: at for at, name in enumerate(self.names)}
 
     def is_input(self, variable):
         return variable < self.inputs
@@ -33,32 +39,44 @@ class Network:
         return variable >= self.nodes
 
     def wires(self, gate):
-        """The wires into a gate, by pin."""
+        """The wires into a gate."""
         first = self.first_wire[gate]
-        return range(first, first + len(self.kind_of(gate).sources))
+        return range(first, first + self.pins[gate])
 
-    def kind_of(self, gate):
-        """The gate of the netlist that has this number."""
-        return self.netlist.gates[gate - self.inputs]
+    def asks(self, variable, ones):
+        """What a gate or a wire is asked for if so many of the variables that it reads are 1."""
+        if variable >= self.nodes:
+            return ones
+        needed = self.needed[variable]
+        return (ones >= needed if needed else ones & 1) ^ self.inverted[variable]
+
+    def control(self, variable, bit):
+        """The value with which one pin alone makes a gate ask for a bit; None if that takes all pins."""
+        if variable >= self.nodes or self.pins[variable] == 1 or not self.needed[variable]:
+            return None
+        is_and, asked = self.needed[variable] > 1, bit ^ self.inverted[variable]
+        return asked if is_and != bool(asked) else None
 
     def reads(self, variable):
         """The variables on which its excitation depends."""
-        if self.is_input(variable):
-            return []
-        return [self.source[variable]] if self.is_wire(variable) else list(self.wires(variable))
+        if variable >= self.nodes:
+            return [self.source[variable]]
+        return [] if variable < self.inputs else list(self.wires(variable))
 
     def readers(self, variable):
         """The variables that read it."""
-        return [self.gate[variable]] if self.is_wire(variable) else self.fan_out[variable]
+        return [self.gate[variable]] if variable >= self.nodes else self.fan_out[variable]
 
     def cone(self, node):
         """The variables on which a node depends, with itself."""
         found, waiting = {node}, [node]
         while waiting:
-            for variable in self.reads(waiting.pop()):
-                if variable not in found:
-                    found.add(variable)
-                    waiting.append(variable)
+            variable = waiting.pop()
+            if variable >= self.inputs:
+                for read in (self.source[variable],) if variable >= self.nodes else self.wires(variable):
+                    if read not in found:
+                        found.add(read)
+                        waiting.append(read)
         return found
 
 
@@ -75,39 +93,43 @@ class Follower:
     def __init__(self, network, start, target):
         self.network = network
         nodes = [start[name] for name in network.netlist.nodes]
-        self.value = nodes + [nodes[source] for source in network.source.values()]
+        self.value = nodes + [nodes[source] for source in network.source[network.nodes:]]
         self.target = [target[name] for name in network.netlist.inputs]
-        self.ones = {gate: sum(self.value[wire] for wire in network.wires(gate))
-                     for gate in range(network.inputs, network.nodes)}
+        self.ones = [0] * network.nodes
+        for wire in range(network.nodes, len(self.value)):
+            self.ones[network.gate[wire]] += self.value[wire]
 
     def excitation(self, variable):
         """What drives the variable asks for."""
         network = self.network
-        if network.is_input(variable):
-            return self.target[variable]
-        if network.is_wire(variable):
+        if variable >= network.nodes:
             return self.value[network.source[variable]]
-        gate = network.kind_of(variable)
-        return gate_value(gate.kind, self.ones[variable], len(gate.sources))
+        if variable < network.inputs:
+            return self.target[variable]
+        needed = network.needed[variable]
+        return (self.ones[variable] >= needed if needed else self.ones[variable] & 1) ^ network.inverted[variable]
 
     def is_unstable(self, variable):
         return self.value[variable] != self.excitation(variable)
 
     def flip(self, variable):
         """Changes one variable, whether it is unstable or not."""
-        self.value[variable] ^= 1
-        if self.network.is_wire(variable):
-            self.ones[self.network.gate[variable]] += 1 if self.value[variable] else -1
+        value = self.value[variable] = self.value[variable] ^ 1
+        if variable >= self.network.nodes:
+            self.ones[self.network.gate[variable]] += 1 if value else -1
 
     def move(self, step):
         """Makes a step of those of some variables that are unstable, and answers them."""
-        moved = [variable for variable in step if self.is_unstable(variable)]
+        if len(step) == 1:
+            moved = step if self.is_unstable(step[0]) else []
+        else:
+            moved = [variable for variable in step if self.is_unstable(variable)]
         for variable in moved:
             self.flip(variable)
         return moved
 
     def undo(self, steps):
-        """Goes back over steps that were made."""
+        """Goes back over steps that were made, in any order."""
         for step in steps:
             for variable in step:
                 self.flip(variable)

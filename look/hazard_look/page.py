@@ -1,45 +1,57 @@
 """The job `page`: one self-contained page with the circuit, its hazards, and a player of the runs.
 
-The page's program is `layout.js` and `page.js`; here its data are gathered. Variables are numbered as in the complete network.
+The page's program is in the files .js; here its data are gathered. Variables are numbered as in the complete network.
 """
 import json
 import os
 import shutil
 import subprocess
 
-from . import runtext
+from . import expect, runtext, script, why
 from .circuit import load
 from .errors import DONE, read_file
+from .moves import is_clean, kind_of
 from .network import Network
 from .one_edge import one_edge
 from .report import CLASSES
-from .script import must_be_written_out
-from .summary import MEANINGS, ONE_EDGE, is_clean
+from .summary import MEANINGS, ONE_EDGE, roots
 
 HERE = os.path.dirname(os.path.abspath(__file__))
-# A circuit of more nodes is shown as the neighbourhood of a node.
+PROGRAM = ("layout.js", "model.js", "circuit.js", "panels.js", "page.js")
+# A circuit of more nodes is shown as what leads to a node.
 MOST_DRAWN = 300
 # A page has no more changes of variables in its runs; later runs are left out, and it says so.
 MOST_FLIPS = 2_000_000
+# Of so many changes at most it says why their worst root has a hazard, and only as long as the circuits are not larger than this in all.
+MOST_WHYS, MOST_SEARCHED = 12, 400_000
 KINDS = CLASSES + (ONE_EDGE,)
+SEVERITY = ("unsettled", "maybe-dynamic", "static", "change")
 
 
 def run(words, out):
     """Writes the page of a netlist and a script."""
     report = words.program.analyse(words.netlist, words.script)
-    must_be_written_out(words.script)
+    statements = script.must_be_written_out(words.script)
     circuit = load(words.netlist)
     network = Network(circuit)
+    gathered = _Changes(words, circuit, network, statements)
+    tally = expect.checked(words, gathered.each(report.changes))
+    for finding in tally.findings:
+        if not finding["holds"]:
+            gathered.found[finding["number"] - 1].setdefault("failed", []).append(f"{finding['expectation']}: {finding['remark']}")
     data = {
         "title": f"{os.path.basename(words.netlist)}, {os.path.basename(words.script)}",
+        "files": [words.netlist, words.script],
         "most": MOST_DRAWN,
         "kinds": KINDS,
         "meanings": MEANINGS,
         **_circuit(circuit, network),
         "places": _places(circuit) if len(circuit.nodes) <= MOST_DRAWN else None,
-        "changes": list(_changes(words, report, network)),
+        "checked": tally.all,
+        "changes": gathered.found,
     }
-    out.write(_filled("page.html", style=_part("page.css"), program=_part("layout.js") + _part("page.js"), data=_as_script(data)))
+    program = "".join(map(_part, PROGRAM))
+    out.write(_filled("page.html", style=_part("page.css"), program=program, data=_as_script(data)))
     return DONE
 
 
@@ -71,25 +83,68 @@ def _circuit(circuit, network):
         "gates": kinds + [gate.kind for gate in circuit.gates],
         "sources": [[network.number[source] for source in circuit.sources(name)] for name in circuit.nodes],
         "loops": [loop_of.get(name, 0) for name in circuit.nodes],
+        "outputs": [network.number[name] for name in dict.fromkeys(circuit.outputs)],
+        "lines": [circuit.line_of.get(name, 0) for name in circuit.nodes],
+        "origins": {network.number[name]: place for name, place in circuit.source_of.items()},
     }
 
 
-def _changes(words, report, network):
-    """Each change: its title, the rows as a letter a node, and the runs, which the program has accepted."""
-    left = MOST_FLIPS
-    for change in report.changes:
+class _Changes:
+    """Gathers the changes of a report for the page, while they are read."""
+
+    def __init__(self, words, circuit, network, statements):
+        self.words, self.circuit, self.network = words, circuit, network
+        self.sorted, self.line_of = None, script.lines_of_changes(statements)
+        self.left, self.whys, self.searched, self.found = MOST_FLIPS, MOST_WHYS, MOST_SEARCHED, []
+        data = {cut.data for cut in circuit.cuts}
+        self.noise = data - {source for gate in circuit.gates for source in gate.sources} - set(circuit.outputs)
+
+    def each(self, changes):
+        """The changes, each of which is noted first."""
+        for change in changes:
+            self.found.append({"title": change.title(), "line": self.line_of[change.number], **(self._of(change))})
+            yield change
+
+    def _of(self, change):
+        """A change: its rows as a letter a node, the nodes that are not clean, and the runs."""
         if change.stopped:
-            yield {"title": change.title(), "stopped": change.stopped}
-            continue
+            return {"stopped": change.stopped}
+        edges = one_edge(self.circuit, change.rows)
+        hazards = [row for row in change.rows.values() if not is_clean(row, edges)]
+        first = self._worst(hazards)
+        told = {**_rows(change, self.network, edges), "hazards": [self.network.number[row.name] for row in first]}
+        if hazards:
+            told["roots"] = len([row for row in first if row.name in self.roots])
         text = runtext.read(change.run_lines)
-        words.program.must_accept(words.netlist, text)
-        left -= sum(len(step) for run in text.runs for step in run.lead + (run.cycle or []))
-        yield {"title": change.title(), **_rows(change, network), **(_runs(text, network) if left > 0 else {"runs": []})}
+        self.left -= sum(len(step) for run in text.runs for step in run.lead + (run.cycle or []))
+        told.update(_runs(text, self.network) if self.left > 0 else {"runs": [], "target": ""})
+        if hazards and self.left > 0:
+            told["why"] = self._why(change, first[0], edges)
+        return told
+
+    def _worst(self, hazards):
+        """The rows that are not clean: roots before echoes, then what only flip-flops read, then by severity, then outputs."""
+        self.roots = roots(self.circuit, [row.name for row in hazards])
+        outputs = set(self.circuit.outputs)
+        return sorted(hazards, key=lambda row: (row.name not in self.roots, row.name in self.noise, SEVERITY.index(row.kind), row.name not in outputs))
+
+    def _why(self, change, row, edges):
+        """Runs that show why a node has its class, each with what is said of it; none if the page has enough of them."""
+        self.whys, self.searched = self.whys - 1, self.searched - len(self.network.names)
+        if self.whys < 0 or self.searched < 0:
+            return []
+        self.sorted = self.sorted or Network(self.circuit, is_sorted=True)
+        searcher, shown = why.explained(self.sorted, change, row, edges)
+        named = [runtext.Run(searcher.named(one.lead), None if one.cycle is None else searcher.named(one.cycle)) for one in shown]
+        self.words.program.must_accept(self.words.netlist, searcher.text.of(named))
+        return [{"node": self.network.number[row.name], "title": one.title, "told": one.told,
+                 "steps": [[self.network.number[name] for name in step] for step in run.lead + (run.cycle or [])],
+                 "cycle": len(run.lead) if run.cycle else None} for one, run in zip(shown, named)]
 
 
-def _rows(change, network):
-    """The columns of a change's rows, and its nodes that are not clean."""
-    rows, edges = list(change.rows.values()), one_edge(network.netlist, change.rows)
+def _rows(change, network, edges):
+    """The columns of a change's rows."""
+    rows = list(change.rows.values())
     kinds = [ONE_EDGE if row.kind == "change" and row.name in edges else row.kind for row in rows]
     return {
         "start": "".join(row.start for row in rows),
@@ -97,7 +152,7 @@ def _rows(change, network):
         "b": "".join(row.b for row in rows),
         "kind": "".join(str(KINDS.index(kind)) for kind in kinds),
         "counts": {at: row.changes for at, row in enumerate(rows) if row.changes not in ("0", "1", "-")},
-        "hazards": [at for at, row in enumerate(rows) if not is_clean(row, edges)],
+        "kinds": {at: kind_of(row) for at, row in enumerate(rows) if row.kind in ("static", "maybe-dynamic")},
     }
 
 

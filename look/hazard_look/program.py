@@ -8,7 +8,8 @@ import sys
 import tempfile
 
 from . import report
-from .errors import NAME_NOT_READ, NO_PROGRAM, NOT_ACCEPTED, OUTPUT_FAILED, SCRIPT_FAULT, Failure
+from .errors import DOES_NOT_HOLD, NAME_NOT_READ, NO_PROGRAM, NOT_ACCEPTED, OUTPUT_FAILED, OWN_FAULT, SCRIPT_FAULT, SIGNALLED, Failure
+from .terminal import Progress
 
 VARIABLE = "HAZARD"
 # What helps after a refusal: how its line goes on behind `refused: `, and a remark for the same line.
@@ -70,8 +71,14 @@ class Program:
         return found._replace(changes=self._changes(found.changes))
 
     def _changes(self, changes):
-        with self._understood():
-            yield from changes
+        progress = Progress("hazard-look: change")
+        try:
+            with self._understood():
+                for change in changes:
+                    yield change
+                    progress.at(change.number)
+        finally:
+            progress.end()
 
     @contextlib.contextmanager
     def _understood(self):
@@ -81,11 +88,10 @@ class Program:
         except report.STRANGE as fault:
             raise Failure(f"{self.path} does not write a report, so it is not `hazard`", NO_PROGRAM) from fault
 
-    def analyse_text(self, netlist, script):
-        """The whole report on a netlist in a file and a script in a text: its start, and a list of its changes."""
+    def analyse_lines(self, netlist, script):
+        """The changes of the report on a netlist in a file and a script in a text, read while the program writes them."""
         with _file_of(script) as path:
-            answer = self.analyse(netlist, path)
-            return answer.start, list(answer.changes)
+            yield from self.analyse(netlist, path).changes
 
     def must_read(self, netlist):
         """Fails with the program's refusal unless it reads a netlist. A script that is none is only looked at after that."""
@@ -113,12 +119,12 @@ class Program:
         with self._running(words) as running:
             for number, line in enumerate(running.stdout):
                 if number == 0 and line.startswith("refused: "):
-                    raise Failure(f"hazard: {line.strip()}{_hint(line, words[1])}", running.wait())
+                    raise Failure(f"hazard: {line.strip()}{_hint(line, words[1])}", _status(running.wait()))
                 yield line.rstrip("\n")
             if running.wait() != 0:
                 ended = f"with status {running.returncode}" if running.returncode > 0 else f"by signal {-running.returncode}"
                 what = "; the name of a file is no text" if running.returncode == NAME_NOT_READ else ""
-                raise Failure(f"hazard ended {ended}{what}", max(running.returncode, 1))
+                raise Failure(f"hazard ended {ended}{what}", _status(running.returncode))
 
     def _running(self, words):
         """The program, started with some words."""
@@ -126,6 +132,13 @@ class Program:
             return subprocess.Popen([self.path] + words, stdin=subprocess.DEVNULL, stdout=subprocess.PIPE, text=True)
         except OSError as fault:
             raise Failure(f"{self.path} can't be started: {fault.strerror or fault}", NO_PROGRAM) from fault
+
+
+def _status(code):
+    """The status for an end of `hazard` that is none of success: never the one that says that an expectation does not hold."""
+    if code < 0:
+        return SIGNALLED - code
+    return OWN_FAULT if code == DOES_NOT_HOLD else code
 
 
 def _hint(line, netlist):

@@ -1,64 +1,124 @@
-"""Scripts: their statements, line by line with the comments, as jobs need that keep the comments."""
-from typing import Dict, NamedTuple, Optional
+"""Scripts: their statements, line by line, with the marks of their comments, which `hazard` skips and these jobs read.
+
+A comment begins with its marks: `#expect ..`, `#clock ..`, `#edge ..`, without a blank behind the `#`. The first other `#` begins a
+remark, which goes on to the end of the line. What looks like a mark and is none is a fault, so that nothing is left out unseen.
+"""
+import os
+import re
+from typing import Dict, List, NamedTuple, Optional
 
 from .errors import SCRIPT_FAULT, WRONG_WORDS, Failure, read_file
 from .lines import assigned, lines_of
 
-
 NO_CHANGE = "the script has no change"
+MARKS = ("expect", "clock", "edge")
+# What a mark `#edge` says of a change that is not the first one of its edge.
+GOES_ON = "goes on"
+_LIKE_A_MARK = re.compile(r"\s*expects?\b|expect|clock|edge", re.I)
+
+
+class Mark(NamedTuple):
+    """A mark of a comment: its word, and what follows it."""
+
+    word: str
+    text: str
 
 
 class Statement(NamedTuple):
-    """A line of a script: `start`, `change`, or nothing but a comment; its assignments, its comment, and the line itself."""
+    """A line of a script: `start`, `change`, or nothing but a comment; its assignments, its marks, its remark, why the marks can't be
+    read, and the line itself."""
 
     number: int
     keyword: Optional[str]
     values: Dict[str, int]
-    comment: str
+    marks: List[Mark]
+    remark: str
+    faults: List[str]
     line: str
 
+    def texts(self, word):
+        """What follows each mark of this word."""
+        return [mark.text for mark in self.marks if mark.word == word]
 
-def read(text):
-    """The lines of a script."""
+    def is_edge(self):
+        """Whether it has an edge `#clock ..`, or what was meant to be one."""
+        return bool(self.texts("clock")) or any("#clock" in fault for fault in self.faults)
+
+
+def read(path):
+    """The lines of a script in a file."""
+    text = read_file(path)
     for line, raw in zip(lines_of(text), text.split("\n")):
-        if not line.tokens:
-            yield Statement(line.number, None, {}, line.comment, raw)
-            continue
-        keyword, values = line.tokens[0].lower(), assigned(line.tokens[1:])
-        if keyword not in ("start", "change") or values is None:
-            raise Failure(f"script line {line.number}: neither `start` nor `change` with assignments", SCRIPT_FAULT)
-        yield Statement(line.number, keyword, values, line.comment, raw)
+        marks, remark, faults = _comment(line.comment)
+        keyword, values = None, {}
+        if line.tokens:
+            keyword, values = line.tokens[0].lower(), assigned(line.tokens[1:])
+            if keyword not in ("start", "change") or values is None:
+                raise fault_of(path, line.number, "neither `start` nor `change` with assignments", SCRIPT_FAULT)
+        yield Statement(line.number, keyword, values, marks, remark, faults, raw.rstrip("\r"))
+
+
+def _comment(comment):
+    """The marks of a comment, its remark, and what is wrong."""
+    marks, remarks, faults = [], [], []
+    for piece in comment.split("#")[1:]:
+        word, *rest = piece.split(None, 1) if not piece[:1].isspace() else [""]
+        if word in MARKS and not remarks:
+            marks.append(Mark(word, rest[0].strip() if rest else ""))
+        elif _LIKE_A_MARK.match(piece):
+            faults.append(_not_a_mark(piece.strip(), word))
+        else:
+            remarks.append("#" + piece.rstrip())
+    return marks, " ".join(remarks), faults
+
+
+def _not_a_mark(piece, word):
+    """Why a piece of a comment is no mark, though it looks like one."""
+    if word in MARKS:
+        return f"`#{word}` stands behind a remark, and so it is not read: write it in front"
+    meant = next(mark for mark in MARKS if piece.lower().startswith(mark))
+    return f"`#{word or ' ' + piece.split()[0]}` is read as a remark: write `#{meant}`, without a blank"
+
+
+def fault_of(path, number, what, status):
+    """A failure that names the line of a file as compilers do."""
+    return Failure(f"{path}:{number}: {what}", status)
 
 
 def must_be_written_out(path):
     """Fails if a script, which `hazard` has accepted, has edges `#clock ..`: for `hazard` they are comments, so nothing would happen.
-    It also fails if it has no change."""
-    statements = list(read(read_file(path)))
+    It also fails if it has no change. Answers the statements."""
+    statements = list(read(path))
     for statement in statements:
-        if is_edge(statement):
-            raise Failure(not_written_out(statement), WRONG_WORDS)
-    must_have_a_change(statements)
-
-
-def must_have_a_change(statements):
-    """Fails if no statement is a change: then there is nothing to say."""
+        if statement.is_edge():
+            raise fault_of(path, statement.number, "the edge is not written out; call `hazard-look clock` first", WRONG_WORDS)
     if all(statement.keyword != "change" for statement in statements):
         raise Failure(f"{NO_CHANGE}, so there is nothing to say: write a line `change INPUT=BIT` behind the start", WRONG_WORDS)
+    return statements
 
 
-def is_edge(statement):
-    """Whether a statement has an edge `#clock ..`."""
-    return bool(list(words_after(statement.comment, "clock")))
+def edges_of(statements):
+    """The edges of a script that `hazard-look clock` wrote out: the number of the first change of each by that of its last one."""
+    found, first, number = {}, None, 0
+    for statement in statements:
+        if statement.keyword == "change":
+            number += 1
+            told = statement.texts("edge")
+            if GOES_ON in told and first is not None:
+                found.pop(number - 1, None)
+            else:
+                first = number if told else None
+            if first is not None:
+                found[number] = first
+    return found
 
 
-def not_written_out(statement):
-    """What is wrong with an edge where it can't stand."""
-    return f"script line {statement.number}: the edge is not written out; call `hazard-look clock` first"
+def lines_of_changes(statements):
+    """The line of each change, by its number."""
+    changes = (statement.number for statement in statements if statement.keyword == "change")
+    return dict(enumerate(changes, 1))
 
 
-def words_after(comment, word):
-    """What follows each `#word` of a comment, up to the next `#`; None for a word that only begins with it."""
-    for piece in comment.split("#")[1:]:
-        if piece.lower().startswith(word):
-            head, *rest = piece.split(None, 1)
-            yield (rest[0].strip() if rest else "") if head == word else None
+def name_of(path):
+    """The name of a file as findings show it."""
+    return os.path.relpath(path) if os.path.isabs(path) and not os.path.relpath(path).startswith(os.pardir) else path

@@ -1,17 +1,22 @@
-"""Runs of one change that show something: found among those of the report and under random delays, and then cut short.
+"""Runs of one change that show something: built for it, or found under random delays or among those of the report, and then cut short.
 
 A run is here a list of steps, each a list of variable numbers. What is found is shown only after `hazard replay` accepted it.
 """
 import heapq
 import random
+from collections import Counter, deque
+from itertools import chain
 from typing import NamedTuple
 
+from .history import History
 from .network import Follower
 
 # Limits of the work, in changes of single variables: of all random runs of a search, and of all attempts to cut a run.
 MOST_SEARCHED = 300_000
 MOST_CUT = 1_000_000
 MOST_RUNS = 400
+# Runs of more steps are not cut by trials.
+MOST_TRIED = 2_000
 # After so many random runs a node that can end at either value has short runs to both.
 ENOUGH_RUNS = 50
 
@@ -68,16 +73,45 @@ class Searcher:
 
     def find(self, goal, cone):
         """A run that reaches a goal, as short as cuts make it, or None if none is found. The goal speaks of a cone alone."""
-        for steps in self._runs(cone):
+        for steps in chain(self.printed(), self._random_runs(cone)):
             found = play(self.follower, ([variable for variable in step if variable in cone] for step in steps), goal)
             if found is not None:
                 return shorten(self.follower, found, goal)
         return None
 
-    def _runs(self, cone):
-        """The runs of the report, and then runs under random delays."""
-        yield from self.printed()
-        yield from self._random_runs(cone)
+    def edges(self, node, count, moving):
+        """A short run in which a node changes so often, or None if none is found. `moving` has the nodes that may move at all."""
+        cone, goal = self.network.cone(node), Edges(node, count)
+        found = self._built(node, count, cone) if count < 3 else None
+        for steps in [found] if found else chain(self._random_runs(cone), self.printed()):
+            steps = play(self.follower, ([variable for variable in step if variable in cone] for step in steps), goal)
+            if steps is not None:
+                steps = [[variable] for step in steps for variable in step]
+                kept = play(self.follower, sliced(self.follower, steps, node, moving), goal)
+                steps = kept if kept is not None else steps
+                return shorten(self.follower, steps, goal) if len(steps) < MOST_TRIED else steps
+        return None
+
+    def _built(self, node, count, cone):
+        """A run to so many edges of a node: to the first one by as few changes as that takes, and then by all others, in turn, until
+        the node comes back; None if it does not."""
+        steps = first_edge(self.follower, node, cone)
+        if steps is None:
+            return None
+        for step in steps:
+            self.follower.move(step)
+        made, left = (sum(node in step for step in steps)), 4 * len(cone) + 100
+        waiting = deque(variable for variable in sorted(cone) if self.follower.is_unstable(variable)) if made < count else ()
+        while waiting and made < count and left:
+            variable = waiting.popleft()
+            if self.follower.is_unstable(variable):
+                self.follower.flip(variable)
+                steps.append([variable])
+                made += variable == node
+                left -= 1
+                waiting.extend(reader for reader in self.network.readers(variable) if reader in cone and self.follower.is_unstable(reader))
+        self.follower.undo(reversed(steps))
+        return steps if made == count else None
 
     def _random_runs(self, cone):
         """Runs under random delays, the same ones at each call."""
@@ -147,6 +181,65 @@ class Searcher:
         if begin is None or len(set(values[begin:])) < 2:
             return None
         return steps[:begin], steps[begin:]
+
+
+def first_edge(follower, node, cone):
+    """A run in which a node changes once, and no other variable more often; None if the node can't move. Each gate waits until enough
+    of its wires have changed, which go to it alone, and none of the others has."""
+    network, wires, found = follower.network, {}, []
+    waiting = deque(variable for variable in range(network.inputs) if variable in cone and follower.is_unstable(variable))
+    wires.update((variable, []) for variable in waiting)
+    while waiting and node not in wires:
+        source = waiting.popleft()
+        for wire in network.fan_out[source]:
+            gate = network.gate[wire]
+            if gate in cone and gate not in wires:
+                asking = _asking(follower, gate, wire, wires)
+                if asking:
+                    wires[gate] = asking
+                    waiting.append(gate)
+    if node not in wires:
+        return None
+    needed, open_ = {node}, [node]
+    while open_:
+        for wire in wires[open_.pop()]:
+            if network.source[wire] not in needed:
+                needed.add(network.source[wire])
+                open_.append(network.source[wire])
+    for variable in wires:
+        if variable in needed:
+            found += [[wire] for wire in wires[variable]] + [[variable]]
+    return found
+
+
+def _asking(follower, gate, wire, moved):
+    """Wires from nodes that have moved whose change makes a gate unstable, one of which has just got a source that has moved; none if
+    there are none."""
+    network = follower.network
+    bit = 1 - follower.value[gate]
+    if network.control(gate, bit) is not None or not network.needed[gate]:
+        return [wire]
+    wanted = bit ^ network.inverted[gate]
+    late = [pin for pin in network.wires(gate) if follower.value[pin] != wanted]
+    return late if all(network.source[pin] in moved for pin in late) else []
+
+
+def sliced(follower, steps, node, moving):
+    """The changes of a run, one after the other, without those that no change of a node needs."""
+    history = History(follower, steps, moving)
+    waiting = [(node, len(history.fires.get(node, ())))]
+    kept = {}
+    while waiting:
+        variable, changes = waiting.pop()
+        for change in range(kept.get(variable, 0) + 1, changes + 1):
+            if not follower.network.is_input(variable):
+                waiting += [one for one in history.cube(variable, history.fired(variable, change), history.value(variable, change)) if one[1]]
+        kept[variable] = max(kept.get(variable, 0), changes)
+    made = Counter()
+    for (variable,) in steps:
+        made[variable] += 1
+        if made[variable] <= kept.get(variable, 0):
+            yield [variable]
 
 
 def play(follower, steps, goal):

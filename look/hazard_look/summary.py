@@ -1,18 +1,22 @@
 """The job `summary`: a line for each change of a script, and a sentence for each node that may do more than one clean edge."""
-from .circuit import load, no_node
-from .errors import DONE, WRONG_WORDS, Failure
-from .one_edge import one_edge
-from .script import must_be_written_out
+import json
 
-# How many nodes the line of a change names.
+from . import script
+from .circuit import load, no_node
+from .errors import DOES_NOT_HOLD, DONE, WRONG_WORDS, Failure
+from .moves import Moves, is_clean, kind_of
+from .one_edge import one_edge
+
+# How many nodes a line names, and of how many nodes a change has a line.
 MOST_NAMED = 8
+MOST_LINES = 12
 # A node of class `change` that the rule of one edge covers.
 ONE_EDGE = "one edge"
 MEANINGS = {
     "steady": "it keeps {start}, without a pulse",
     "single": "it goes from {start} to {new} by one edge",
     "static": "it is {start} before and after, and may pulse to {new} in between",
-    "maybe-dynamic": "it goes from {start} to {new}, by one edge or more; the bound on its edges is {most}",
+    "maybe-dynamic": "it goes from {start} to {new}, by one edge or more; no run makes more than {most}",
     "change": "it goes from {start} to {new} behind feedback, and more than one edge is not excluded",
     ONE_EDGE: "it goes from {start} to {new} behind feedback, by one edge: the rule of one edge covers it",
     "unsettled": "the delays decide where it ends, or it never settles",
@@ -22,42 +26,158 @@ MEANINGS = {
 def run(words, out):
     """Writes the summary of a netlist and a script."""
     report = words.program.analyse(words.netlist, words.script)
-    must_be_written_out(words.script)
+    statements = script.must_be_written_out(words.script)
     circuit = load(words.netlist)
-    chosen = _chosen(words.only, circuit)
+    teller = _Teller(words, circuit, statements)
     for change in report.changes:
-        edges = one_edge(circuit, change.rows)
-        rows = [row for row in change.rows.values() if row.name in chosen]
-        out.write(f"{change.title()}: {_verdict(change, rows, edges)}\n")
-        for row in rows:
-            if words.all or not is_clean(row, edges):
-                out.write(f"  {row.name} {row.kind}: {meaning(row, row.name in edges)}\n")
-    return DONE
+        for line in teller.change(change):
+            out.write(line + "\n")
+    for line in teller.end():
+        out.write(line + "\n")
+    if words.fail and not teller.told:
+        out.write("0 findings\n")
+    return DOES_NOT_HOLD if words.fail and teller.told else DONE
 
 
-def _chosen(only, circuit):
-    """The nodes that the summary speaks of: those that are named, or all."""
-    names = circuit.nodes if only is None else only.split(",")
-    strange = sorted(set(names) - set(circuit.nodes))
+class Finding:
+    """What is told of a change: its rows that are not clean, roots before echoes, and the nodes that the rule of one edge covers."""
+
+    def __init__(self, circuit, change):
+        self.edges = one_edge(circuit, change.rows)
+        rows = [row for row in change.rows.values() if not is_clean(row, self.edges)]
+        names = roots(circuit, [row.name for row in rows])
+        self.roots = [row for row in rows if row.name in names]
+        self.echoes = [row for row in rows if row.name not in names]
+
+
+def roots(circuit, names):
+    """Those of some nodes with hazards that have them by themselves: no other such node leads to them, but for those of their own loop.
+    All others may be echoes."""
+    found, of_component, within = set(), {}, set(names)
+    for number, component in enumerate(circuit.components(names)):
+        of_component.update(dict.fromkeys(component, number))
+        sources = {source for name in component for source in circuit.sources(name) if source in within}
+        if all(of_component[source] == number for source in sources):
+            found.update(component)
+    return found
+
+
+class _Teller:
+    """Makes the lines of each change, or its findings as data."""
+
+    def __init__(self, words, circuit, statements):
+        self.words, self.circuit = words, circuit
+        self.line_of, self.first_of = script.lines_of_changes(statements), script.edges_of(statements)
+        self.firsts = set(self.first_of.values())
+        self.chosen = _chosen(words, circuit)
+        self.moves, self.stopped, self.told, self.data = None, None, 0, []
+
+    def change(self, change):
+        """The lines of a change, and then of the edge that ends with it."""
+        if change.stopped:
+            self.stopped = (self.stopped or change)._replace(stopped=change.stopped)
+            self.last = change.number
+            return []
+        finding = Finding(self.circuit, change)
+        told = [row for row in finding.roots + ([] if self.words.roots else finding.echoes) if row.name in self.chosen]
+        pulses = self._pulses(change, finding.edges)
+        self.told += len(told) + len(pulses)
+        if self.words.json:
+            self.data.append(self._as_data(change, told, finding, pulses))
+            return []
+        if self.words.fail:
+            return self._findings(change, told, pulses)
+        return self._lines(change, told, finding) + self._edge_lines(change, pulses)
+
+    def end(self):
+        """What is told after the last change."""
+        lines = []
+        if self.stopped:
+            first = self.stopped.number
+            which = f"{first}" if first == self.last else f"{first} to {self.last}"
+            what = f"not analysed, {self.stopped.stopped} did not settle in change {first - 1}"
+            lines = [f"{self.words.script}:{self.line_of[first]}: changes {which}: {what}" if self.words.fail else f"{which}: {what}"]
+            self.told += 1
+        if not self.words.json:
+            return lines
+        document = {"netlist": self.words.netlist, "script": self.words.script, "findings": self.told, "changes": self.data}
+        if self.stopped:
+            document["not analysed"] = {"first": self.stopped.number, "last": self.last, "node": self.stopped.stopped}
+        return [json.dumps(document, indent=1)]
+
+    def _pulses(self, change, edges):
+        """The nodes that pulse across the edge that ends with a change, with the numbers of the changes in which they move."""
+        if change.number in self.firsts:
+            self.moves = Moves(self.circuit)
+        if self.moves:
+            self.moves.add(change, edges)
+        if self.moves is None or change.number not in self.first_of:
+            return []
+        found = [(name, numbers) for name, numbers in self.moves.pulses() if name in self.chosen]
+        self.moves = None
+        return found
+
+    def _lines(self, change, told, finding):
+        """The line of a change, and those of its nodes: of many nodes only of roots, unless all are asked for."""
+        of_root = {row.name for row in finding.roots}
+        rows = told if self.words.all or len(told) <= MOST_LINES else [row for row in told if row.name in of_root][:None if self.words.roots else MOST_LINES]
+        more = len(told) - len(rows)
+        lines = [f"{change.title()}: {_verdict(told, finding)}"] + [self._line(row, finding) for row in rows]
+        lines += [f"  .. and {more} more, which --all has"] if more else []
+        names = {row.name for row in told}
+        return lines + [self._line(row, finding) for row in change.rows.values() if self.words.all and row.name in self.chosen and row.name not in names]
+
+    def _line(self, row, finding):
+        return f"  {row.name} {kind_of(row)}: {meaning(row, row.name in finding.edges)}"
+
+    def _edge_lines(self, change, pulses):
+        if not pulses:
+            return []
+        names = ", ".join([name for name, _ in pulses[:MOST_NAMED]] + ([f".. and {len(pulses) - MOST_NAMED} more"] if len(pulses) > MOST_NAMED else []))
+        several = len(pulses) > 1
+        return [f"{self.first_of[change.number]} to {change.number}, one edge: {len(pulses)} node{'s' if several else ''} pulse{'' if several else 's'} across the edge: {names}",
+                "  each moves once in several changes of the edge, so it pulses, though each change is clean"]
+
+    def _findings(self, change, told, pulses):
+        """A line for each finding, as compilers write them."""
+        front = f"{self.words.script}:{self.line_of[change.number]}: change {change.title()}"
+        lines = [f"{front}: {row.name} {kind_of(row)}: {meaning(row, False)}{self._place(row.name)}" for row in told]
+        return lines + [f"{front}: {name} pulses across the edge, in the changes {' and '.join(map(str, numbers))}{self._place(name)}" for name, numbers in pulses]
+
+    def _place(self, name):
+        place = self.circuit.place(name, self.words.netlist)
+        return f" ({place})" if place else ""
+
+    def _as_data(self, change, told, finding, pulses):
+        """What is told of a change, as data."""
+        of_root = {row.name for row in finding.roots}
+        hazards = [{"node": row.name, "class": row.kind, "kind": kind_of(row), "start": int(row.start), "A": row.a, "B": row.b, "changes": row.changes,
+                    "root": row.name in of_root, "place": self.circuit.place(row.name, self.words.netlist), "meaning": meaning(row, False)} for row in told]
+        return {"number": change.number, "line": self.line_of[change.number], "assigned": change.assigned, "hazards": hazards,
+                "pulses across the edge": [{"node": name, "changes": numbers} for name, numbers in pulses]}
+
+
+def _chosen(words, circuit):
+    """The nodes that the summary speaks of: those that are named, the outputs, or all."""
+    if words.only is None:
+        return set(circuit.outputs) if words.outputs else circuit.known
+    names = words.only.split(",")
+    strange = sorted(set(names) - circuit.known)
     if strange:
         raise Failure(f"--only: {no_node(circuit, *strange)}", WRONG_WORDS)
-    return set(names)
+    return set(names) & set(circuit.outputs) if words.outputs else set(names)
 
 
-def _verdict(change, rows, edges):
+def _verdict(told, finding):
     """What the line of a change says after its assignments."""
-    if change.stopped:
-        return f"not analysed, {change.stopped} did not settle in an earlier change"
-    found = [f"{row.name} {row.kind}" for row in rows if not is_clean(row, edges)]
-    if not found:
+    if not told:
         return "clean"
-    more = [f".. and {len(found) - MOST_NAMED} more"] if len(found) > MOST_NAMED else []
-    return f"{len(found)} hazard{'s' if len(found) > 1 else ''}: " + ", ".join(found[:MOST_NAMED] + more)
-
-
-def is_clean(row, edges):
-    """Whether a node keeps its value or makes one edge, `edges` being the nodes that the rule of one edge covers."""
-    return row.kind in ("steady", "single") or row.kind == "change" and row.name in edges
+    of_root = {row.name for row in finding.roots}
+    count = sum(row.name in of_root for row in told)
+    named = [f"{row.name} {kind_of(row)}" for row in told[:MOST_NAMED]]
+    named += [f".. and {len(told) - MOST_NAMED} more"] if len(told) > MOST_NAMED else []
+    rooted = f", {count} of them root{'s' if count > 1 else ''}" if 0 < count < len(told) else ""
+    return f"{len(told)} hazard{'s' if len(told) > 1 else ''}{rooted}: " + ", ".join(named)
 
 
 def meaning(row, by_rule):

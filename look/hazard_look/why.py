@@ -1,16 +1,18 @@
 """The job `why`: a short run in which a node makes its hazard, as a waveform, with the paths that race."""
-from typing import List, NamedTuple
+from typing import List, NamedTuple, Optional
 
-from . import runtext
-from .causes import MOST_NAMED, events_of, races, sentence
+from . import runtext, sentence
+from .conditions import TooMany, conditions
 from .circuit import load, no_node
 from .errors import DONE, OUTPUT_FAILED, WRONG_WORDS, Failure
+from .history import History
 from .network import Network
 from .one_edge import one_edge
 from .runtext import Run
 from .script import NO_CHANGE, must_be_written_out
-from .search import Edges, Searcher
-from .summary import is_clean, meaning
+from .search import Searcher
+from .moves import is_clean, kind_of
+from .summary import meaning
 from .waves import LEGEND, drawn, waves
 
 # How many variables and how many steps a waveform shows.
@@ -19,11 +21,13 @@ MOST_STEPS = 200
 
 
 class Shown(NamedTuple):
-    """A run that is to be shown: what it shows, its steps up to its cycle, and those of the cycle, or None."""
+    """A run that is to be shown: what it shows, its steps up to its cycle, those of the cycle, or None, and the lines on the delays that
+    make it happen."""
 
     title: str
     lead: List[list]
-    cycle: List[list]
+    cycle: Optional[List[list]]
+    told: List[str]
 
 
 def run(words, out):
@@ -36,11 +40,10 @@ def run(words, out):
     change = _change(words, report, circuit)
     row = change.rows[words.node]
     edges = one_edge(circuit, change.rows)
-    out.write(f"{row.name} in change {change.title()}: {row.kind}, {meaning(row, row.name in edges)}\n")
+    out.write(f"{row.name} in change {change.title()}: {kind_of(row)}, {meaning(row, row.name in edges)}\n")
     if row.kind == "steady":
         return DONE
-    searcher = Searcher(Network(circuit), runtext.read(change.run_lines))
-    shown = _shown(searcher, row, is_clean(row, edges))
+    searcher, shown = explained(Network(circuit, is_sorted=True), change, row, edges)
     text = searcher.text.of([Run(searcher.named(one.lead), _named_cycle(searcher, one)) for one in shown])
     words.program.must_accept(words.netlist, text)
     # before the waveforms, of which a reader may want the first lines alone
@@ -71,30 +74,79 @@ def _change(words, report, circuit):
     return edge
 
 
-def _shown(searcher, row, is_clean_edge):
+def explained(network, change, row, edges):
+    """A searcher for the runs of a change, and those that show the class of a node, `edges` being what the rule of one edge covers."""
+    searcher = Searcher(network, runtext.read(change.run_lines))
+    moving = {network.number[one.name] for one in change.rows.values() if one.a == "X"}
+    return searcher, _shown(searcher, row, is_clean(row, edges), moving)
+
+
+def _shown(searcher, row, is_clean_edge, moving):
     """The runs that show the class of a node."""
     node = searcher.network.number[row.name]
     if row.kind == "unsettled":
-        return _endless(searcher, node)
+        return _endless(searcher, node, moving)
     wanted, title = (2, "a pulse") if row.kind == "static" else (1, "its edge") if is_clean_edge else (3, "more than one edge")
-    cone = searcher.network.cone(node)
-    found = searcher.find(Edges(node, wanted), cone)
+    found, told = searcher.edges(node, wanted, moving), []
     if found is None:
         title = "one edge; no run with more edges was found, which is no proof that there is none"
-        found = searcher.find(Edges(node, 1), cone)
-    return [Shown(title, found, None)]
+        found = searcher.edges(node, 1, moving)
+    elif wanted > 1:
+        told = _told(History(searcher.follower, found, moving), node, row.name, wanted)
+    return [Shown(title, found, None, told)]
 
 
-def _endless(searcher, node):
+def _told(history, node, name, edges):
+    """On which delays the edges of a run depend. The last edge comes by itself, as the end is decided."""
+    network = history.network
+    first, passes = origin(history, node) if edges == 2 else (node, ())
+    try:
+        found = conditions(history, first, list(range(1, edges)))
+    except TooMany:
+        return [f"{name} {_DOES[edges]} under conditions on too many paths to be told"]
+    if found is None:
+        return [f"{name} {_DOES[edges]} if delays are other ones for other edges; no fixed delays were found"]
+    return sentence.lines(network, found, f"{name} {_DOES[edges]}", passes, first)
+
+
+_DOES = {2: "pulses", 3: "makes more than one edge"}
+
+
+def origin(history, node):
+    """The variable in which a pulse begins, which goes on to a node by gates with no other pin that moves; and these, with their wires.
+    It is the node itself if the variable depends on what it does."""
+    network, passes, first = history.network, [], node
+    while True:
+        pins = [pin for pin in network.reads(first) if history.may_move(pin)]
+        if len(pins) != 1 or network.is_input(pins[0]):
+            break
+        passes.append(first)
+        first = pins[0]
+    if passes and any(first in network.cone(pin) for pin in network.reads(first)):
+        return node, ()
+    return first, tuple(reversed(passes))
+
+
+def _endless(searcher, node, moving):
     """The ends at rest that an unsettled node can have, and a cycle in which it goes on."""
-    ends = searcher.endings(node)
-    shown = [Shown(f"it can end at {bit}", ends[bit], []) for bit in sorted(ends)]
+    ends, network = searcher.endings(node), searcher.network
+    shown = [Shown(f"it can end at {bit}", ends[bit], [], _told_of_end(searcher, node, ends[bit], bit, moving)) for bit in sorted(ends)]
     turning = searcher.turning(node)
     if turning is None:
         printed = searcher.text.runs[1]
-        numbers = searcher.network.number
-        turning = [[[numbers[name] for name in step] for step in steps] for steps in (printed.lead, printed.cycle)]
-    return shown + [Shown("it can go on for ever", *turning)]
+        turning = [[[network.number[name] for name in step] for step in steps] for steps in (printed.lead, printed.cycle)]
+    return shown + [Shown("it can go on for ever", *turning, [])]
+
+
+def _told_of_end(searcher, node, steps, bit, moving):
+    """On which delays it depends that a node ends with a value."""
+    history, what = History(searcher.follower, steps, moving), f"{searcher.network.names[node]} ends at {bit}"
+    changes = len(history.fires.get(node, ()))
+    try:
+        found = conditions(history, node, [changes] if changes else [], for_ever=True)
+    except TooMany:
+        return [f"{what} under conditions on too many paths to be told"]
+    return sentence.lines(searcher.network, found, what) if found is not None else []
 
 
 def _write_in_front(out, network, rows, node):
@@ -102,8 +154,8 @@ def _write_in_front(out, network, rows, node):
     cone = network.cone(network.number[node])
     static = [row.name for row in rows.values() if row.kind == "static" and network.number[row.name] in cone]
     if static:
-        more = f" and {len(static) - MOST_NAMED} more" if len(static) > MOST_NAMED else ""
-        named = ", ".join(static[:MOST_NAMED]) + more
+        more = f" and {len(static) - sentence.MOST_NAMED} more" if len(static) > sentence.MOST_NAMED else ""
+        named = ", ".join(static[:sentence.MOST_NAMED]) + more
         out.write(f"\nstatic on the way to {node}: {named}; `why` says of these which wires have to be slow\n")
 
 
@@ -112,24 +164,22 @@ def _named_cycle(searcher, shown):
 
 
 def _write(out, searcher, name, shown):
-    """Writes a run: what it shows, the races of its edges, the waveform of its last steps."""
+    """Writes a run: what it shows, on which delays it depends, the waveform of its last steps."""
     network, follower = searcher.network, searcher.follower
     node, steps = network.number[name], shown.lead + (shown.cycle or [])
     out.write(f"\n{shown.title}, in {len(steps)} steps")
     out.write(f", of which the last {len(shown.cycle)} turn again and again\n" if shown.cycle else "\n")
-    events = events_of(follower, steps)
-    if shown.cycle is None:
-        for number, race in enumerate(races(events, node), 1):
-            out.write(f"  {name} {'pulses' if number == 1 else 'moves again'} {sentence(network, race)}\n")
+    for line in shown.told:
+        out.write(f"  {line}\n")
     begin = max(0, len(steps) - MOST_STEPS)
     if begin:
         out.write(f"the steps from {begin + 1} on; --save keeps all\n")
-    rows = waves(follower, steps, _variables(searcher, events, node, steps), begin)
+    rows = waves(follower, steps, _variables(searcher, node, steps), begin)
     out.write("\n".join(drawn(rows, begin)) + "\n")
     out.write(f"{LEGEND}\n")
 
 
-def _variables(searcher, events, node, steps):
+def _variables(searcher, node, steps):
     """The variables of a waveform: of the node's cone the last ones that change, by their first step; then those that wait at the
     end; and the node."""
     follower, cone = searcher.follower, searcher.network.cone(node)
@@ -137,7 +187,7 @@ def _variables(searcher, events, node, steps):
         follower.move(step)
     waiting = [variable for variable in sorted(cone) if follower.is_unstable(variable)]
     follower.undo(steps)
-    moving = dict.fromkeys(event.variable for event in events if event.variable in cone)
+    moving = dict.fromkeys(variable for step in steps for variable in step if variable in cone)
     waiting = [variable for variable in waiting if variable not in moving and variable != node]
     moving.pop(node, None)
     kept = max(MOST_WAVES - 1 - len(waiting), MOST_WAVES // 2)

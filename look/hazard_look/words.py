@@ -2,29 +2,27 @@
 import argparse
 import os
 import sys
+import traceback
 
-from . import clock, expect, from_yosys, page, program, start, summary, why
-from .errors import INTERRUPTED, OUTPUT_FAILED, WRONG_WORDS, Failure, must_be_plain
+from . import clock, expect, from_verilog, from_yosys, page, program, start, summary, terminal, why
+from .errors import INTERRUPTED, OUTPUT_FAILED, OWN_FAULT, WRONG_WORDS, Failure, must_be_plain, say
 
 ABOUT = """The companion of `hazard`: it shows what a circuit does, asks why, and keeps it as a test. Each value and class
-that it prints is read from a report of `hazard analyse`, and `hazard replay` has accepted each run that it shows."""
-STATUSES = """status: 0 done; 1 an expectation does not hold, or a change does not settle (clock); 2 wrong words, or an
-expectation that can't be read; 3 to 10 as `hazard` has them, whose refusal is passed on; 70 a run that was to be
-shown is not accepted by `hazard replay`, which is a fault of this program; 127 no program `hazard` is found;
-130 interrupted"""
+that it prints is read from a report of `hazard analyse`; each run that it shows stands in a report, or `hazard replay`
+has accepted it."""
+STATUSES = """status: 0 done; 1 an expectation does not hold or could not be checked (expect), there is a hazard (summary, if it is to
+fail), or a change does not settle (clock); 2 wrong words, or an expectation that can't be read, or none; 3 to 10 as `hazard`
+has them, whose refusal is passed on; 70 a fault of this program, as a run that `hazard replay` does not accept; 127 no
+program `hazard` is found, or no yosys; 128 and more: `hazard` or this program was ended by a signal"""
 
 
 def main(words, home):
-    """Does the job of some words and answers the status. Failures are a line on standard error. `home` is the folder of the
+    """Does the job of some words and answers the status. Failures are lines on standard error. `home` is the folder of the
     command, beside which `hazard` is looked for."""
-    if not words:
-        parser().print_help(sys.stderr)
-        return WRONG_WORDS
-    asked = parser().parse_args(words)
     if sys.stdout is None:
         return _failed("standard output is closed", OUTPUT_FAILED)
     try:
-        return _answered(asked, home)
+        return _answered(words, home)
     except KeyboardInterrupt:
         return INTERRUPTED
     except OSError as fault:
@@ -32,27 +30,39 @@ def main(words, home):
         os.dup2(os.open(os.devnull, os.O_WRONLY), sys.stdout.fileno())
         gone = isinstance(fault, BrokenPipeError)
         return OUTPUT_FAILED if gone else _failed(f"standard output can't be written: {fault.strerror or fault}", OUTPUT_FAILED)
+    except Exception as fault:  # pylint: disable=broad-except
+        # Python itself would end with 1, which says that an expectation does not hold.
+        place = traceback.extract_tb(fault.__traceback__)[-1]
+        return _failed(f"a fault of this program: {type(fault).__name__}: {fault}, in {place.filename}:{place.lineno}", OWN_FAULT)
 
 
-def _answered(asked, home):
+def _answered(words, home):
     """Does a job, and answers the status; what goes wrong with standard output is left to the caller."""
+    if not words:
+        say(parser().format_help().rstrip())
+        return WRONG_WORDS
     try:
+        asked = parser().parse_args(words)
         if "hazard" in asked:
             asked.program = program.find(asked.hazard, home)
             must_be_plain(asked.netlist)
         if "script" in asked:
             must_be_plain(asked.script)
-        status = asked.job(asked, sys.stdout)
-        sys.stdout.flush()
-        return status
+        status = asked.job(asked, terminal.painted(sys.stdout))
+    except SystemExit as end:
+        # The parser has written a help or what is wrong with the words.
+        status = end.code
     except Failure as failure:
         sys.stdout.flush()
         return _failed(failure, failure.status)
+    sys.stdout.flush()
+    return status
 
 
-def _failed(line, status):
+def _failed(lines, status):
     """Writes why a job is not done, and answers the status."""
-    print(f"hazard-look: {line}", file=sys.stderr)
+    for line in str(lines).split("\n"):
+        say(f"hazard-look: {line}")
     return status
 
 
@@ -63,8 +73,13 @@ def parser():
     _netlist_job(jobs, "start", start.run, "the first line of a script: what it has to list, with `?` for each bit")
     job = _job(jobs, "summary", summary.run, "a line for each change, and what each hazard means")
     job.add_argument("--only", metavar="NODE,..", help="speak of these nodes alone")
-    job.add_argument("--all", action="store_true", help="speak of the clean nodes as well")
-    _job(jobs, "expect", expect.run, "check the comments `#expect ..` of a script")
+    job.add_argument("--outputs", action="store_true", help="speak of the outputs alone")
+    job.add_argument("--roots", action="store_true", help="leave out the echoes: hazards to which other hazards lead")
+    job.add_argument("--all", action="store_true", help="speak of all nodes, the clean ones as well")
+    job.add_argument("--fail", action="store_true", help="write each hazard as FILE:LINE: .., and end with 1 if there is one")
+    job.add_argument("--json", action="store_true", help="write it as JSON")
+    job = _job(jobs, "expect", expect.run, "check the comments `#expect ..` of a script")
+    job.add_argument("--json", action="store_true", help="write it as JSON")
     job = _job(jobs, "why", why.run, "a short run in which a node makes its hazard")
     job.add_argument("node", metavar="NODE", help="an input, a flip-flop or a gate")
     job.add_argument("change", metavar="CHANGE", nargs="?", type=int, help="its number; else the first that matters to the node")
@@ -73,9 +88,18 @@ def parser():
     _job(jobs, "clock", clock.run, "a script whose lines `#clock ck` are written out as changes")
     job = _plain_job(jobs, "from-yosys", from_yosys.run, "a netlist from what yosys' `write_json` gives after `synth`")
     job.add_argument("design", metavar="DESIGN.json", help="the design, flattened and of simple gates")
+    _design(job)
+    job = _plain_job(jobs, "from-verilog", from_verilog.run, "the same from Verilog in one command, which calls yosys")
+    job.add_argument("sources", metavar="FILE.v", nargs="+", help="the source text")
+    job.add_argument("--gates", action="store_true", help="keep each gate of the source: no `synth`")
+    _design(job)
+    return top
+
+
+def _design(job):
+    """The options of a job that translates a design."""
     job.add_argument("--top", metavar="MODULE", help="the module to take, if the design has several")
     job.add_argument("--join", action="store_true", help="make gates one again that yosys split: a NAND, or three pins")
-    return top
 
 
 def _job(jobs, name, run, about):

@@ -1,4 +1,4 @@
-"""The page in a headless Chromium: it opens without an error, the player steps, and a click shows a row."""
+"""The page in a headless Chromium: it opens at the glitch, the player steps, keys and clicks choose, and nothing passes behind a box."""
 import html
 import json
 import re
@@ -12,6 +12,7 @@ const told = {}, errors = [];
 window.addEventListener("error", event => errors.push(event.message));
 const text = id => document.getElementById(id).textContent;
 const press = id => document.getElementById(id).click();
+const key = name => document.dispatchEvent(new KeyboardEvent("keydown", { key: name, bubbles: true, cancelable: true }));
 const boxOf = name => [...document.querySelectorAll(".box")].find(one => one.dataset.node === name);
 const count = selector => document.querySelectorAll(selector).length;
 const isIn = (box, { x, y }) => {
@@ -20,10 +21,12 @@ const isIn = (box, { x, y }) => {
 };
 const crosses = path => [...Array(Math.ceil(path.getTotalLength() / 3)).keys()].some(at =>
   [...document.querySelectorAll(".box")].some(box => isIn(box, path.getPointAtLength(3 * at))));
-const crossings = () => [...document.querySelectorAll("main path.wire")].filter(crosses).map(path => path.textContent);
+const crossings = () => [...document.querySelectorAll("#drawing path.wire")].filter(crosses).map(path => path.textContent);
 const tell = name => {
-  told[name] = { step: text("step"), now: text("now"), row: text("row").slice(0, 60), boxes: count(".box"),
-    rings: count("main .ring"), late: count("main .late"), traces: count(".trace"), changes: count("nav button") };
+  told[name] = { step: text("step"), now: text("now"), row: text("row").slice(0, 60), boxes: count("#drawing .box"), edges: text("edges"),
+    rings: count("#drawing .ring"), late: count("#drawing .late"), traces: count(".trace"), changes: count("nav button"), why: document.querySelector(".why")?.textContent ?? "",
+    chosen: document.querySelector("#drawing .chosen")?.dataset.node ?? "", nav: text("changes"), map: count("#map .spot"), view: document.getElementById("drawing").getAttribute("viewBox"),
+    which: document.getElementById("which").selectedOptions[0]?.textContent ?? "", wide: document.documentElement.scrollWidth > window.innerWidth };
 };
 """
 REPORT = """
@@ -37,76 +40,120 @@ def rows(folder, call, write, example):
     if browser is None:
         print("skipped: pages_in_a_browser: no Chromium is installed")
         return
-    yield from _small(folder, browser, call, write, example)
-    yield from _crossings(folder, browser, call, write, example)
-    yield from _stopped(folder, browser, call, write, example)
-    yield from _large(folder, browser, call, write)
+    opened = lambda page, actions, **more: _opened(folder, browser, write, page, actions, **more)
+    yield from _small(opened, call, example)
+    yield from _addresses(opened, call, example)
+    yield from _crossings(opened, call, example)
+    yield from _stopped(opened, call, write, folder, example)
+    yield from _expected(opened, call, write, folder)
+    yield from _clean(opened, call, write, folder)
+    yield from _large(opened, call, write, folder)
 
 
-def _opened(folder, browser, write, page, actions):
+def _opened(folder, browser, write, page, actions, address="", size="1400,900"):
     """What is told by some actions on a page, and the errors of its program."""
     before, after = page.split("</style>", 1)
     script = f"<script>{ACTIONS}</script>"
     after = after.replace("</body>", f"<script>{actions}{REPORT}</script></body>")
     path = write(folder, "page.html", f"{before}</style>{script}{after}")
-    options = ["--headless", "--no-sandbox", "--disable-gpu", "--dump-dom", f"--user-data-dir={folder}/browser"]
-    done = subprocess.run([browser] + options + ["file://" + path],
-                          stdout=subprocess.PIPE, stderr=subprocess.DEVNULL, timeout=120, check=False)
+    options = ["--headless", "--no-sandbox", "--disable-gpu", "--dump-dom", f"--user-data-dir={folder}/browser", f"--window-size={size}"]
+    done = subprocess.run([browser] + options + [f"file://{path}{address}"],
+                          stdout=subprocess.PIPE, stderr=subprocess.DEVNULL, timeout=300, check=False)
     found = re.search(r'<pre id="told">(.*?)</pre>', done.stdout.decode(), re.S)
     answer = json.loads(html.unescape(found[1])) if found else {"told": {}, "errors": ["no answer"]}
     return answer["told"], answer["errors"]
 
 
-def _small(folder, browser, call, write, example):
+def _small(opened, call, example):
     page = call(["page"] + example("multiplexer"))[1]
-    told, errors = _opened(folder, browser, write, page, """
-        tell("opened"); press("on"); press("on"); tell("stepped"); press("last"); tell("last"); press("back"); tell("back");
-        press("first"); tell("first"); boxOf("z").dispatchEvent(new MouseEvent("click")); tell("clicked");
-        document.dispatchEvent(new KeyboardEvent("keydown", { key: "ArrowRight" })); tell("key");""")
+    told, errors = opened(page, """
+        tell("opened"); key("n"); tell("next"); key("p"); tell("before"); press("last"); tell("last"); press("back"); tell("back"); key("Home"); tell("home");
+        press("on"); press("on"); tell("stepped"); key("End"); tell("end"); press("before"); tell("button"); key("+"); tell("larger"); key("0"); tell("all");
+        boxOf("a").dispatchEvent(new MouseEvent("click")); tell("clicked"); key("ArrowDown"); tell("hazard"); key("ArrowLeft"); tell("left");
+        boxOf("n").dispatchEvent(new KeyboardEvent("keydown", { key: "Enter", bubbles: true })); tell("entered");
+        told.roles = [boxOf("z").getAttribute("role"), boxOf("z").getAttribute("tabindex"), boxOf("z").getAttribute("aria-label"), document.activeElement.dataset?.node];""")
+    first = told["opened"]
     yield "errors of the page", errors, []
-    yield "boxes and waves", (told["opened"]["boxes"], told["opened"]["traces"], told["opened"]["changes"]), (7, 10, 1)
-    opened = told["opened"]
-    yield "before the first step", (opened["step"], opened["now"], opened["rings"]), ("step 0 of 11", "unstable: s", 1)
-    yield "two steps", (told["stepped"]["step"], told["stepped"]["now"]), ("step 2 of 11", "now: n(1) | unstable: n a(1)")
-    yield "a late wire and a ring", (told["stepped"]["late"], told["stepped"]["rings"]), (1, 1)
-    yield "the last step", (told["last"]["step"], told["last"]["now"]), ("step 11 of 11", "now: z | at rest")
-    yield "a step back", told["back"]["step"], "step 10 of 11"
-    yield "the first step, and one by a key", (told["first"]["step"], told["key"]["step"]), ("step 0 of 11", "step 1 of 11")
-    yield "a row by a click", told["clicked"]["row"], "zit is 1 before and after, and may pulse to 0 in betweenkind"
+    yield "boxes and waves", (first["boxes"], first["traces"], first["changes"]), (7, 10, 1)
+    yield "it opens at the glitch", (first["chosen"], first["step"], first["now"], first["edges"]), ("z", "step 5 of 11", "now: z | unstable: n(1)", "z: 2 edges")
+    yield "why", (first["why"], first["which"]), ("a pulsez pulses if n(1), n, b(1), b, z(2) are slower than a(1), a, z(1), z: 2 gates and 3 wires against 2 gates and 2 wires",
+                                                  "why z: a pulse, 11 steps")
+    yield "the next edge and the one before", [told[name]["step"] for name in ("next", "before", "button")], ["step 11 of 11", "step 5 of 11", "step 5 of 11"]
+    yield "to the end and back", [told[name]["step"] for name in ("last", "back", "home", "end")], [f"step {at} of 11" for at in (11, 10, 0, 11)]
+    yield "two steps", (told["stepped"]["step"], told["stepped"]["now"], told["stepped"]["late"], told["stepped"]["rings"]), ("step 2 of 11", "now: a(1) | unstable: a n(1)", 1, 1)
+    yield "larger, and all of it", (told["larger"]["view"] != told["button"]["view"], told["all"]["view"] != told["larger"]["view"]), (True, True)
+    yield "a row by a click", (told["clicked"]["chosen"], told["clicked"]["row"][:37]), ("a", "ait goes from 1 to 0 by one edgeclass")
+    yield "a hazard by a key", (told["hazard"]["chosen"], told["left"]["step"]), ("z", "step 4 of 11")
+    yield "a box by its key, and roles", (told["entered"]["chosen"], told["roles"][:2], told["roles"][2].startswith("z, OR, static-1"), told["roles"][3]), ("n", ["button", "0"], True, "n")
+    told, errors = opened(page, 'tell("opened");', size="500,800")
+    yield "a narrow window", (errors, told["opened"]["wide"], told["opened"]["boxes"]), ([], False, 7)
 
 
-def _crossings(folder, browser, call, write, example):
+def _addresses(opened, call, example):
+    """What the address asks for, and addresses that ask for nothing."""
+    page = call(["page"] + example("multiplexer"))[1]
+    for address, chosen, step in (("#1/a/1/3", "a", "step 3 of 11"), ("#1/%zz", "z", "step 5 of 11"), ("#9/none/7/99", "z", "step 11 of 11"), ("#x", "z", "step 5 of 11")):
+        told, errors = opened(page, 'tell("opened");', address=address)
+        yield f"the address {address}", (errors, told["opened"]["chosen"], told["opened"]["step"]), ([], chosen, told["opened"]["step"] if "none" in address else step)
+
+
+def _crossings(opened, call, example):
     """No wire passes behind a box, where Graphviz puts the boxes and where the page does."""
     for name in ("tree", "mutex", "burst", "clockmux", "celement", "pipeline"):
         for page in (call(["page"] + example(name))[1], re.sub(r'"places":\[\[.*?\]\]', '"places":null', call(["page"] + example(name))[1])):
-            told, errors = _opened(folder, browser, write, page, 'tell("opened"); told.opened.crossings = crossings();')
+            told, errors = opened(page, 'tell("opened"); told.opened.crossings = crossings();')
             yield f"wires behind boxes of {name}", (errors, told["opened"]["crossings"]), ([], [])
 
 
-def _stopped(folder, browser, call, write, example):
+def _stopped(opened, call, write, folder, example):
     """A race, its cycle, and the change after it."""
     script = write(folder, "r.txt", "start r=1 s=1\nchange r=0 s=0\nchange s=1\n")
     page = call(["page", example("latch")[0], script])[1]
-    told, errors = _opened(folder, browser, write, page, """
-        const which = document.getElementById("which");
-        which.value = 1; which.dispatchEvent(new Event("change")); press("last"); tell("cycle");
-        document.querySelectorAll("nav button")[1].click(); tell("stopped");""")
+    told, errors = opened(page, """
+        tell("opened"); const which = document.getElementById("which"); told.runs = [...which.options].map(one => one.textContent);
+        which.value = which.options.length - 2; which.dispatchEvent(new Event("change")); press("last"); tell("cycle");
+        key("PageDown"); tell("stopped"); key("PageUp"); tell("again");""")
     yield "errors of a race", errors, []
+    yield "both ends of a race", (told["opened"]["why"].startswith("it can end at 0q ends at 0 if r, q(1) are slower than"), [run[:19] for run in told["runs"][:3]]), (
+        True, ["why q: it can end a", "why q: it can end a", "why q: it can go on"])
     yield "the end of the cycle", told["cycle"]["step"], "step 14 of 14"
-    yield "a change that was not analysed", (told["stopped"]["boxes"], told["stopped"]["row"]), (0, "")
+    yield "a change that was not analysed", (told["stopped"]["boxes"], told["stopped"]["row"], told["again"]["boxes"]), (0, "", 4)
 
 
-def _large(folder, browser, call, write):
-    """A chain of 20,000 gates: the neighbourhood of a node is shown, and a node is found by its name."""
+def _expected(opened, call, write, folder):
+    """What is expected and does not hold is red, and the page opens there."""
+    bench = write(folder, "e.bench", "INPUT(a)\nINPUT(b)\nn = NOT(a)\nh = AND(a, n)\nz = BUFF(b)\n")
+    page = call(["page", bench, write(folder, "e.txt", "start a=0 b=0\nchange a=1\nchange b=1 #expect z steady\n")])[1]
+    told, errors = opened(page, 'tell("opened"); told.red = document.querySelector("nav .failed").textContent; told.said = document.querySelector("aside .failed").textContent; press("hidden"); tell("hidden");')
+    yield "a change of which an expectation fails", (errors, told["red"], told["said"]), ([], "2 b=1clean; 1 #expect failed", "#expect failed: z steady: its class is single")
+    yield "the failed change is chosen", (told["opened"]["nav"], told["opened"]["chosen"], told["hidden"]["changes"]), ("1 a=11 hazard2 b=1clean; 1 #expect failed", "b", 2)
+
+
+def _clean(opened, call, write, folder):
+    """A clean change chooses the input that changes, and a list of more than 200 changes says so and goes on."""
+    bench = write(folder, "c.bench", "INPUT(ck)\nINPUT(d)\nq = BUFF(d)\nr = BUFF(ck)\n")
+    script = write(folder, "c.txt", "start ck=0 d=0\n" + "".join(f"change d={(at + 1) % 2}\n" for at in range(300)))
+    page = call(["page", bench, script])[1]
+    told, errors = opened(page, 'tell("opened"); document.querySelector("nav .more").click(); tell("all"); press("faded"); told.faded = count(".box.faded");')
+    yield "an input that changes", (errors, told["opened"]["chosen"], told["opened"]["step"], told["faded"]), ([], "d", "step 1 of 3", 2)
+    yield "a long list", (told["opened"]["changes"], told["opened"]["nav"][:32], told["all"]["changes"]), (201, "changes 1 to 200 of 300: show al", 300)
+
+
+def _large(opened, call, write, folder):
+    """A chain of 20,000 gates: the cone of a node is shown, and a node is found by its name; of 100 gates all are drawn if that is wanted."""
     count = 20_000
-    bench = write(folder, "c.bench", "INPUT(a)\ng0 = NOT(a)\n" + "".join(f"g{at} = NOT(g{at - 1})\n" for at in range(1, count)))
-    status, page = call(["page", bench, write(folder, "c.txt", "start a=0\nchange a=1\n")])
-    yield "the page of a large circuit", (status, len(page) < 4_000_000), (0, True)
-    told, errors = _opened(folder, browser, write, page, """
+    chain = lambda count: "INPUT(a)\nINPUT(c)\ng0 = NOT(a)\n" + "".join(f"g{at} = AND(g{at - 1}, c)\n" for at in range(1, count))
+    bench = write(folder, "c.bench", chain(count))
+    status, page = call(["page", bench, write(folder, "c.txt", "start a=0 c=1\nchange a=1\n")])
+    yield "the page of a large circuit", (status, len(page) < 6_000_000), (0, True)
+    told, errors = opened(page, """
         const search = document.getElementById("search");
         search.value = "g10000"; search.dispatchEvent(new Event("input")); tell("found");
         press("last"); tell("last");""")
     yield "errors of a large circuit", errors, []
-    yield "a node of a large circuit", told["found"]["row"][:41], "g10000it goes from 1 to 0 by one edgekind"
-    yield "its neighbourhood", told["found"]["boxes"], 60
+    yield "a node of a large circuit", told["found"]["row"][:41], "g10000it goes from 1 to 0 by one edgeclas"
+    yield "its cone", told["found"]["boxes"], 60
     yield "its last step", told["last"]["step"], f"step {2 * count + 1} of {2 * count + 1}"
+    page = call(["page", write(folder, "d.bench", chain(100)), write(folder, "d.txt", "start a=0 c=1\nchange a=1\n")])[1]
+    told, errors = opened(page, 'tell("opened"); press("all"); tell("whole"); press("whole"); tell("fitted");')
+    yield "a whole circuit and its map", (errors, told["opened"]["boxes"], told["opened"]["map"], told["whole"]["boxes"], told["whole"]["map"]), ([], 60, 0, 102, 102)

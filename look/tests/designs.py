@@ -52,8 +52,10 @@ def rows(folder, call, run, hazard, expected):
 def _beside_iverilog(folder, name, written, bench, hazard):
     """The values of the outputs at rest, by iverilog and by the report, before each change of an input and at the end."""
     circuit = netlist.read(open(bench, encoding="utf-8").read())
-    changes = [one for one in script.read(written) if one.keyword == "change"]
-    start, (*reports,) = hazard.analyse_text(bench, written)
+    path = _write(folder, name + ".written", written)
+    changes = [one for one in script.read(path) if one.keyword == "change"]
+    start, reports = hazard.analyse(bench, path)
+    reports = list(reports)
     values = [start] + [{row.name: int(row.b) for row in change.rows.values()} for change in reports]
     ports = json.load(open(os.path.join(ROOM, name + ".json"), encoding="utf-8"))["modules"][name]["ports"]
     cuts = {cut.name for cut in circuit.cuts}
@@ -194,7 +196,7 @@ def _refused(folder, run):
         path = os.path.join(folder, "f.json")
         with open(path, "w", encoding="utf-8") as file:
             json.dump(made, file)
-        yield f"refused: {wanted[:40]}", run(["from-yosys", path], folder), (3, "", "hazard-look: " + wanted)
+        yield f"refused: {wanted[:40]}", run(["from-yosys", path], folder), (3, "", "".join(f"hazard-look: {line}\n" for line in wanted.splitlines()))
     two = {"modules": {"a": {"ports": {}, "cells": {}, "netnames": {}}, "b": {"ports": {}, "cells": {}, "netnames": {}}}}
     other = "not what `write_json` of yosys writes"
     no_net = {"modules": {"a": {"ports": {"x": port("input", 2)}, "netnames": {}, "cells": {}}}}
@@ -269,7 +271,7 @@ def _joined(folder, run):
     words = "read_verilog join.v; synth -flatten -noabc -top top; opt_clean; rename -enumerate; write_json join.json"
     subprocess.run(["yosys", "-q", "-p", words], cwd=folder, stdout=subprocess.DEVNULL, stderr=subprocess.DEVNULL, check=True)
     status, found, _ = run(["from-yosys", "--join", "join.json"], folder)
-    yield "joined gates of yosys", (status, dict(line.split(" = ") for line in found.splitlines() if " = " in line)), (0, wanted)
+    yield "joined gates of yosys", (status, dict(line.partition("  #")[0].split(" = ") for line in found.splitlines() if " = " in line)), (0, wanted)
 
 
 def _write(folder, name, text):
@@ -285,7 +287,7 @@ def _other_names(folder, run):
     bench = _write(folder, "other.bench", "INPUT(a)\nOUTPUT(z)  # y[3] of the design\nOUTPUT(z)\nz = NOT(a)\n")
     text = _write(folder, "other.txt", "start a=0\nchange a=1 #expect y[3] clean\n")
     for words, front in ((["summary", bench, text, "--only", "y[3]"], "--only: "), (["why", bench, text, "y[3]"], ""),
-                         (["expect", bench, text], "script line 2: ")):
+                         (["expect", bench, text], f"{text}:2: ")):
         told = f"hazard-look: {front}no node is named y[3] (it is z)\n"
         yield f"{words[0]} of a node with another name", run(words, folder), (2, "", told)
 
@@ -295,5 +297,5 @@ def _clock_behind_feedback(folder, run):
     bench = _write(folder, "behind.bench", "INPUT(r)\nINPUT(s)\nq = NOR(r, p)\np = NOR(s, q)\ng = XOR(q, p, s)\n"
                                            "a = DFF(b)  # clock q rising\nb = DFF(a)  # clock g rising\n")
     text = "start r=0 s=0 q=0 a=1 b=1\nchange s=1\n"
-    warning = "hazard-look: script line 2: the clock g may pulse, and the script has no edge for it: flip-flop b\n"
+    warning = f"hazard-look: {folder}/behind.txt:2: the clock g may pulse, and the script has no edge for it: flip-flop b\n"
     yield "a clock behind feedback", run(["clock", bench, _write(folder, "behind.txt", text)], folder), (0, text, warning)

@@ -16,7 +16,7 @@ NOT_PLAIN = "not a plain file"
 
 def rows(folder, command, run, write):
     """Rows of name, found, wanted."""
-    files = [write(folder, "a.bench", GATE), write(folder, "a.txt", "start a=0\nchange a=1\n")]
+    files = [write(folder, "a.bench", GATE), write(folder, "a.txt", "start a=0\nchange a=1 #expect settled\n")]
     yield from _files(folder, run, write, files)
     yield from _programs(folder, run, write, files)
     yield from _names(folder, run, write)
@@ -56,11 +56,11 @@ def _files(folder, run, write, files):
 
 def _programs(folder, run, write, files):
     """Programs that are not `hazard`, or that come to a bad end."""
-    made = {"killed": "#!/bin/sh\nkill -9 $$\n", "strange": "no program\n", "early": "#!/bin/sh\necho netlist inputs 1 gates 1 wires 1 variables 3\necho start a=0 y=1\necho change 1 a=1\n"}
+    made = {"killed": "#!/bin/sh\nkill -9 $$\n", "wrong": "#!/bin/sh\nexit 1\n", "strange": "no program\n", "early": "#!/bin/sh\necho netlist inputs 1 gates 1 wires 1 variables 3\necho start a=0 y=1\necho change 1 a=1\n"}
     for name, text in made.items():
         os.chmod(write(folder, name, text), 0o755)
     for path, status, part in (("/bin/true", 127, "does not write a report"), ("/bin/echo", 127, "does not write a report"), ("./early", 127, "does not write a report"),
-                               ("./killed", 1, "ended by signal 9"), ("./strange", 127, "can't be started")):
+                               ("./killed", 137, "ended by signal 9"), ("./wrong", 70, "ended with status 1"), ("./strange", 127, "can't be started")):
         yield f"the program {path}", _ends(run(["summary", "--hazard", path] + files, folder), status, part), True
 
 
@@ -94,12 +94,32 @@ def _outputs(folder, command, run, files):
         with os.fdopen(writer, "wb") as unread:
             gone = subprocess.run([command] + words, stdout=unread, stderr=subprocess.PIPE, check=False)
         yield f"a pipe whose reader has gone, {words[0]}", (gone.returncode, b"hazard-look: standard" in gone.stderr), (8, False)
+    yield from _errors(folder, command, files)
     for place in ("none/y.runs", "folder", ""):
         yield f"a run kept at {place!r}", _ends(run(["why"] + files + ["y", "--save", place], folder), 8, place), True
     spoilt = dict(os.environ, TMPDIR="/none", PYTHONPATH=folder)
     with open(os.path.join(folder, "sitecustomize.py"), "w", encoding="ascii") as file:
         file.write("import tempfile\ntempfile._candidate_tempdir_list = lambda: ['/none']\n")
     yield "no place for a short file", _ends(run(["start", files[0]], folder, env=spoilt), 8, "no file can be made"), True
+
+
+def _errors(folder, command, files):
+    """Standard error that is closed, or that nobody reads: the status is what it would be, and never that of an expectation that fails."""
+    calls = [(["summary", "nofile.bench", files[1]], 6), (["expect"] + files, 0), (["clock", files[0], "nofile"], 6), (["summary"], 2), (["--help"], 0),
+             (["from-yosys", "nofile"], 6), (["summary"] + files, 0), (["expect", "--hazard", "./killed"] + files, 137)]
+    for words, status in calls:
+        closed = subprocess.run(["sh", "-c", 'exec "$0" "$@" 2>&-', command] + words, cwd=folder, stdout=subprocess.DEVNULL, check=False)
+        reader, writer = os.pipe()
+        os.close(reader)
+        with os.fdopen(writer, "wb") as unread:
+            gone = subprocess.run([command] + words, cwd=folder, stdout=subprocess.DEVNULL, stderr=unread, check=False)
+        yield f"no standard error, {words}", (closed.returncode, gone.returncode), (status, status)
+    module = os.path.join(folder, "sitecustomize.py")
+    with open(module, "w", encoding="ascii") as file:
+        file.write("import json\njson.dumps = None\n")
+    spoilt = subprocess.run([command, "summary", "--json"] + files, env=dict(os.environ, PYTHONPATH=folder), stdout=subprocess.DEVNULL, stderr=subprocess.PIPE, check=False)
+    os.remove(module)
+    yield "a fault of the program", (spoilt.returncode, spoilt.stderr.decode().startswith("hazard-look: a fault of this program: TypeError"), spoilt.stderr.count(b"\n")), (70, True, 1)
 
 
 def _interrupted(folder, command, write):

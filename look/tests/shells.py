@@ -4,6 +4,8 @@ import re
 import shutil
 import subprocess
 
+# The file that comes first behind a job, if that is no netlist.
+FIRST = {"from-yosys": "d.json", "from-verilog": "t.v"}
 BASH = 'source "$0"; COMP_WORDS=("$@"); COMP_CWORD=$(($# - 1)); _hazard_look; echo "${COMPREPLY[@]}"'
 FISH = "source $argv[1]; complete -C $argv[2]"
 # zsh lists what may come in a terminal alone, so it gets one; the keys are those of a person, and ^D asks
@@ -27,7 +29,7 @@ print -r -- $all
 def rows(folder, root, run, write):
     """Rows of name, found, wanted."""
     place = os.path.join(root, "completions")
-    for name in ("n.bench", "m.BLIF", "s.txt", "d.json"):
+    for name in ("n.bench", "m.BLIF", "s.txt", "d.json", "t.v"):
         write(folder, name, "")
     jobs = re.search(r"choose from (.*)\)", run(["no-job"], folder)[2])[1].replace("'", "").split(", ")
     options = {job: set(re.findall(r"(?<![`\w])--[a-z]+", run([job, "--help"], folder)[1])) for job in jobs}
@@ -51,7 +53,7 @@ def _bash(folder, script, jobs, options):
     yield "bash: jobs", told(""), sorted(jobs + ["--help"])
     for job in jobs:
         yield f"bash: options of {job}", told(job, "-"), sorted(options[job])
-        yield f"bash: first file of {job}", told(job, ""), ["d.json"] if job == "from-yosys" else ["m.BLIF", "n.bench"]
+        yield f"bash: first file of {job}", told(job, ""), [FIRST[job]] if job in FIRST else ["m.BLIF", "n.bench"]
     yield "bash: second file", told("why", "n.bench", "s"), ["s.txt"]
     yield "bash: second file after an option", told("summary", "--only", "z", "n.bench", "s"), ["s.txt"]
     yield "bash: nothing after the netlist of a start", told("start", "n.bench", ""), []
@@ -65,7 +67,7 @@ def _fish(folder, place, jobs, options):
     yield "fish: jobs", sorted(told("")), sorted(jobs)
     for job in jobs:
         yield f"fish: options of {job}", set(told(f"{job} --")), options[job]
-        yield f"fish: first file of {job}", told(f"{job} ")[0], "d.json" if job == "from-yosys" else "n.bench"
+        yield f"fish: first file of {job}", told(f"{job} ")[0], FIRST.get(job, "n.bench")
     yield "fish: second file", told("why n.bench s"), ["s.txt"]
     yield "fish: where a run is kept", told("why n.bench s.txt z --save s"), ["s.txt"]
 
@@ -76,7 +78,7 @@ def _zsh(folder, place, jobs, options):
         listed = re.sub(r"\x1b\[[0-9;?]*[A-Za-z]", "", listed).replace("\r", "\n")
         return set(re.split(r"\s+", listed.replace("hazard-look", " ")))
     yield "zsh: jobs", sorted(job for job in jobs if job not in told("")), []
-    for job in ("summary", "from-yosys"):
+    for job in ("summary", "expect", "from-yosys", "from-verilog"):
         yield f"zsh: options of {job}", {word for word in told(f"{job} -") if re.match(r"--[a-z]", word)}, options[job]
     yield "zsh: first file of a job", {"n.bench", "m.BLIF", "s.txt"} & told("page "), {"n.bench", "m.BLIF"}
     yield "zsh: a design", {"n.bench", "d.json"} & told("from-yosys "), {"d.json"}

@@ -1,0 +1,92 @@
+"""What a long script costs, what a terminal is told, and netlists from Verilog in one command."""
+import os
+import pty
+import shutil
+import subprocess
+import time
+
+CHANGES = 10_000
+SECONDS = 10
+# a flip-flop whose gates stand on some lines of a source text, in a file of this name
+VERILOG = "module top(input s, x, y, ck, output z, output reg q);\n  wire n = ~s;\n  assign z = (s & x)\n           | (n & y);\n  always @(posedge ck) q <= z;\nendmodule\n"
+
+
+def costs(folder, run, write, program):
+    """Rows of name, found, wanted: jobs on 10,000 changes call `hazard` once or twice, and are done in some seconds."""
+    counting = write(folder, "counting", f'#!/bin/sh\necho call >> "{folder}/calls"\nexec "{program}" "$@"\n')
+    os.chmod(counting, 0o755)
+    write(folder, "i.bench", "INPUT(a)\nz = NOT(a)\n")
+    write(folder, "i.txt", "start a=0 #expect settled\n" + "".join(f"change a={(at + 1) % 2} #expect z single\n" for at in range(CHANGES)))
+    write(folder, "f.bench", "INPUT(ck)\nOUTPUT(z)\nd = NOT(q)\nq = DFF(d)\nz = AND(q, ck)\n")
+    write(folder, "f.txt", "start ck=0 q=0\n" + "".join(f"#clock ck={(at + 1) % 2} #expect z clean\n" for at in range(CHANGES // 2)))
+    for job, files, calls in (("expect", ["i.bench", "i.txt"], 1), ("page", ["i.bench", "i.txt"], 1), ("summary", ["i.bench", "i.txt"], 1), ("clock", ["f.bench", "f.txt"], 2)):
+        write(folder, "calls", "")
+        begun = time.monotonic()
+        status = run([job, "--hazard", counting] + files, folder)[0]
+        with open(os.path.join(folder, "calls"), encoding="ascii") as file:
+            called = file.read().count("call")
+        yield f"{job} of {CHANGES} changes", (status, called <= calls, time.monotonic() - begun < SECONDS), (0, True, True)
+
+
+def terminals(folder, command, run, write):
+    """Colours and a line on a terminal; nothing of them elsewhere, or if NO_COLOR is set."""
+    words = [command, "summary", write(folder, "h.bench", "INPUT(a)\nINPUT(b)\nn = NOT(a)\nh = AND(a, n)\n"), write(folder, "h.txt", "start a=0 b=0\nchange a=1\nchange b=1\n")]
+    plain = run(words[1:], folder)[1]
+    yield "no colours in a file", "\033" in plain, False
+    coloured = _on_terminal(words, {"TERM": "xterm"})
+    yield "colours on a terminal", ("\033[33mstatic-0\033[0m" in coloured, "\033[32mclean\033[0m" in coloured), (True, True)
+    yield "no colours if they are not wanted", _on_terminal(words, {"NO_COLOR": "1", "TERM": "xterm"}).replace("\r\n", "\n"), plain
+    slow = write(folder, "slow", "#!/bin/sh\n\"$HAZARD\" \"$@\" | while read -r line; do case $line in change*) sleep 1.5;; esac; echo \"$line\"; done\n")
+    os.chmod(slow, 0o755)
+    told = _on_terminal(words[:2] + ["--hazard", slow] + words[2:], {"NO_COLOR": "1"})
+    yield "a line about a long job", ("\rhazard-look: change 2 " in told, told.rstrip().endswith("\033[K")), (True, True)
+
+
+def _on_terminal(words, more):
+    """What a command writes on a terminal."""
+    master, slave = pty.openpty()
+    environment = {name: value for name, value in os.environ.items() if name != "NO_COLOR"}
+    with subprocess.Popen(words, stdin=subprocess.DEVNULL, stdout=slave, stderr=slave, env=dict(environment, **more)) as running:
+        os.close(slave)
+        told = b""
+        while True:
+            try:
+                part = os.read(master, 4096)
+            except OSError:
+                break
+            if not part:
+                break
+            told += part
+        running.wait()
+    os.close(master)
+    return told.decode()
+
+
+def verilog(folder, run, write, environment):
+    """One command from Verilog to a netlist, with the names and the lines of the source."""
+    write(folder, "top.v", VERILOG)
+    empty = os.path.join(folder, "empty")
+    os.mkdir(empty)
+    for name in ("python3", "env"):
+        os.symlink(shutil.which(name), os.path.join(empty, name))
+    status, out, errors = run(["from-verilog", "top.v"], folder, env=dict(environment, PATH=empty))
+    yield "without yosys", (status, out, errors.startswith("hazard-look: yosys is not installed")), (127, "", True)
+    if not shutil.which("yosys"):
+        print("skipped: from-verilog: yosys is not installed")
+        return
+    status, out, errors = run(["from-verilog", "top.v"], folder)
+    yield "a start from Verilog", (status, errors), (0, "start s=? x=? y=? ck=? q=?\n")
+    yield "lines of the source", [line for line in out.splitlines() if line.startswith(("z =", "n =", "q ="))], [
+        "q = DFF(z)  # clock ck rising  # top.v:5", "n = NOT(s)  # top.v:2", "z = OR(_0_, _1_)  # top.v:3"]
+    write(folder, "top.bench", out)
+    write(folder, "top.txt", "start s=1 x=1 y=1 ck=0 q=1\nchange s=0 #expect z steady\n")
+    place = next(number for number, line in enumerate(out.splitlines(), 1) if line.startswith("z ="))
+    yield "a finding with its source", run(["expect", "top.bench", "top.txt"], folder)[1].splitlines()[0], (
+        f"top.txt:2: change 1 s=0: z steady: its class is static-1 (top.v:3, top.bench:{place})")
+    write(folder, "pulse.v", "module pulse(input a, output z);\n  wire b = ~a, c = ~b, d = ~c;\n  assign z = a & d;\nendmodule\n")
+    yield "each gate of the source", [run(["from-verilog"] + words + ["pulse.v"], folder)[1].count("NOT(") for words in ([], ["--gates"])], [0, 3]
+    write(folder, "bad.v", "module x(input a\n")
+    for words, status, part in ((["bad.v"], 3, "yosys: bad.v:1: ERROR"), (["none.v"], 6, "none.v: No such file"), (["--top", "none", "top.v"], 3, "yosys: ERROR: Module `none' not found"),
+                                (["pulse.v", "top.v", "--top", "pulse"], 0, "start a=?")):
+        done = run(["from-verilog"] + words, folder)
+        yield f"from Verilog: {words}", (done[0], part in done[2]), (status, True)

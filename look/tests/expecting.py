@@ -1,0 +1,110 @@
+"""Expectations that hold, that do not, that can't be read, and that could be left out unseen."""
+import json
+
+GATE = "INPUT(ck)\nINPUT(en)\ngck = AND(ck, en)\n"
+# a clock edge at which z pulses by itself, and one at which it is cut in two
+EDGE = "INPUT(ck)\nINPUT(a)\nn = NOT(ck)\nu = AND(ck, a)\nv = AND(n, a)\nz = OR(u, v)\nco = AND(ck, q)\nd = NOT(q)\nq = DFF(d)\n"
+
+
+def rows(folder, run, write, example, expected):
+    """Rows of name, found, wanted."""
+    gate, mutex = write(folder, "g.bench", GATE), example("mutex")[0]
+    asked = lambda bench, text: run(["expect", bench, write(folder, "s.txt", text)], folder)
+    told = lambda text: asked(gate, text)[:2]
+    yield from _judged(folder, gate, mutex, asked, expected)
+    yield from _unread(gate, asked)
+    yield from _overridden(told)
+    yield from _not_analysed(mutex, asked)
+    yield from _edges(folder, run, write)
+    yield from _as_data(folder, gate, run, write)
+
+
+def _judged(folder, gate, mutex, asked, expected):
+    start = "start ck=0 en=0\n"
+    cases = [
+        (gate, "start ck=1 en=1\nchange en=0 #expect gck steady\n", 1,
+         f"{folder}/s.txt:2: change 1 en=0: gck steady: its class is single ({gate}:3)\n1 expectation, 1 failed\n"),
+        (gate, "start ck=1 en=1 #expect gck single\nchange en=0\n#expect settled, gck steady or single\n", 0, "2 expectations, 0 failed\n"),
+        (gate, start + "change ck=1 #expect never en=1\n", 0, "1 expectation, 0 failed\n"),
+        (gate, start + "change ck=1 #expect never en=0 gck=0\n", 1,
+         f"{folder}/s.txt:2: change 1 ck=1: never en=0 gck=0: it is so before the change\n1 expectation, 1 failed\n"),
+        (gate, start + "change ck=1 en=1 #expect never ck=1 en=0 gck=1\n", 0,
+         f"{folder}/s.txt:2: change 1 ck=1 en=1: never ck=1 en=0 gck=1: not shown, which is no proof\n1 expectation, 0 failed\n"),
+        (mutex, "start request1=0 request2=0\nchange request1=1 request2=1 #expect never grant1=1 grant2=1, settled\n", 1,
+         expected("expect-grants.txt").replace("SCRIPT", f"{folder}/s.txt").replace("NETLIST", mutex)),
+    ]
+    for bench, text, status, answer in cases:
+        yield f"expect {text!r}", asked(bench, text)[:2], (status, answer)
+
+
+def _unread(gate, asked):
+    """What can't be read, or would be left out, ends with 2, and a line with the place of each."""
+    wrong = [("#expecting", "`#expecting` is read as a remark: write `#expect`"), ("#expect", "`` is no expectation"), ("#expect gck stedy", "no class is named stedy"),
+             ("#expect gock steady", "no node is named gock"), ("#expect never", "after `never` stand assignments"), ("#expect never gck=2", "after `never` stand"),
+             ("#expect gck steady single", "is no expectation"), ("#expect gck steady as ever", "a remark begins with another #"), ("#expects gck steady", "`#expects`"),
+             ("#Expect gck steady", "`#Expect`"), ("# expect gck steady", "`# expect` is read as a remark"), ("#expect ck steady or single  # expect gck clean", "`# expect`"),
+             ("# expects gck steady", "`# expects`"), ("# a remark #expect gck clean", "stands behind a remark"), ("# here we expect gck clean", "`expect gck clean` stands in a remark"),
+             ("# expected: never gck=1", "`expect never gck=1` stands in a remark"), ("#expect edges gck < 2", "`edges NODE <= N`"), ("#expect edges gck <= x", "`edges NODE <= N`"),
+             ("#expect edges gock <= 1", "no node is named gock"), ("#expect gck clean in 1..2", "the script has the changes 1 to 1"), ("#expect gck clean in 0", "the script has the changes"),
+             ("#expect edge: gck clean", "no edge ends here"), ("#expect settled,", "`` is no expectation")]
+    for text, part in wrong:
+        status, out, errors = asked(gate, f"start ck=0 en=0\nchange ck=1 {text}\n")
+        yield f"unread: {text}", (status, out, ":2: " in errors, part in errors, errors.startswith("hazard-look: ")), (2, "", True, True, True)
+    status, out, errors = asked(gate, "start ck=0 en=0 # expect x\nchange ck=1 #expects y\n")
+    yield "two faults", (status, [line.split(": ")[1].split(":")[-1] for line in errors.splitlines()]), (2, ["1", "2"])
+    for text in ("", "# we expect little of gck", "# that is not expected"):
+        status, out, errors = asked(gate, f"start ck=0 en=0\nchange ck=1 {text}\n")
+        yield f"no expectation: {text}", (status, out, errors), (2, "", "hazard-look: no comment of the script begins with `#expect`, so nothing is checked\n")
+
+
+def _overridden(told):
+    """What a change expects of a node goes before the defaults; what spans some changes is judged of all of them together."""
+    script = "start ck=0 en=1 #expect gck steady\nchange ck=1 #expect gck single\nchange ck=0 #expect gck single\nchange en=0\n"
+    yield "defaults that changes override", told(script), (0, "3 expectations, 0 failed\n")
+    for text, status in (("edges gck <= 2 in 1..2", 0), ("edges gck <= 1 in 1..2", 1), ("gck static in 1..2", 0), ("gck clean in 1..2", 1), ("gck single in 2..3", 0), ("edges gck <= 0 in 3", 0),
+                         ("edges gck <= 1 in 1, edges gck <= 1 in 2", 0)):
+        yield f"across changes: {text}", told(f"start ck=0 en=1\nchange ck=1\nchange ck=0\nchange en=0 #expect {text}\n")[0], status
+
+
+def _not_analysed(mutex, asked):
+    """What comes after a race that was wanted is one line, and it does not pass."""
+    text = ("start request1=0 request2=0 #expect settled, grant1 clean\nchange request1=1 request2=1 #expect free1 unsettled, grant1 unsettled\n"
+            "change request1=0\nchange request2=0\n")
+    status, out, _ = asked(mutex, text)
+    yield "not analysed", (status, [line.split(":", 1)[-1] for line in out.splitlines()]), (
+        1, ["3: changes 2 to 3 are not analysed, free1 did not settle in change 1: 4 expectations not checked", "6 expectations, 0 failed, 4 not checked"])
+    latch = "start request1=0 request2=0 #expect settled\nchange request1=1 request2=1\n"
+    yield "a default that fails", asked(mutex, latch)[0], 1
+
+
+def _edges(folder, run, write):
+    """What is expected of an edge is expected of both its changes, and of the edge as a whole where that is said."""
+    bench = write(folder, "e.bench", EDGE)
+    cases = [("ck=0 #expect z clean", "ck=1 a=1 q=0", 1, "change 1 ck=0: z clean: its class is static-1"), ("ck=0 #expect u clean", "ck=1 a=1 q=0", 0, ""),
+             ("ck #expect co clean", "ck=0 a=1 q=1", 0, ""), ("ck #expect edge: co clean", "ck=0 a=1 q=1", 1, "change 1 to 2 q=0: edge: co clean: its class is static-0"),
+             ("ck #expect edge: edges co <= 1", "ck=0 a=1 q=1", 1, "it may make 2"), ("ck #expect edge: d single, edge: q single", "ck=0 a=1 q=1", 2, "is no expectation"),
+             ("ck #expect edge: d single, q single", "ck=0 a=1 q=1", 0, ""), ("ck #expect edge: settled", "ck=0 a=1 q=1", 2, "speaks of each change alone")]
+    for text, start, status, part in cases:
+        written = run(["clock", bench, write(folder, "e.clk", f"start {start}\n#clock {text}\n")], folder)[1]
+        found, out, errors = run(["expect", bench, write(folder, "e.txt", written)], folder)
+        yield f"an edge: {text}", (found, part in out + errors), (status, True)
+    written = run(["clock", bench, write(folder, "e.clk", "start ck=0 a=1 q=1 #expect edge: co clean\n#clock ck\n")], folder)[1]
+    yield "a default of each edge", run(["expect", bench, write(folder, "e.txt", written)], folder)[0], 1
+    out = run(["summary", bench, write(folder, "e.txt", written)], folder)[1]
+    yield "a pulse across an edge", "1 to 2, one edge: 1 node pulses across the edge: co\n" in out, True
+
+
+def _as_data(folder, gate, run, write):
+    """The same as JSON, for both jobs, and the status of `summary --fail`."""
+    text = write(folder, "j.txt", "start ck=1 en=1\nchange en=0 #expect gck steady\n")
+    status, out, _ = run(["expect", "--json", "g.bench", "j.txt"], folder)
+    found = json.loads(out)
+    yield "expectations as data", (status, found["expectations"], found["failed"], found["findings"][0]["file"], found["findings"][0]["line"], found["findings"][0]["netlist"]), (
+        1, 1, 1, "j.txt", 2, "g.bench:3")
+    bench, text = write(folder, "h.bench", "INPUT(a)\n\nn = NOT(a)\nh = AND(a, n)\nk = BUFF(h)\n"), write(folder, "h.txt", "start a=0\n# up\nchange a=1\n")
+    found = json.loads(run(["summary", "--json", bench, text], folder)[1])
+    yield "a summary as data", [(one["node"], one["kind"], one["root"], one["place"].rsplit(":")[-1]) for one in found["changes"][0]["hazards"]], [
+        ("h", "static-0", True, "4"), ("k", "static-0", False, "5")]
+    yield "a summary that fails", run(["summary", "--fail", "h.bench", "h.txt", "--roots"], folder)[:2], (
+        1, "h.txt:3: change 1 a=1: h static-0: it is 0 before and after, and may pulse to 1 in between (h.bench:4)\n")
+    yield "a summary that does not fail", run(["summary", "--fail", "h.bench", "h.txt", "--only", "n"], folder)[:2], (0, "0 findings\n")
