@@ -1,7 +1,7 @@
 """The job `why`: a short run in which a node makes its hazard, as a waveform, with the paths that race."""
 from typing import List, NamedTuple, Optional
 
-from . import runtext, sentence
+from . import cover, runtext, sentence
 from .conditions import TooMany, conditions
 from .circuit import load, no_node
 from .errors import DONE, OUTPUT_FAILED, WRONG_WORDS, Failure
@@ -43,6 +43,8 @@ def run(words, out):
     out.write(f"{row.name} in change {change.title()}: {kind_of(row)}, {meaning(row, row.name in edges)}\n")
     if row.kind == "steady":
         return DONE
+    for line in cover.told(circuit, change, row):
+        out.write(f"  {line}\n")
     searcher, shown = explained(Network(circuit, is_sorted=True), change, row, edges)
     text = searcher.text.of([Run(searcher.named(one.lead), _named_cycle(searcher, one)) for one in shown])
     words.program.must_accept(words.netlist, text)
@@ -106,7 +108,17 @@ def _told(history, node, name, edges):
         return [f"{name} {_DOES[edges]} under conditions on too many paths to be told"]
     if found is None:
         return [f"{name} {_DOES[edges]} if delays are other ones for other edges; no fixed delays were found"]
-    return sentence.lines(network, found, f"{name} {_DOES[edges]}", passes, first)
+    return sentence.lines(network, found, f"{name} {_DOES[edges]}", passes, first) + _essential(network, found)
+
+
+def _essential(network, comparisons):
+    """That a change of an input reaches a gate by its own way after it has come through the feedback, as Unger names it."""
+    loops = {network.number[name] for loop in network.netlist.loops() for name in loop}
+    for early, late in comparisons:
+        starts = any(map(network.is_input, early + late))
+        if not starts and loops.intersection(early[:-1]) and not loops.intersection(late):
+            return ["an essential hazard: an input's own way is slower than its way through the feedback; delay in the feedback takes it away"]
+    return []
 
 
 _DOES = {2: "pulses", 3: "makes more than one edge"}
