@@ -21,13 +21,14 @@ MOST_STEPS = 200
 
 
 class Shown(NamedTuple):
-    """A run that is to be shown: what it shows, its steps up to its cycle, those of the cycle, or None, and the lines on the delays that
-    make it happen."""
+    """A run that is to be shown: what it shows, its steps up to its cycle, those of the cycle, or None; the lines on the delays that make
+    it happen, and these as comparisons, or None if there are none to tell."""
 
     title: str
     lead: List[list]
     cycle: Optional[List[list]]
     told: List[str]
+    comparisons: Optional[list] = None
 
 
 def run(words, out):
@@ -37,7 +38,7 @@ def run(words, out):
     circuit = load(words.netlist)
     if words.node not in circuit.nodes:
         raise Failure(no_node(circuit, words.node), WRONG_WORDS)
-    change = _change(words, report, circuit)
+    change = change_of(words, report, circuit)
     row = change.rows[words.node]
     edges = one_edge(circuit, change.rows)
     out.write(f"{row.name} in change {change.title()}: {kind_of(row)}, {meaning(row, row.name in edges)}\n")
@@ -58,7 +59,7 @@ def run(words, out):
     return DONE
 
 
-def _change(words, report, circuit):
+def change_of(words, report, circuit):
     """The change that is asked for; or else the first in which the node has no clean edge, or else the first with an edge."""
     edge = None
     for change in report.changes:
@@ -89,26 +90,32 @@ def _shown(searcher, row, is_clean_edge, moving):
     if row.kind == "unsettled":
         return _endless(searcher, node, moving)
     wanted, title = (2, "a pulse") if row.kind == "static" else (1, "its edge") if is_clean_edge else (3, "more than one edge")
-    found, told = searcher.edges(node, wanted, moving), []
+    found, told, compared = searcher.edges(node, wanted, moving), [], [] if wanted == 1 else None
     if found is None:
         title = "one edge; no run with more edges was found, which is no proof that there is none"
         found = searcher.edges(node, 1, moving)
     elif wanted > 1:
-        told = _told(History(searcher.follower, found, moving), node, row.name, wanted)
-    return [Shown(title, found, None, told)]
+        told, compared = _told(History(searcher.follower, found, moving), node, row.name, wanted)
+    return [Shown(title, found, None, told, compared)]
 
 
 def _told(history, node, name, edges):
-    """On which delays the edges of a run depend. The last edge comes by itself, as the end is decided."""
-    network = history.network
+    """On which delays the edges of a run depend: lines, and comparisons. The last edge comes by itself, as the end is decided."""
     first, passes = origin(history, node) if edges == 2 else (node, ())
     try:
         found = conditions(history, first, list(range(1, edges)))
     except TooMany:
-        return [f"{name} {_DOES[edges]} under conditions on too many paths to be told"]
+        return [f"{name} {_DOES[edges]} under conditions on too many paths to be told"], None
     if found is None:
-        return [f"{name} {_DOES[edges]} if delays are other ones for other edges; no fixed delays were found"]
-    return sentence.lines(network, found, f"{name} {_DOES[edges]}", passes, first) + _essential(network, found)
+        return [f"{name} {_DOES[edges]} if delays are other ones for other edges; no fixed delays were found"], None
+    told = sentence.lines(history.network, found, f"{name} {_DOES[edges]}", passes, first) + _essential(history.network, found)
+    return told, found + [in_place(one, first, other) for one in found if first in one.early for other in passes]
+
+
+def in_place(comparison, first, other):
+    """A comparison with another variable in place of the one in which a pulse begins."""
+    at = comparison.early.index(first)
+    return comparison._replace(early=comparison.early[:at] + (other,) + comparison.early[at + 1:])
 
 
 def _essential(network, comparisons):
@@ -142,7 +149,7 @@ def origin(history, node):
 def _endless(searcher, node, moving):
     """The ends at rest that an unsettled node can have, and a cycle in which it goes on."""
     ends, network = searcher.endings(node), searcher.network
-    shown = [Shown(f"it can end at {bit}", ends[bit], [], _told_of_end(searcher, node, ends[bit], bit, moving)) for bit in sorted(ends)]
+    shown = [Shown(f"it can end at {bit}", ends[bit], [], *_told_of_end(searcher, node, ends[bit], bit, moving)) for bit in sorted(ends)]
     turning = searcher.turning(node)
     if turning is None:
         printed = searcher.text.runs[1]
@@ -151,14 +158,14 @@ def _endless(searcher, node, moving):
 
 
 def _told_of_end(searcher, node, steps, bit, moving):
-    """On which delays it depends that a node ends with a value."""
+    """On which delays it depends that a node ends with a value: lines, and comparisons."""
     history, what = History(searcher.follower, steps, moving), f"{searcher.network.names[node]} ends at {bit}"
     changes = len(history.fires.get(node, ()))
     try:
         found = conditions(history, node, [changes] if changes else [], for_ever=True)
     except TooMany:
-        return [f"{what} under conditions on too many paths to be told"]
-    return sentence.lines(searcher.network, found, what) if found is not None else []
+        return [f"{what} under conditions on too many paths to be told"], None
+    return (sentence.lines(searcher.network, found, what), found) if found is not None else ([], None)
 
 
 def _write_in_front(out, network, rows, node):
