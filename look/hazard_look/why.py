@@ -165,7 +165,9 @@ def _told_of_end(searcher, node, steps, bit, moving):
         found = conditions(history, node, [changes] if changes else [], for_ever=True)
     except TooMany:
         return [f"{what} under conditions on too many paths to be told"], None
-    return (sentence.lines(searcher.network, found, what), found) if found is not None else ([], None)
+    if found is None:
+        return [f"{what} after the steps below; no condition on fixed delays that is enough for it was found"], None
+    return sentence.lines(searcher.network, found, what), found
 
 
 def _write_in_front(out, network, rows, node):
