@@ -4,6 +4,7 @@ A function hazard is there in the function itself: between the old inputs and th
 value. A logic hazard is not, so gates can be without it. Both are told for nodes that don't depend on feedback, if few inputs change.
 """
 from .netlist import INVERTED
+from .sentence import MOST_NAMED
 
 # Of more inputs that change, or that a term is looked for among, nothing is said.
 MOST_INPUTS = 12
@@ -29,10 +30,10 @@ def told(circuit, change, row):
         return ["a function hazard: its function goes back and forth between the old inputs and the new ones, so no cover takes it away" if _goes_back(other, every, len(changed))
                 else "a logic hazard: its function changes once between the old inputs and the new ones"]
     term = _term(gates, start, changed, inputs, row.name, old)
-    held = " ".join(f"{name}={start[name]}" for name in term)
+    held = " ".join(f"{name}={start[name]}" for name in term[:MOST_NAMED]) + (f" and {len(term) - MOST_NAMED} more" if len(term) > MOST_NAMED else "")
     if not term:
         return ["a logic hazard: its function does not depend on these inputs"]
-    return [f"a logic hazard: a term that is {old} at {held} would cover it" + (f", as {_gate(term, start, old)}" if len(term) > 1 else "")]
+    return [f"a logic hazard: a term that is {old} at {held} would cover it" + (f", as {_gate(term, start, old)}" if 1 < len(term) <= MOST_NAMED else "")]
 
 
 def _cone(circuit, name):

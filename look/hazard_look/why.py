@@ -79,7 +79,7 @@ def change_of(words, report, circuit):
 
 def explained(network, change, row, edges):
     """A searcher for the runs of a change, and those that show the class of a node, `edges` being what the rule of one edge covers."""
-    searcher = Searcher(network, runtext.read(change.run_lines))
+    searcher = Searcher(network, change.run_lines)
     moving = {network.number[one.name] for one in change.rows.values() if one.a == "X"}
     return searcher, _shown(searcher, row, is_clean(row, edges), moving)
 
@@ -120,10 +120,10 @@ def in_place(comparison, first, other):
 
 def _essential(network, comparisons):
     """That a change of an input reaches a gate by its own way after it has come through the feedback, as Unger names it."""
-    loops = {network.number[name] for loop in network.netlist.loops() for name in loop}
+    turns = lambda path: any(not network.is_wire(gate) and any(gate in network.cone(pin) for pin in network.reads(gate)) for gate in path)
     for early, late in comparisons:
         starts = any(map(network.is_input, early + late))
-        if not starts and loops.intersection(early[:-1]) and not loops.intersection(late):
+        if not starts and turns(early[:-1]) and not turns(late):
             return ["an essential hazard: an input's own way is slower than its way through the feedback; delay in the feedback takes it away"]
     return []
 
@@ -152,7 +152,7 @@ def _endless(searcher, node, moving):
     shown = [Shown(f"it can end at {bit}", ends[bit], [], *_told_of_end(searcher, node, ends[bit], bit, moving)) for bit in sorted(ends)]
     turning = searcher.turning(node)
     if turning is None:
-        printed = searcher.text.runs[1]
+        printed = runtext.read(searcher.lines).runs[1]
         turning = [[[network.number[name] for name in step] for step in steps] for steps in (printed.lead, printed.cycle)]
     return shown + [Shown("it can go on for ever", *turning, [])]
 
@@ -205,7 +205,8 @@ def _variables(searcher, node, steps):
     end; and the node."""
     follower, cone = searcher.follower, searcher.network.cone(node)
     for step in steps:
-        follower.move(step)
+        for variable in step:
+            follower.flip(variable)
     waiting = [variable for variable in sorted(cone) if follower.is_unstable(variable)]
     follower.undo(steps)
     moving = dict.fromkeys(variable for step in steps for variable in step if variable in cone)

@@ -10,7 +10,7 @@ import subprocess
 
 import circuits
 from hazard_look import netlist as netlists
-from hazard_look import one_edge, report, runtext, why
+from hazard_look import one_edge, why
 from hazard_look.history import History
 from hazard_look.moves import is_clean
 from hazard_look.network import Follower, Network
@@ -61,7 +61,7 @@ def _cases(hazard, files):
     circuit = netlists.read(open(files[0], encoding="utf-8").read())
     change = next(hazard.analyse(*files).changes)
     network = Network(circuit, is_sorted=True)
-    searcher = Searcher(network, runtext.read(change.run_lines))
+    searcher = Searcher(network, change.run_lines)
     moving = {network.number[row.name] for row in change.rows.values() if row.a == "X"}
     edges = one_edge.one_edge(circuit, change.rows)
     for row in [row for row in change.rows.values() if not is_clean(row, edges)][:3]:
