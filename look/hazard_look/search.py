@@ -83,12 +83,11 @@ class Searcher:
     def edges(self, node, count, moving):
         """A short run in which a node changes so often, or None if none is found. `moving` has the nodes that may move at all."""
         cone, goal = self.network.cone(node), Edges(node, count)
-        steps = self._built(node, count, cone) if count < 3 else None
-        for run in chain([steps] if steps else [], self._random_runs(cone), self.printed()):
-            if run is not steps:
-                run = play(self.follower, ([variable for variable in step if variable in cone] for step in run), goal)
-            if run is not None:
-                steps = [[variable] for step in run for variable in step]
+        built = self._built(node, count, cone) if count < 3 else None
+        printed = (play(self.follower, ([variable for variable in step if variable in cone] for step in run), goal) for run in self.printed())
+        for run in chain([built] if built else [], self._random_runs(cone), printed):
+            if run is not None and sum(node in step for step in run) >= count:
+                steps = _to_edge([[variable] for step in run for variable in step], node, count)
                 kept = list(sliced(self.follower, steps, node, moving))
                 steps = kept if is_run(self.follower, kept) else steps
                 return shorten(self.follower, steps, goal) if len(steps) < MOST_TRIED else steps
@@ -183,6 +182,12 @@ class Searcher:
         if begin is None or len(set(values[begin:])) < 2:
             return None
         return steps[:begin], steps[begin:]
+
+
+def _to_edge(steps, node, count):
+    """Single changes up to one of a node."""
+    places = [place for place, (variable,) in enumerate(steps) if variable == node]
+    return steps[:places[count - 1] + 1]
 
 
 def first_edge(follower, node, cone):

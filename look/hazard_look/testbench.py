@@ -9,7 +9,6 @@ from .circuit import load, no_node
 from .errors import DONE, WRONG_WORDS, Failure
 from .netlist import INVERTED
 from .network import Network
-from .one_edge import one_edge
 from .script import must_be_written_out
 
 # The delays before they are made to fit, and how often they are changed until they do.
@@ -24,11 +23,11 @@ def run(words, out):
     circuit = load(words.netlist)
     if words.node not in circuit.known:
         raise Failure(no_node(circuit, words.node), WRONG_WORDS)
-    change = why.change_of(words, report, circuit)
+    change, edges = why.change_of(words, report, circuit)
     row = change.rows[words.node]
     if row.kind == "steady":
         raise Failure(f"{row.name} is steady in change {change.title()}, so no delays move it", WRONG_WORDS)
-    searcher, shown = why.explained(Network(circuit, is_sorted=True), change, row, one_edge(circuit, change.rows))
+    searcher, shown = why.explained(Network(circuit, is_sorted=True), change, row, edges)
     if shown[0].comparisons is None:
         raise Failure(f"no fixed delays are known with which {row.name} shows what `why` shows", WRONG_WORDS)
     network = searcher.network

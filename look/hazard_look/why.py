@@ -38,9 +38,8 @@ def run(words, out):
     circuit = load(words.netlist)
     if words.node not in circuit.nodes:
         raise Failure(no_node(circuit, words.node), WRONG_WORDS)
-    change = change_of(words, report, circuit)
+    change, edges = change_of(words, report, circuit)
     row = change.rows[words.node]
-    edges = one_edge(circuit, change.rows)
     out.write(f"{row.name} in change {change.title()}: {kind_of(row)}, {meaning(row, row.name in edges)}\n")
     if row.kind == "steady":
         return DONE
@@ -60,21 +59,25 @@ def run(words, out):
 
 
 def change_of(words, report, circuit):
-    """The change that is asked for; or else the first in which the node has no clean edge, or else the first with an edge."""
-    edge = None
+    """The change that is asked for; or else the first in which the node has no clean edge, or else the first with an edge. With it the
+    nodes that the rule of one edge covers there."""
+    found = None
     for change in report.changes:
         if change.stopped:
             if words.change == change.number:
                 raise Failure(f"change {change.number} is not analysed: {change.stopped} did not settle before", WRONG_WORDS)
             continue
         row = change.rows[words.node]
-        if change.number == words.change or words.change is None and not is_clean(row, one_edge(circuit, change.rows)):
-            return change
-        if edge is None or edge.rows[words.node].kind == "steady":
-            edge = change
-    if words.change is not None or edge is None:
+        is_clean_alone = row.kind in ("steady", "single")
+        if words.change == change.number or words.change is None and not is_clean_alone:
+            edges = one_edge(circuit, change.rows)
+            if words.change is not None or not is_clean(row, edges):
+                return change, edges
+        if found is None or found.rows[words.node].kind == "steady":
+            found = change
+    if words.change is not None or found is None:
         raise Failure(NO_CHANGE if words.change is None else f"{NO_CHANGE} {words.change}", WRONG_WORDS)
-    return edge
+    return found, one_edge(circuit, found.rows)
 
 
 def explained(network, change, row, edges):
