@@ -3,7 +3,7 @@
 _hazard_look() {
   local word=${COMP_WORDS[COMP_CWORD]} job=${COMP_WORDS[1]} at place=0 ends=()
   if ((COMP_CWORD == 1)); then
-    COMPREPLY=($(compgen -W 'start summary expect why page clock from-yosys from-verilog --help' -- "$word"))
+    COMPREPLY=($(compgen -W 'start summary expect why testbench page clock from-yosys from-verilog --help' -- "$word"))
     return
   fi
   case ${COMP_WORDS[COMP_CWORD - 1]} in

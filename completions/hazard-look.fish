@@ -3,6 +3,7 @@ complete -c hazard-look -n '__fish_is_first_token' -f -a start -d 'the first lin
 complete -c hazard-look -n '__fish_is_first_token' -f -a summary -d 'a line for each change, and what each hazard means'
 complete -c hazard-look -n '__fish_is_first_token' -f -a expect -d 'check the comments #expect of a script'
 complete -c hazard-look -n '__fish_is_first_token' -f -a why -d 'a short run in which a node makes its hazard'
+complete -c hazard-look -n '__fish_is_first_token' -f -a testbench -d 'Verilog with delays under which a node makes its hazard'
 complete -c hazard-look -n '__fish_is_first_token' -f -a page -d 'a page for a browser with the circuit and its runs'
 complete -c hazard-look -n '__fish_is_first_token' -f -a clock -d 'a script with its clock edges written out'
 complete -c hazard-look -n '__fish_is_first_token' -f -a from-yosys -d 'a netlist from what write_json of Yosys gives'
@@ -13,7 +14,7 @@ complete -c hazard-look -n 'test (count (commandline -opc)) -eq 2; and not __fis
 complete -c hazard-look -n 'test (count (commandline -opc)) -eq 2; and __fish_seen_subcommand_from from-yosys' -k -a '(__fish_complete_suffix .json)' -d design
 complete -c hazard-look -n '__fish_seen_subcommand_from from-verilog' -k -a '(__fish_complete_suffix .v)' -d source
 complete -c hazard-look -s h -l help -d 'say how it is called'
-complete -c hazard-look -n '__fish_seen_subcommand_from start summary expect why page clock' -l hazard -r -F -d 'the program to ask'
+complete -c hazard-look -n '__fish_seen_subcommand_from start summary expect why testbench page clock' -l hazard -r -F -d 'the program to ask'
 complete -c hazard-look -n '__fish_seen_subcommand_from summary' -l only -x -d 'speak of these nodes alone'
 complete -c hazard-look -n '__fish_seen_subcommand_from summary' -l all -d 'speak of the clean nodes as well'
 complete -c hazard-look -n '__fish_seen_subcommand_from summary' -l outputs -d 'speak of the outputs alone'

@@ -175,12 +175,11 @@ class _Bench:
         """A value that A excludes is never there, which is proved. Otherwise a state with the values is looked for."""
         if any(self.change.rows[name].a == str(1 - bit) for name, bit in what.values.items()):
             return Answer(True, "")
-        text = runtext.read(self.change.run_lines)
-        searcher = Searcher(self.network, text)
+        searcher = Searcher(self.network, self.change.run_lines)
         cone = set().union(*(self.network.cone(self.network.number[name]) for name in what.values))
         found = searcher.find(Values(self.network, what.values), cone)
         if found is None:
             return Answer(True, "not shown, which is no proof")
         lead = searcher.named(found)
-        self.words.program.must_accept(self.words.netlist, text.of([runtext.Run(lead, None)]))
+        self.words.program.must_accept(self.words.netlist, searcher.text.of([runtext.Run(lead, None)]))
         return Answer(False, "shown by the steps " + ", ".join(map(" ".join, lead)) if lead else "it is so before the change")

@@ -20,7 +20,8 @@ class History:
 
     def phase(self, variable, place):
         """The phase in which a variable is before a place of the run."""
-        return bisect_left(self.fires.get(variable, ()), place)
+        told = self.fires.get(variable)
+        return bisect_left(told, place) if told else 0
 
     def value(self, variable, phase):
         return self.start[variable] ^ (phase & 1)
@@ -42,6 +43,10 @@ class History:
     def cube(self, variable, place, bit):
         """The cube that lasts longest of those that ask for a value before a place; None if there is none. It does not depend on the
         order of the pins."""
+        if self.network.is_wire(variable):
+            source = self.network.source[variable]
+            phase = self.phase(source, place)
+            return [(source, phase)] if self.value(source, phase) == bit else None
         pins = self.pins(variable, place)
         if not self.is_held(variable, pins, bit):
             return None

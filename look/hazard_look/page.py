@@ -7,7 +7,7 @@ import os
 import shutil
 import subprocess
 
-from . import expect, runtext, script, why
+from . import cover, expect, runtext, script, why
 from .circuit import load
 from .errors import DONE, read_file
 from .moves import is_clean, kind_of
@@ -137,6 +137,7 @@ class _Changes:
         searcher, shown = why.explained(self.sorted, change, row, edges)
         named = [runtext.Run(searcher.named(one.lead), None if one.cycle is None else searcher.named(one.cycle)) for one in shown]
         self.words.program.must_accept(self.words.netlist, searcher.text.of(named))
+        shown[0].told[:0] = cover.told(self.circuit, change, row)
         return [{"node": self.network.number[row.name], "title": one.title, "told": one.told,
                  "steps": [[self.network.number[name] for name in step] for step in run.lead + (run.cycle or [])],
                  "cycle": len(run.lead) if run.cycle else None} for one, run in zip(shown, named)]

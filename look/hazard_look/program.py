@@ -16,6 +16,7 @@ VARIABLE = "HAZARD"
 HINTS = (
     (r"netlist line \d+: construct", "flip-flops, latches and cells come by way of Yosys, `read_blif -sop`, and `hazard-look from-yosys`"),
     (r"netlist line \d+: constant", "let it be an input, which the script never changes; `hazard-look from-yosys` does so"),
+    (r"netlist line \d+: unknown kind", "the kinds are AND, NAND, OR, NOR, XOR, XNOR, NOT, BUFF and DFF; any other cell is written as gates"),
     (r"netlist line \d+: undefined name", "nothing drives it; an input has a line `INPUT(NAME)`, or stands behind `.inputs`"),
     (r"script line \d+: unknown name", "a start assigns nodes of the netlist, a change inputs and flip-flops alone"),
     (r"script line 0: order", "no line is a statement; a script begins with a line `start`, which `hazard-look start` writes"),

@@ -5,6 +5,8 @@ from .lines import assignments
 
 # What reading a text that is no report raises.
 STRANGE = (IndexError, KeyError, RuntimeError, StopIteration, ValueError)
+# So many inputs are named in the title of a change.
+MOST_TITLED = 16
 CLASSES = ("steady", "single", "static", "maybe-dynamic", "change", "unsettled")
 
 
@@ -29,9 +31,12 @@ class Change(NamedTuple):
     stopped: Optional[str]
 
     def title(self):
-        """The number and the inputs that change, as in `3 ck=0`; all that are assigned if none does or if that isn't known."""
+        """The number and the inputs that change, as in `3 ck=0`; all that are assigned if none does or if that isn't known. Of many the
+        first."""
         changed = {name: bit for name, bit in self.assigned.items() if self.rows and self.rows[name].start != str(bit)}
-        return f"{self.number}" + "".join(f" {name}={bit}" for name, bit in (changed or self.assigned).items())
+        words = [f" {name}={bit}" for name, bit in (changed or self.assigned).items()]
+        more = f" and {len(words) - MOST_TITLED} more" if len(words) > MOST_TITLED else ""
+        return f"{self.number}" + "".join(words[:MOST_TITLED]) + more
 
 
 class Report(NamedTuple):

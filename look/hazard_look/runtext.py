@@ -37,7 +37,7 @@ class RunText(NamedTuple):
 
 def read(lines):
     """The run text of a report's lines, from `runs` to `end`."""
-    at = next(number for number, line in enumerate(lines) if line.startswith("start"))
+    at, text = _head(lines)
     runs = []
     for line in lines[at + 2:-1]:
         word, *step = line.split()
@@ -47,4 +47,15 @@ def read(lines):
             runs[-1] = runs[-1]._replace(cycle=[])
         else:
             (runs[-1].lead if runs[-1].cycle is None else runs[-1].cycle).append(step)
-    return RunText(lines[:at], assignments(lines[at].split()[1:]), assignments(lines[at + 1].split()[1:]), runs)
+    return text.of(runs)
+
+
+def head(lines):
+    """The same without its runs, which may be long."""
+    return _head(lines)[1]
+
+
+def _head(lines):
+    """The place of the start, and the run text without runs."""
+    at = next(number for number, line in enumerate(lines) if line.startswith("start"))
+    return at, RunText(lines[:at], assignments(lines[at].split()[1:]), assignments(lines[at + 1].split()[1:]), [])

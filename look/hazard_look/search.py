@@ -4,10 +4,11 @@ A run is here a list of steps, each a list of variable numbers. What is found is
 """
 import heapq
 import random
-from collections import Counter, deque
+from collections import deque
 from itertools import chain
 from typing import NamedTuple
 
+from . import runtext
 from .history import History
 from .network import Follower
 
@@ -56,15 +57,15 @@ class Ending(NamedTuple):
 
 
 class Searcher:
-    """Looks for runs of a change, which is given by the run text of its report."""
+    """Looks for runs of a change, which is given by the lines of the run text in its report."""
 
-    def __init__(self, network, text):
-        self.network, self.text = network, text
-        self.follower = Follower(network, text.start, text.target)
+    def __init__(self, network, lines):
+        self.network, self.lines, self.text = network, lines, runtext.head(lines)
+        self.follower = Follower(network, self.text.start, self.text.target)
 
     def printed(self):
         """The runs of the report, each with its cycle."""
-        for run in self.text.runs:
+        for run in runtext.read(self.lines).runs:
             yield [[self.network.number[name] for name in step] for step in run.lead + (run.cycle or [])]
 
     def named(self, steps):
@@ -82,13 +83,13 @@ class Searcher:
     def edges(self, node, count, moving):
         """A short run in which a node changes so often, or None if none is found. `moving` has the nodes that may move at all."""
         cone, goal = self.network.cone(node), Edges(node, count)
-        found = self._built(node, count, cone) if count < 3 else None
-        for steps in [found] if found else chain(self._random_runs(cone), self.printed()):
-            steps = play(self.follower, ([variable for variable in step if variable in cone] for step in steps), goal)
-            if steps is not None:
-                steps = [[variable] for step in steps for variable in step]
-                kept = play(self.follower, sliced(self.follower, steps, node, moving), goal)
-                steps = kept if kept is not None else steps
+        built = self._built(node, count, cone) if count < 3 else None
+        printed = (play(self.follower, ([variable for variable in step if variable in cone] for step in run), goal) for run in self.printed())
+        for run in chain([built] if built else [], self._random_runs(cone), printed):
+            if run is not None and sum(node in step for step in run) >= count:
+                steps = _to_edge([[variable] for step in run for variable in step], node, count)
+                kept = list(sliced(self.follower, steps, node, moving))
+                steps = kept if is_run(self.follower, kept) else steps
                 return shorten(self.follower, steps, goal) if len(steps) < MOST_TRIED else steps
         return None
 
@@ -98,8 +99,8 @@ class Searcher:
         steps = first_edge(self.follower, node, cone)
         if steps is None:
             return None
-        for step in steps:
-            self.follower.move(step)
+        for (variable,) in steps:
+            self.follower.flip(variable)
         made, left = (sum(node in step for step in steps)), 4 * len(cone) + 100
         waiting = deque(variable for variable in sorted(cone) if self.follower.is_unstable(variable)) if made < count else ()
         while waiting and made < count and left:
@@ -183,6 +184,12 @@ class Searcher:
         return steps[:begin], steps[begin:]
 
 
+def _to_edge(steps, node, count):
+    """Single changes up to one of a node."""
+    places = [place for place, (variable,) in enumerate(steps) if variable == node]
+    return steps[:places[count - 1] + 1]
+
+
 def first_edge(follower, node, cone):
     """A run in which a node changes once, and no other variable more often; None if the node can't move. Each gate waits until enough
     of its wires have changed, which go to it alone, and none of the others has."""
@@ -227,19 +234,30 @@ def _asking(follower, gate, wire, moved):
 def sliced(follower, steps, node, moving):
     """The changes of a run, one after the other, without those that no change of a node needs."""
     history = History(follower, steps, moving)
-    waiting = [(node, len(history.fires.get(node, ())))]
-    kept = {}
+    fires, value, inputs = history.fires, history.value, follower.network.inputs
+    waiting, kept, made = [(node, len(fires.get(node, ())))], {}, {}
     while waiting:
         variable, changes = waiting.pop()
-        for change in range(kept.get(variable, 0) + 1, changes + 1):
-            if not follower.network.is_input(variable):
-                waiting += [one for one in history.cube(variable, history.fired(variable, change), history.value(variable, change)) if one[1]]
-        kept[variable] = max(kept.get(variable, 0), changes)
-    made = Counter()
-    for (variable,) in steps:
-        made[variable] += 1
+        before = kept.get(variable, 0)
+        if changes > before:
+            kept[variable] = changes
+            for change in range(before + 1, changes + 1) if variable >= inputs else ():
+                waiting += [one for one in history.cube(variable, fires[variable][change - 1], value(variable, change)) if one[1]]
+    for step in steps:
+        variable, = step
+        made[variable] = made.get(variable, 0) + 1
         if made[variable] <= kept.get(variable, 0):
-            yield [variable]
+            yield step
+
+
+def is_run(follower, steps):
+    """Whether each of some single changes is one of an unstable variable; the follower is where it was."""
+    made = 0
+    while made < len(steps) and follower.is_unstable(steps[made][0]):
+        follower.flip(steps[made][0])
+        made += 1
+    follower.undo(steps[:made])
+    return made == len(steps)
 
 
 def play(follower, steps, goal):

@@ -1,7 +1,7 @@
 """The job `why`: a short run in which a node makes its hazard, as a waveform, with the paths that race."""
 from typing import List, NamedTuple, Optional
 
-from . import runtext, sentence
+from . import cover, runtext, sentence
 from .conditions import TooMany, conditions
 from .circuit import load, no_node
 from .errors import DONE, OUTPUT_FAILED, WRONG_WORDS, Failure
@@ -21,13 +21,14 @@ MOST_STEPS = 200
 
 
 class Shown(NamedTuple):
-    """A run that is to be shown: what it shows, its steps up to its cycle, those of the cycle, or None, and the lines on the delays that
-    make it happen."""
+    """A run that is to be shown: what it shows, its steps up to its cycle, those of the cycle, or None; the lines on the delays that make
+    it happen, and these as comparisons, or None if there are none to tell."""
 
     title: str
     lead: List[list]
     cycle: Optional[List[list]]
     told: List[str]
+    comparisons: Optional[list] = None
 
 
 def run(words, out):
@@ -37,12 +38,13 @@ def run(words, out):
     circuit = load(words.netlist)
     if words.node not in circuit.nodes:
         raise Failure(no_node(circuit, words.node), WRONG_WORDS)
-    change = _change(words, report, circuit)
+    change, edges = change_of(words, report, circuit)
     row = change.rows[words.node]
-    edges = one_edge(circuit, change.rows)
     out.write(f"{row.name} in change {change.title()}: {kind_of(row)}, {meaning(row, row.name in edges)}\n")
     if row.kind == "steady":
         return DONE
+    for line in cover.told(circuit, change, row):
+        out.write(f"  {line}\n")
     searcher, shown = explained(Network(circuit, is_sorted=True), change, row, edges)
     text = searcher.text.of([Run(searcher.named(one.lead), _named_cycle(searcher, one)) for one in shown])
     words.program.must_accept(words.netlist, text)
@@ -56,27 +58,31 @@ def run(words, out):
     return DONE
 
 
-def _change(words, report, circuit):
-    """The change that is asked for; or else the first in which the node has no clean edge, or else the first with an edge."""
-    edge = None
+def change_of(words, report, circuit):
+    """The change that is asked for; or else the first in which the node has no clean edge, or else the first with an edge. With it the
+    nodes that the rule of one edge covers there."""
+    found = None
     for change in report.changes:
         if change.stopped:
             if words.change == change.number:
                 raise Failure(f"change {change.number} is not analysed: {change.stopped} did not settle before", WRONG_WORDS)
             continue
         row = change.rows[words.node]
-        if change.number == words.change or words.change is None and not is_clean(row, one_edge(circuit, change.rows)):
-            return change
-        if edge is None or edge.rows[words.node].kind == "steady":
-            edge = change
-    if words.change is not None or edge is None:
+        is_clean_alone = row.kind in ("steady", "single")
+        if words.change == change.number or words.change is None and not is_clean_alone:
+            edges = one_edge(circuit, change.rows)
+            if words.change is not None or not is_clean(row, edges):
+                return change, edges
+        if found is None or found.rows[words.node].kind == "steady":
+            found = change
+    if words.change is not None or found is None:
         raise Failure(NO_CHANGE if words.change is None else f"{NO_CHANGE} {words.change}", WRONG_WORDS)
-    return edge
+    return found, one_edge(circuit, found.rows)
 
 
 def explained(network, change, row, edges):
     """A searcher for the runs of a change, and those that show the class of a node, `edges` being what the rule of one edge covers."""
-    searcher = Searcher(network, runtext.read(change.run_lines))
+    searcher = Searcher(network, change.run_lines)
     moving = {network.number[one.name] for one in change.rows.values() if one.a == "X"}
     return searcher, _shown(searcher, row, is_clean(row, edges), moving)
 
@@ -87,26 +93,42 @@ def _shown(searcher, row, is_clean_edge, moving):
     if row.kind == "unsettled":
         return _endless(searcher, node, moving)
     wanted, title = (2, "a pulse") if row.kind == "static" else (1, "its edge") if is_clean_edge else (3, "more than one edge")
-    found, told = searcher.edges(node, wanted, moving), []
+    found, told, compared = searcher.edges(node, wanted, moving), [], [] if wanted == 1 else None
     if found is None:
         title = "one edge; no run with more edges was found, which is no proof that there is none"
         found = searcher.edges(node, 1, moving)
     elif wanted > 1:
-        told = _told(History(searcher.follower, found, moving), node, row.name, wanted)
-    return [Shown(title, found, None, told)]
+        told, compared = _told(History(searcher.follower, found, moving), node, row.name, wanted)
+    return [Shown(title, found, None, told, compared)]
 
 
 def _told(history, node, name, edges):
-    """On which delays the edges of a run depend. The last edge comes by itself, as the end is decided."""
-    network = history.network
+    """On which delays the edges of a run depend: lines, and comparisons. The last edge comes by itself, as the end is decided."""
     first, passes = origin(history, node) if edges == 2 else (node, ())
     try:
         found = conditions(history, first, list(range(1, edges)))
     except TooMany:
-        return [f"{name} {_DOES[edges]} under conditions on too many paths to be told"]
+        return [f"{name} {_DOES[edges]} under conditions on too many paths to be told"], None
     if found is None:
-        return [f"{name} {_DOES[edges]} if delays are other ones for other edges; no fixed delays were found"]
-    return sentence.lines(network, found, f"{name} {_DOES[edges]}", passes, first)
+        return [f"{name} {_DOES[edges]} if delays are other ones for other edges; no fixed delays were found"], None
+    told = sentence.lines(history.network, found, f"{name} {_DOES[edges]}", passes, first) + _essential(history.network, found)
+    return told, found + [in_place(one, first, other) for one in found if first in one.early for other in passes]
+
+
+def in_place(comparison, first, other):
+    """A comparison with another variable in place of the one in which a pulse begins."""
+    at = comparison.early.index(first)
+    return comparison._replace(early=comparison.early[:at] + (other,) + comparison.early[at + 1:])
+
+
+def _essential(network, comparisons):
+    """That a change of an input reaches a gate by its own way after it has come through the feedback, as Unger names it."""
+    turns = lambda path: any(not network.is_wire(gate) and any(gate in network.cone(pin) for pin in network.reads(gate)) for gate in path)
+    for early, late in comparisons:
+        starts = any(map(network.is_input, early + late))
+        if not starts and turns(early[:-1]) and not turns(late):
+            return ["an essential hazard: an input's own way is slower than its way through the feedback; delay in the feedback takes it away"]
+    return []
 
 
 _DOES = {2: "pulses", 3: "makes more than one edge"}
@@ -130,23 +152,25 @@ def origin(history, node):
 def _endless(searcher, node, moving):
     """The ends at rest that an unsettled node can have, and a cycle in which it goes on."""
     ends, network = searcher.endings(node), searcher.network
-    shown = [Shown(f"it can end at {bit}", ends[bit], [], _told_of_end(searcher, node, ends[bit], bit, moving)) for bit in sorted(ends)]
+    shown = [Shown(f"it can end at {bit}", ends[bit], [], *_told_of_end(searcher, node, ends[bit], bit, moving)) for bit in sorted(ends)]
     turning = searcher.turning(node)
     if turning is None:
-        printed = searcher.text.runs[1]
+        printed = runtext.read(searcher.lines).runs[1]
         turning = [[[network.number[name] for name in step] for step in steps] for steps in (printed.lead, printed.cycle)]
     return shown + [Shown("it can go on for ever", *turning, [])]
 
 
 def _told_of_end(searcher, node, steps, bit, moving):
-    """On which delays it depends that a node ends with a value."""
+    """On which delays it depends that a node ends with a value: lines, and comparisons."""
     history, what = History(searcher.follower, steps, moving), f"{searcher.network.names[node]} ends at {bit}"
     changes = len(history.fires.get(node, ()))
     try:
         found = conditions(history, node, [changes] if changes else [], for_ever=True)
     except TooMany:
-        return [f"{what} under conditions on too many paths to be told"]
-    return sentence.lines(searcher.network, found, what) if found is not None else []
+        return [f"{what} under conditions on too many paths to be told"], None
+    if found is None:
+        return [f"{what} after the steps below; no condition on fixed delays that is enough for it was found"], None
+    return sentence.lines(searcher.network, found, what), found
 
 
 def _write_in_front(out, network, rows, node):
@@ -184,7 +208,8 @@ def _variables(searcher, node, steps):
     end; and the node."""
     follower, cone = searcher.follower, searcher.network.cone(node)
     for step in steps:
-        follower.move(step)
+        for variable in step:
+            follower.flip(variable)
     waiting = [variable for variable in sorted(cone) if follower.is_unstable(variable)]
     follower.undo(steps)
     moving = dict.fromkeys(variable for step in steps for variable in step if variable in cone)

@@ -1,10 +1,11 @@
 """The words of the command line: the jobs, their options, and their help."""
 import argparse
 import os
+import re
 import sys
 import traceback
 
-from . import clock, expect, from_verilog, from_yosys, page, program, start, summary, terminal, why
+from . import clock, expect, from_verilog, from_yosys, page, program, start, summary, terminal, testbench, why
 from .errors import INTERRUPTED, OUTPUT_FAILED, OWN_FAULT, WRONG_WORDS, Failure, must_be_plain, say
 
 ABOUT = """The companion of `hazard`: it shows what a circuit does, asks why, and keeps it as a test. Each value and class
@@ -45,9 +46,11 @@ def _answered(words, home):
         asked = parser().parse_args(words)
         if "hazard" in asked:
             asked.program = program.find(asked.hazard, home)
-            must_be_plain(asked.netlist)
-        if "script" in asked:
-            must_be_plain(asked.script)
+        for name in {"netlist", "script"}.intersection(vars(asked)):
+            path = getattr(asked, name)
+            must_be_plain(path)
+            # `hazard` takes a word with this beginning for an option
+            setattr(asked, name, os.path.join(os.curdir, path) if path.startswith("-") else path)
         status = asked.job(asked, terminal.painted(sys.stdout))
     except SystemExit as end:
         # The parser has written a help or what is wrong with the words.
@@ -81,9 +84,9 @@ def parser():
     job = _job(jobs, "expect", expect.run, "check the comments `#expect ..` of a script")
     job.add_argument("--json", action="store_true", help="write it as JSON")
     job = _job(jobs, "why", why.run, "a short run in which a node makes its hazard")
-    job.add_argument("node", metavar="NODE", help="an input, a flip-flop or a gate")
-    job.add_argument("change", metavar="CHANGE", nargs="?", type=int, help="its number; else the first that matters to the node")
+    _node(job)
     job.add_argument("--save", metavar="FILE", help="keep the run as a run text for `hazard replay`")
+    _node(_job(jobs, "testbench", testbench.run, "Verilog with delays under which a node makes its hazard"))
     _job(jobs, "page", page.run, "one self-contained page: the circuit, its hazards, a player of the runs")
     _job(jobs, "clock", clock.run, "a script whose lines `#clock ck` are written out as changes")
     job = _plain_job(jobs, "from-yosys", from_yosys.run, "a netlist from what yosys' `write_json` gives after `synth`")
@@ -94,6 +97,19 @@ def parser():
     job.add_argument("--gates", action="store_true", help="keep each gate of the source: no `synth`")
     _design(job)
     return top
+
+
+def _node(job):
+    """The words of a job that speaks of a node in a change."""
+    job.add_argument("node", metavar="NODE", help="an input, a flip-flop or a gate")
+    job.add_argument("change", metavar="CHANGE", nargs="?", type=_number, help="its number; else the first that matters to the node")
+
+
+def _number(word):
+    """A number in digits of ASCII, which has a sign at most."""
+    if not re.fullmatch("-?[0-9]{1,9}", word):
+        raise argparse.ArgumentTypeError(f"{word} is no number")
+    return int(word)
 
 
 def _design(job):

@@ -1,12 +1,15 @@
 """What a long script costs, what a terminal is told, and netlists from Verilog in one command."""
 import os
 import pty
+import resource
 import shutil
 import subprocess
 import time
 
 CHANGES = 10_000
 SECONDS = 10
+# So much of a processor, in turns of a loop of Python, of which it does some twenty millions in a second if it has nothing else to do.
+TURNS, MOST_TURNS = 10_000_000, 100_000_000
 # a flip-flop whose gates stand on some lines of a source text, in a file of this name
 VERILOG = "module top(input s, x, y, ck, output z, output reg q);\n  wire n = ~s;\n  assign z = (s & x)\n           | (n & y);\n  always @(posedge ck) q <= z;\nendmodule\n"
 
@@ -26,6 +29,19 @@ def costs(folder, run, write, program):
         with open(os.path.join(folder, "calls"), encoding="ascii") as file:
             called = file.read().count("call")
         yield f"{job} of {CHANGES} changes", (status, called <= calls, time.monotonic() - begun < SECONDS), (0, True, True)
+
+
+def of_why(folder, run, write):
+    """Rows of name, found, wanted: `why` on a pulse that goes through 60,000 gates takes some seconds of a processor, as this one counts them."""
+    gates = "".join(f"g{at} = {'NOT' if at % 2 else 'BUFF'}({f'g{at - 1}' if at else 'h'})\n" for at in range(60_000))
+    write(folder, "w.bench", "INPUT(a)\nn = NOT(a)\nh = AND(a, n)\n" + gates)
+    write(folder, "w.txt", "start a=0\nchange a=1\n")
+    begun, before = time.process_time(), resource.getrusage(resource.RUSAGE_CHILDREN).ru_utime
+    sum(at & 1 for at in range(TURNS))
+    turn = (time.process_time() - begun) / TURNS
+    status, text, _ = run(["why", "w.bench", "w.txt", "g59999"], folder)
+    taken = resource.getrusage(resource.RUSAGE_CHILDREN).ru_utime - before
+    yield "why of 60,000 gates", (status, "g59999 pulses if n(1), n, h(2) are slower than h(1), h" in text, taken < MOST_TURNS * turn), (0, True, True)
 
 
 def terminals(folder, command, run, write):

@@ -10,8 +10,7 @@ import subprocess
 
 import circuits
 from hazard_look import netlist as netlists
-from hazard_look import one_edge, report, runtext, why
-from hazard_look.conditions import TooMany, conditions
+from hazard_look import one_edge, why
 from hazard_look.history import History
 from hazard_look.moves import is_clean
 from hazard_look.network import Follower, Network
@@ -62,7 +61,7 @@ def _cases(hazard, files):
     circuit = netlists.read(open(files[0], encoding="utf-8").read())
     change = next(hazard.analyse(*files).changes)
     network = Network(circuit, is_sorted=True)
-    searcher = Searcher(network, runtext.read(change.run_lines))
+    searcher = Searcher(network, change.run_lines)
     moving = {network.number[row.name] for row in change.rows.values() if row.a == "X"}
     edges = one_edge.one_edge(circuit, change.rows)
     for row in [row for row in change.rows.values() if not is_clean(row, edges)][:3]:
@@ -79,24 +78,9 @@ def _cases(hazard, files):
 
 def _case(searcher, node, what, steps, moving, edges, holds):
     history = History(searcher.follower, steps, moving)
-    try:
-        if edges == 0:
-            changes = len(history.fires.get(node, ()))
-            found = conditions(history, node, [changes] if changes else [], for_ever=True)
-        else:
-            first, passes = why.origin(history, node) if edges == 2 else (node, ())
-            found = conditions(history, first, list(range(1, edges)))
-            found = found and found + [_in_place(one, first, other) for one in found if first in one.early for other in passes]
-    except TooMany:
-        return
+    _, found = why._told(history, node, "", edges) if edges else why._told_of_end(searcher, node, steps, int(what[-1]), moving)
     if found is not None:
         yield Case(searcher, node, what, found, holds)
-
-
-def _in_place(one, first, other):
-    """A comparison with another variable in place of the one in which a pulse begins."""
-    at = one.early.index(first)
-    return one._replace(early=one.early[:at] + (other,) + one.early[at + 1:])
 
 
 def _assignments(case, chance, wanted):
