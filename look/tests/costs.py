@@ -24,11 +24,17 @@ def costs(folder, run, write, program):
     write(folder, "f.txt", "start ck=0 q=0\n" + "".join(f"#clock ck={(at + 1) % 2} #expect z clean\n" for at in range(CHANGES // 2)))
     for job, files, calls in (("expect", ["i.bench", "i.txt"], 1), ("page", ["i.bench", "i.txt"], 1), ("summary", ["i.bench", "i.txt"], 1), ("clock", ["f.bench", "f.txt"], 2)):
         write(folder, "calls", "")
-        begun = time.monotonic()
+        before = resource.getrusage(resource.RUSAGE_CHILDREN)
         status = run([job, "--hazard", counting] + files, folder)[0]
         with open(os.path.join(folder, "calls"), encoding="ascii") as file:
             called = file.read().count("call")
-        yield f"{job} of {CHANGES} changes", (status, called <= calls, time.monotonic() - begun < SECONDS), (0, True, True)
+        yield f"{job} of {CHANGES} changes", (status, called <= calls, _taken(before) < SECONDS), (0, True, True)
+
+
+def _taken(before):
+    """The seconds of a processor that the children have taken since then. Those of a clock say more of what else goes on."""
+    now = resource.getrusage(resource.RUSAGE_CHILDREN)
+    return now.ru_utime + now.ru_stime - before.ru_utime - before.ru_stime
 
 
 def of_why(folder, run, write):
