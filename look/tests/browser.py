@@ -76,7 +76,9 @@ def _small(opened, call, example):
     yield "errors of the page", errors, []
     yield "boxes and waves", (first["boxes"], first["traces"], first["changes"]), (7, 10, 1)
     yield "it opens at the glitch", (first["chosen"], first["step"], first["now"], first["edges"]), ("z", "step 5 of 11", "now: z | unstable: n(1)", "z: 2 edges")
-    yield "why", (first["why"], first["which"]), ("a pulsez pulses if n(1), n, b(1), b, z(2) are slower than a(1), a, z(1), z: 2 gates and 3 wires against 2 gates and 2 wires",
+    yield "why", (first["why"], first["which"]), ("a pulse"
+                                                  "a logic hazard: a term that is 1 at x=1 y=1 would cover it, as AND(x, y)\n"
+                                                  "z pulses if n(1), n, b(1), b, z(2) are slower than a(1), a, z(1), z: 2 gates and 3 wires against 2 gates and 2 wires",
                                                   "why z: a pulse, 11 steps")
     yield "the next edge and the one before", [told[name]["step"] for name in ("next", "before", "button")], ["step 11 of 11", "step 5 of 11", "step 5 of 11"]
     yield "to the end and back", [told[name]["step"] for name in ("last", "back", "home", "end")], [f"step {at} of 11" for at in (11, 10, 0, 11)]

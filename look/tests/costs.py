@@ -1,21 +1,16 @@
 """What a long script costs, what a terminal is told, and netlists from Verilog in one command."""
 import os
 import pty
-import resource
 import shutil
 import subprocess
-import time
 
 CHANGES = 10_000
-SECONDS = 10
-# So much of a processor, in turns of a loop of Python, of which it does some twenty millions in a second if it has nothing else to do.
-TURNS, MOST_TURNS = 10_000_000, 100_000_000
 # a flip-flop whose gates stand on some lines of a source text, in a file of this name
 VERILOG = "module top(input s, x, y, ck, output z, output reg q);\n  wire n = ~s;\n  assign z = (s & x)\n           | (n & y);\n  always @(posedge ck) q <= z;\nendmodule\n"
 
 
 def costs(folder, run, write, program):
-    """Rows of name, found, wanted: jobs on 10,000 changes call `hazard` once or twice, and are done in some seconds."""
+    """Rows of name, found, wanted: jobs on 10,000 changes call `hazard` once or twice."""
     counting = write(folder, "counting", f'#!/bin/sh\necho call >> "{folder}/calls"\nexec "{program}" "$@"\n')
     os.chmod(counting, 0o755)
     write(folder, "i.bench", "INPUT(a)\nz = NOT(a)\n")
@@ -24,33 +19,22 @@ def costs(folder, run, write, program):
     write(folder, "f.txt", "start ck=0 q=0\n" + "".join(f"#clock ck={(at + 1) % 2} #expect z clean\n" for at in range(CHANGES // 2)))
     for job, files, calls in (("expect", ["i.bench", "i.txt"], 1), ("page", ["i.bench", "i.txt"], 1), ("summary", ["i.bench", "i.txt"], 1), ("clock", ["f.bench", "f.txt"], 2)):
         write(folder, "calls", "")
-        before = resource.getrusage(resource.RUSAGE_CHILDREN)
         status = run([job, "--hazard", counting] + files, folder)[0]
         with open(os.path.join(folder, "calls"), encoding="ascii") as file:
             called = file.read().count("call")
-        yield f"{job} of {CHANGES} changes", (status, called <= calls, _taken(before) < SECONDS), (0, True, True)
-
-
-def _taken(before):
-    """The seconds of a processor that the children have taken since then. Those of a clock say more of what else goes on."""
-    now = resource.getrusage(resource.RUSAGE_CHILDREN)
-    return now.ru_utime + now.ru_stime - before.ru_utime - before.ru_stime
+        yield f"{job} of {CHANGES} changes", (status, called <= calls), (0, True)
 
 
 def of_why(folder, run, write):
-    """Rows of name, found, wanted: `why` on a pulse that goes through 60,000 gates takes some seconds of a processor, as this one counts them."""
+    """Rows of name, found, wanted: `why` on a pulse that goes through 60,000 gates."""
     gates = "".join(f"g{at} = {'NOT' if at % 2 else 'BUFF'}({f'g{at - 1}' if at else 'h'})\n" for at in range(60_000))
     write(folder, "w.bench", "INPUT(a)\nn = NOT(a)\nh = AND(a, n)\n" + gates)
     write(folder, "w.txt", "start a=0\nchange a=1\n")
-    begun, before = time.process_time(), resource.getrusage(resource.RUSAGE_CHILDREN).ru_utime
-    sum(at & 1 for at in range(TURNS))
-    turn = (time.process_time() - begun) / TURNS
     status, text, _ = run(["why", "w.bench", "w.txt", "g59999"], folder)
-    taken = resource.getrusage(resource.RUSAGE_CHILDREN).ru_utime - before
-    yield "why of 60,000 gates", (status, "g59999 pulses if n(1), n, h(2) are slower than h(1), h" in text, taken < MOST_TURNS * turn), (0, True, True)
+    yield "why of 60,000 gates", (status, "g59999 pulses if n(1), n, h(2) are slower than h(1), h" in text), (0, True)
 
 
-def terminals(folder, command, run, write):
+def terminals(folder, command, run, write, program):
     """Colours and a line on a terminal; nothing of them elsewhere, or if NO_COLOR is set."""
     words = [command, "summary", write(folder, "h.bench", "INPUT(a)\nINPUT(b)\nn = NOT(a)\nh = AND(a, n)\n"), write(folder, "h.txt", "start a=0 b=0\nchange a=1\nchange b=1\n")]
     plain = run(words[1:], folder)[1]
@@ -58,7 +42,7 @@ def terminals(folder, command, run, write):
     coloured = _on_terminal(words, {"TERM": "xterm"})
     yield "colours on a terminal", ("\033[33mstatic-0\033[0m" in coloured, "\033[32mclean\033[0m" in coloured), (True, True)
     yield "no colours if they are not wanted", _on_terminal(words, {"NO_COLOR": "1", "TERM": "xterm"}).replace("\r\n", "\n"), plain
-    slow = write(folder, "slow", "#!/bin/sh\n\"$HAZARD\" \"$@\" | while read -r line; do case $line in change*) sleep 1.5;; esac; echo \"$line\"; done\n")
+    slow = write(folder, "slow", f"#!/bin/sh\n'{program}' \"$@\" | while read -r line; do case $line in change*) sleep 1.5;; esac; echo \"$line\"; done\n")
     os.chmod(slow, 0o755)
     told = _on_terminal(words[:2] + ["--hazard", slow] + words[2:], {"NO_COLOR": "1"})
     yield "a line about a long job", ("\rhazard-look: change 2 " in told, told.rstrip().endswith("\033[K")), (True, True)
