@@ -8,7 +8,7 @@ import sys
 import tempfile
 
 from . import report
-from .errors import DOES_NOT_HOLD, NAME_NOT_READ, NO_PROGRAM, NOT_ACCEPTED, OUTPUT_FAILED, OWN_FAULT, SCRIPT_FAULT, SIGNALLED, Failure
+from .errors import DOES_NOT_HOLD, NAME_NOT_READ, NO_PROGRAM, NOT_ACCEPTED, OUTPUT_FAILED, OWN_FAULT, SCRIPT_FAULT, SIGNALLED, Failure, begins_with_mark
 from .terminal import Progress
 
 VARIABLE = "HAZARD"
@@ -120,7 +120,7 @@ class Program:
         with self._running(words) as running:
             for number, line in enumerate(running.stdout):
                 if number == 0 and line.startswith("refused: "):
-                    raise Failure(f"hazard: {line.strip()}{_hint(line, words[1])}", _status(running.wait()))
+                    raise Failure(f"hazard: {line.strip()}{_hint(line, words)}", _status(running.wait()))
                 yield line.rstrip("\n")
             if running.wait() != 0:
                 ended = f"with status {running.returncode}" if running.returncode > 0 else f"by signal {-running.returncode}"
@@ -142,9 +142,12 @@ def _status(code):
     return OWN_FAULT if code == DOES_NOT_HOLD else code
 
 
-def _hint(line, netlist):
-    """What helps after the line of a refusal, with the mark that goes before it."""
-    refusal = line.removeprefix("refused: ")
+def _hint(line, words):
+    """What helps after the line of a refusal of some words, with the mark that goes before it."""
+    refusal, netlist = line.removeprefix("refused: "), words[1]
+    text = re.match("(netlist|script) line 1: ", refusal)
+    if text and begins_with_mark(words[1 if text[1] == "netlist" else 2]):
+        return "; the file begins with a byte order mark: save it as UTF-8 without one"
     if refusal.startswith("netlist ") and netlist.lower().endswith((".v", ".sv")):
         return "; Verilog goes by way of Yosys: see `hazard-look from-yosys --help`"
     if refusal.startswith("netlist ") and netlist.lower().endswith(".json"):

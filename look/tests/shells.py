@@ -50,7 +50,7 @@ def _output(words, folder):
 def _bash(folder, script, jobs, options):
     def told(*asked):
         return sorted(_output(["bash", "-c", BASH, script, "hazard-look", *asked], folder).split())
-    yield "bash: jobs", told(""), sorted(jobs + ["--help"])
+    yield "bash: jobs", told(""), sorted(jobs + ["--help", "--version"])
     for job in jobs:
         yield f"bash: options of {job}", told(job, "-"), sorted(options[job])
         yield f"bash: first file of {job}", told(job, ""), [FIRST[job]] if job in FIRST else ["m.BLIF", "n.bench"]
@@ -65,6 +65,7 @@ def _fish(folder, place, jobs, options):
         lines = _output(["fish", "--no-config", "-c", FISH, os.path.join(place, "hazard-look.fish"), "hazard-look " + text], folder).splitlines()
         return [line.split("\t")[0] for line in lines]
     yield "fish: jobs", sorted(told("")), sorted(jobs)
+    yield "fish: words in place of a job", set(told("--")), {"--help", "--version"}
     for job in jobs:
         yield f"fish: options of {job}", set(told(f"{job} --")), options[job]
         yield f"fish: first file of {job}", told(f"{job} ")[0], FIRST.get(job, "n.bench")
