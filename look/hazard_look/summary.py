@@ -122,7 +122,7 @@ class _Teller:
         of_root = {row.name for row in finding.roots}
         rows = told if self.words.all or len(told) <= MOST_LINES else [row for row in told if row.name in of_root][:None if self.words.roots else MOST_LINES]
         more = len(told) - len(rows)
-        lines = [f"{change.title()}: {_verdict(told, finding)}"] + [self._line(row, finding) for row in rows]
+        lines = [f"{change.title()}: {_verdict(told, finding)}{'' if change.changes() else '; no input changes'}"] + [self._line(row, finding) for row in rows]
         lines += [f"  .. and {more} more, which --all has"] if more else []
         names = {row.name for row in told}
         return lines + [self._line(row, finding) for row in change.rows.values() if self.words.all and row.name in self.chosen and row.name not in names]

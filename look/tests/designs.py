@@ -207,6 +207,10 @@ def _refused(folder, run):
         with open(path, "w", encoding="utf-8") as file:
             file.write(text)
         yield f"refused: {text[:20]}", run(["from-yosys", path], folder), (3, "", f"hazard-look: {path}: {wanted}\n")
+    verilog = os.path.join(folder, "f.v")
+    with open(verilog, "w", encoding="utf-8") as file:
+        file.write("module f;\n")
+    yield "refused: Verilog", run(["from-yosys", verilog], folder), (3, "", f"hazard-look: {verilog}: {other}; `hazard-look from-verilog` reads Verilog\n")
     strange = design({"u": cell("$_AND_", A=2, B="1", Y=3)}, **{"a b,(c)": port("input", 2), "a_b__c_": port("output", 3)})
     with open(path, "w", encoding="utf-8") as file:
         json.dump(strange, file)
