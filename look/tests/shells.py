@@ -19,9 +19,9 @@ heard() { # everything up to a pattern, or what there is after some seconds
 }
 zpty z zsh -f -i
 zpty -w z "PS1=; fpath=($1 \$fpath); autoload -U compinit; compinit -u -D; setopt nolistbeep; LISTMAX=0; echo BE''GIN"
-heard BEGIN 60
+heard BEGIN 300
 zpty -w -n z "hazard-look $2"$'\x04'
-heard "hazard-look $2*hazard-look" 30
+heard "hazard-look $2*hazard-look" 300
 print -r -- $all
 """
 
@@ -43,7 +43,7 @@ def rows(folder, root, run, write):
 
 def _output(words, folder):
     done = subprocess.run(words, cwd=folder, env=dict(os.environ, HOME=folder, TERM="dumb"), stdin=subprocess.DEVNULL, stdout=subprocess.PIPE,
-                          stderr=subprocess.DEVNULL, timeout=200, check=False)
+                          stderr=subprocess.DEVNULL, timeout=700, check=False)
     return done.stdout.decode(errors="replace")
 
 
