@@ -35,6 +35,21 @@ def of_why(folder, run, write):
     yield "why of 60,000 gates", (status, "g59999 pulses if n(1), n, h(2) are slower than h(1), h" in text), (0, True)
 
 
+def of_cones(folder, call, write, network):
+    """Rows of name, found, wanted: how often `why` looks for what a node depends on does not grow with the gates of a path that races."""
+    asked, cone = [], network.Network.cone
+    network.Network.cone = lambda self, node: asked.append(node) or cone(self, node)
+    try:
+        for gates in (11, 301):
+            chain = "".join(f"c{at} = NOT({f'c{at - 1}' if at else 'a'})\n" for at in range(gates))
+            files = [write(folder, "c.bench", f"INPUT(a)\n{chain}z = AND(a, c{gates - 1})\n"), write(folder, "c.txt", "start a=1\nchange a=0\n")]
+            asked.clear()
+            status, text = call(["why"] + files + ["z"])
+            yield f"cones behind {gates} gates", (status, f"1 wire against {gates + 1} gates" in text, len(asked) < 10), (0, True, True)
+    finally:
+        network.Network.cone = cone
+
+
 def terminals(folder, command, run, write, program):
     """Colours and a line on a terminal; nothing of them elsewhere, or if NO_COLOR is set."""
     words = [command, "summary", write(folder, "h.bench", "INPUT(a)\nINPUT(b)\nn = NOT(a)\nh = AND(a, n)\n"), write(folder, "h.txt", "start a=0 b=0\nchange a=1\nchange b=1\n")]
