@@ -6,6 +6,7 @@
 //! | `spreading` | [`spread_run`]: a run that changes each X of Algorithm A once |
 //! | `turn` | [`take_turn`]: a gate's turn, two steps that turn it |
 //! | `scratch` | [`Scratch`]: the room to make a run in |
+//! | `sorting` | variables by a key and then by number |
 //! | `existence` | the law that there are spread runs |
 //! | `counts` | laws on the length of runs |
 #![tactic(auto)]
@@ -18,6 +19,7 @@ mod change;
 mod counts;
 mod existence;
 mod scratch;
+mod sorting;
 mod spreading;
 mod turn;
 
