@@ -10,6 +10,8 @@
 //!
 //! What breaks if you add a change: a wire before its source, or a gate before its wires, is stable then, and the step is
 //! none. A second change of a variable falsifies `IsSpreadRun`, and the room. A new kind of gate needs its canonical pattern.
+//!
+//! To pass over sixteen wires that are not X at once gains 3.2 % of a script's instructions (1,000 changes of 2,000 variables).
 ghost use Rattle.std.specs.Prelude.{◌≡◌, ℕ, ◌+◌, ◌-◌, ◌<◌, ◌≤◌, ◌^◌, Bool, true, false, not, ◌&&◌, List, [], ◌∷◌, ◌++◌, length, IsTrue, MatchBool, if◌then◌else◌};
 ghost use Rattle.hz_core.specs.Ternary.{is_unknown};
 ghost use Rattle.hz_core.specs.Netlist.{IsCircuit, IsGateNumber, gate_at};
