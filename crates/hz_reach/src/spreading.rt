@@ -26,7 +26,7 @@ ghost use Rattle.hz_reach.specs.Given.{AreResultsOfA, IsScratchFor, IsEmptyRun};
 ghost use Rattle.hz_reach.specs.Spread.{IsSpreadRun, IsSparingRun};
 ghost use Rattle.hz_reach.specs.Turn.{changed_inputs, free_pins, earlier_pins, is_unchanged, IsTurn, unchanged_wires, CanTurn, HasRoomForTurn};
 
-use crate::turn::{FEW_PINS, is_gate, take_turn};
+use crate::turn::{is_gate, take_turn};
 use crate::{Change, Scratch};
 use hz_core::{MAX_PINS, Tri};
 use hz_gmw::Run;
@@ -188,43 +188,10 @@ fn turn_by_rank(net: &Net, rank: &[u32], gate: u32, scratch: &mut Scratch, run: 
     ensures sorted { scratch.new.sorted ≡ scratch.old.sorted }
     ensures room { Spends run.old run.new }
 {
-    let (_, pins) = net.wires_in(gate);
-    if pins as usize <= FEW_PINS {
-        let mut free = [false; FEW_PINS];
-        turn_by_free(net, rank, gate, &mut free[..pins as usize], scratch, run);
-    } else {
-        let mut free = [false; MAX_PINS];
-        turn_by_free(net, rank, gate, &mut free[..pins as usize], scratch, run);
-    }
-}
-
-// The same, with room for which pins are free. What stood there is not read.
-#[inline(always)]
-fn turn_by_free(
-    net: &Net,
-    rank: &[u32],
-    gate: u32,
-    free: &mut [bool],
-    scratch: &mut Scratch,
-    run: &mut Run,
-)
-    requires circuit { IsCircuit net.now }
-    requires rank { AreByVariable net.now rank.now }
-    requires gate { IsGateNumber net.now gate }
-    requires free { length free.old ≡ length (gate_at net.now gate).sources }
-    requires possible { CanTurn net.now gate (earlier_pins net.now rank.now gate)
-        scratch.old.state }
-    requires scratch { IsScratchFor net.now scratch.old }
-    requires room { HasRoomForTurn net.now gate (earlier_pins net.now rank.now gate) false
-        scratch.old.state run.old }
-    ensures turn { IsTurn net.now gate (earlier_pins net.now rank.now gate) false
-        scratch.old.state scratch.new.state run.old.steps run.new.steps }
-    ensures marked { scratch.new.marked ≡ [] }
-    ensures sorted { scratch.new.sorted ≡ scratch.old.sorted }
-    ensures room { Spends run.old run.new }
-{
     let (first, pins) = net.wires_in(gate);
     let wires = first as usize..(first + pins) as usize;
+    let mut room = [false; MAX_PINS];
+    let free = &mut room[..pins as usize];
     list_free(rank[gate as usize], &rank[wires], free);
     take_turn(net, gate, free, false, scratch, run);
 }

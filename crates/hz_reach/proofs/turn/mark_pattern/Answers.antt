@@ -1,6 +1,6 @@
 use Rattle.std.proofs.Common.{arith}
 use Rattle.hz_reach.proofs.Words.{length-network_of}
-use Rattle.hz_reach.proofs.turn.mark_chosen.Goals as goal
+use Rattle.hz_reach.proofs.turn.mark_pattern.Goals as goal
 
 pub mark_changed-requires-clause-few : goal.mark_changed-requires-clause-few
 mark_changed-requires-clause-few c =
