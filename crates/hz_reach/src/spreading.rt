@@ -14,7 +14,7 @@
 //! To pass over sixteen wires that are not X at once gains 3.2 % of a script's instructions (1,000 changes of 2,000 variables).
 ghost use Rattle.std.specs.Prelude.{◌≡◌, ℕ, ◌+◌, ◌-◌, ◌<◌, ◌≤◌, ◌^◌, Bool, true, false, not, ◌&&◌, List, [], ◌∷◌, ◌++◌, length, IsTrue, MatchBool, if◌then◌else◌};
 ghost use Rattle.hz_core.specs.Ternary.{is_unknown};
-ghost use Rattle.hz_core.specs.Netlist.{IsCircuit, IsGateNumber, gate_at};
+ghost use Rattle.hz_core.specs.Netlist.{IsCircuit, IsGateNumber};
 ghost use Rattle.hz_core.specs.Pattern.{differs};
 ghost use Rattle.hz_net.specs.Network.{network_of, value_at, IsState, AreByVariable, IsInput};
 ghost use Rattle.hz_gmw.specs.Runs.{end_of};
