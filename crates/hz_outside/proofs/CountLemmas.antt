@@ -1,5 +1,5 @@
 -- What files that are opened by their names count gives what every store of files ensures.
-use Rattle.std.proofs.Common.{◌≡◌, ◌≤◌, ℕ, refl, rules, arith, Ok, Err, Result, MatchResult}
+use Rattle.std.proofs.Common.{◌≡◌, ◌≢◌, ◌≤◌, ℕ, refl, rules, arith, Ok, Err, Result, MatchResult}
 use Rattle.hz_outside.specs.Counts.{Rose, count_after}
 use Rattle.hz_outside.specs.Places.{count_for, other_place}
 use Rattle.hz_outside.specs.NamedFiles.{NamedState, named_after_fault}
@@ -45,3 +45,18 @@ failed-rose old Second = rose _
 pub long-rose : {O : Type 0} (old : NamedState O) (place : Place) → Rose (count_for old.longs place) (count_for (named_after_fault old place TooLong).longs place)
 long-rose old First = rose _
 long-rose old Second = rose _
+
+-- the other faults are not counted as a load that failed, or as a file that was too long
+pub no-fault : {A O : Type 0} (old new : NamedState O) (place : Place) (result : Result A LoadFault)
+    → MatchResult result (λ _. new ≡ old) (λ fault. new ≡ named_after_fault old place fault) → result ≢ Err Failed → count_for new.faults place ≡ count_for old.faults place
+no-fault old new place (Ok _) e other = rw e refl
+no-fault old new place (Err Failed) e other = absurd (other refl)
+no-fault old new place (Err TooLong) e other = rw e refl
+no-fault old new place (Err Memory) e other = rw e refl
+
+pub none-long : {A O : Type 0} (old new : NamedState O) (place : Place) (result : Result A LoadFault)
+    → MatchResult result (λ _. new ≡ old) (λ fault. new ≡ named_after_fault old place fault) → result ≢ Err TooLong → count_for new.longs place ≡ count_for old.longs place
+none-long old new place (Ok _) e other = rw e refl
+none-long old new place (Err Failed) e other = rw e refl
+none-long old new place (Err TooLong) e other = absurd (other refl)
+none-long old new place (Err Memory) e other = rw e refl

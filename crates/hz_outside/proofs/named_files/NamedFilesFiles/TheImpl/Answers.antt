@@ -1,6 +1,6 @@
 -- What files that are opened by their names count gives what every store of files ensures.
 use Rattle.std.proofs.Common.{◌≡◌, ap, rules}
-use Rattle.hz_outside.proofs.CountLemmas.{kept, failed-rose, long-rose}
+use Rattle.hz_outside.proofs.CountLemmas.{kept, failed-rose, long-rose, no-fault, none-long}
 use Rattle.hz_outside.proofs.named_files.NamedFilesFiles.TheImpl.Goals as goal
 
 pub load-tells : goal.load-tells
@@ -12,6 +12,8 @@ load-tells g c =
       failed = λ e. let h = rw e at c.ensures.counts in rw h (failed-rose c.args.self.now c.args.place);
       too_long = λ e. let h = rw e at c.ensures.counts in rw h (long-rose c.args.self.now c.args.place);
       over = c.ensures.over;
+      no_fault = no-fault _ _ c.args.place c.result c.ensures.counts;
+      none_long = none-long _ _ c.args.place c.result c.ensures.counts;
       same_files = ap (λ (from : _). g.O.OpenNamed.told from) counts.from;
       faults_never_fall = counts.faults;
       longs_never_fall = counts.longs;
@@ -30,6 +32,8 @@ load_into-tells g c =
       failed = λ e. let h = rw e at c.ensures.counts in rw h (failed-rose c.args.self.now c.args.place);
       too_long = λ e. let h = rw e at c.ensures.counts in rw h (long-rose c.args.self.now c.args.place);
       over = c.ensures.over;
+      no_fault = no-fault _ _ c.args.place c.result c.ensures.counts;
+      none_long = none-long _ _ c.args.place c.result c.ensures.counts;
       same_files = ap (λ (from : _). g.O.OpenNamed.told from) counts.from;
       faults_never_fall = counts.faults;
       longs_never_fall = counts.longs;
