@@ -1,5 +1,5 @@
 -- What a call wrote, once all that waited is flushed.
-use Rattle.std.proofs.Common.{◌≡◌, ◌≢◌, ◌∙◌, sym, ap, ◌≤◌, ℕ, inl, inr, List, [], ◌∷◌, ◌++◌, Option, Result, Ok, Err, OnOk, OnErr, refl, subst, rules, append_assoc}
+use Rattle.std.proofs.Common.{◌≡◌, ◌≢◌, ◌∙◌, sym, ap, ◌≤◌, ℕ, inl, inr, List, [], ◌∷◌, ◌++◌, Option, Result, Ok, Err, OnOk, refl, subst, rules, append_assoc}
 use Rattle.std.proofs.lemmas.List.{append-nil}
 use Rattle.hz_outside.specs.Counts.{Rose}
 use Rattle.hz_outside.specs.WrittenText.{Output, Took, TookPrefix, GrewByPrefix, extended_text}
@@ -116,17 +116,17 @@ module _ {S : Type 0} (output : S → Output) (faults : S → ℕ) (comes : Stat
 
   -- the answer of a call whose last flush came to this
   pub Answers-flushed : (own : Status) (flush : Result (Unit {0}) PutFault) (ends : Status) → (output was).waiting ≡ [] → Ends output faults comes was mid own
-      → OnOk flush (Took (output mid) [] (output now)) → OnOk flush ((output now).waiting ≡ []) → OnErr flush (TookPrefix (output mid) [] (output now))
-      → (flush ≡ Err fault.Failed → Rose (faults mid) (faults now)) → faults mid ≤ faults now → ends ≡ status_flushed flush own
-      → Answers (written_of output) faults comes was now ends
-  Answers-flushed own (Ok done) ends none puts whole none_now front failed rose at =
+      → OnOk flush (Took (output mid) [] (output now)) → OnOk flush ((output now).waiting ≡ []) → (flush ≡ Err fault.Failed → TookPrefix (output mid) [] (output now))
+      → (flush ≡ Err fault.Memory → Took (output mid) [] (output now)) → (flush ≡ Err fault.Failed → Rose (faults mid) (faults now)) → faults mid ≤ faults now
+      → ends ≡ status_flushed flush own → Answers (written_of output) faults comes was now ends
+  Answers-flushed own (Ok done) ends none puts whole none_now cut kept counted rose at =
       subst (Answers (written_of output) faults comes was now) (sym at) (puts-flushed own none none_now rose puts whole)
-  Answers-flushed own (Err fault.Failed) ends none puts whole none_now front failed rose at =
-      subst (Answers (written_of output) faults comes was now) (sym at) (rose-cut own puts (failed refl) rose, puts-cut own none puts front)
-  Answers-flushed status.Sink (Err fault.Memory) ends none puts whole none_now front failed rose at =
-      subst (Answers (written_of output) faults comes was now) (sym at) (rose-more puts.0 rose, puts-cut status.Sink none puts front)
-  Answers-flushed own (Err fault.Memory) ends none puts whole none_now front failed rose at =
-      subst (Answers (written_of output) faults comes was now) (sym at) (puts-cut own none puts front)
+  Answers-flushed own (Err fault.Failed) ends none puts whole none_now cut kept counted rose at =
+      subst (Answers (written_of output) faults comes was now) (sym at) (rose-cut own puts (counted refl) rose, puts-cut own none puts (cut refl))
+  Answers-flushed status.Sink (Err fault.Memory) ends none puts whole none_now cut kept counted rose at =
+      subst (Answers (written_of output) faults comes was now) (sym at) (rose-more puts.0 rose, puts-cut status.Sink none puts (Took-prefix (kept refl)))
+  Answers-flushed own (Err fault.Memory) ends none puts whole none_now cut kept counted rose at =
+      subst (Answers (written_of output) faults comes was now) (sym at) (puts-cut own none puts (Took-prefix (kept refl)))
 
   -- what the count tells of the work
   work-count : (own : Status) → Ends output faults comes was mid own → CountTells (faults was) (faults mid) own

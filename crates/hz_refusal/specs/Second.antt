@@ -3,7 +3,7 @@ use Rattle.std.specs.Prelude.{◌≡◌, ℕ, ◌⊎◌, Bool, List, codes, Opti
 use Rattle.hz_core.specs.Netlist.{Netlist}
 use Rattle.hz_net.specs.Starts.{IsAcceptedStart, IsLeastOpen, IsLeastUnstable}
 use Rattle.hz_text.specs.declared.fault.TextFault.{TextFault}
-use Rattle.hz_text.specs.Fault.{IsLeastFaultOf}
+use Rattle.hz_text.specs.Fault.{IsLeastFaultOf, named_line}
 use Rattle.hz_script.specs.ScriptFault.{HasScriptFault}
 use Rattle.hz_script.specs.ScriptText.{IsValue}
 use Rattle.hz_script.specs.ScriptValue.{ScriptOf}
@@ -29,6 +29,13 @@ IsTextOutcome {V} called holds stands_for judge netlist bytes own text =
     × Prints status.Text (text_fault_line called netlist fault) own text)
     ⊎ ((value : V) × ((fault : TextFault) → ¬ holds netlist bytes fault)
     × stands_for netlist bytes value × judge netlist value own text)
+
+-- The line that is told of a text: that of its least fault, 0 if it names none. Or nothing is refused of the text, or memory ran
+-- out, and no line is told.
+abbrev pub IsToldLine : (holds : TextFault → Type 0) → (own : Status) → (line : ℕ) → Type 0
+IsToldLine holds own line =
+    ((fault : TextFault) × IsLeastFaultOf holds fault × (line ≡ named_line fault))
+    ⊎ ((((fault : TextFault) → ¬ holds fault) ⊎ (own ≡ status.Memory)) × (line ≡ 0))
 
 -- what a script comes to
 abbrev pub OfScript : (judge : Netlist → ScriptOf → Status → List ℕ → Type 0) → Netlist → List ℕ →
