@@ -23,7 +23,7 @@ netlist-refused name text (Blif fault) least own written says = ((Blif fault, (l
 -- the line of a refusal is told
 pub told-netlist-line : (name text : List ℕ) (fault : NetlistFault) (own : Status) (line : ℕ) → IsNetlistRefusal name text fault → (IsWantOfMemory fault → own ≡ status.Memory)
     → line ≡ named_netlist_line fault → IsToldNetlistLine name text own line
-told-netlist-line name text (Bench fault) own line (format, inl is) memory named = inr (memory is, named ∙ ap bench_fault.fault_line_number is)
+told-netlist-line name text (Bench fault) own line (format, inl is) memory named = inr (inr (memory is), named ∙ ap bench_fault.fault_line_number is)
 told-netlist-line name text (Bench fault) own line (format, inr least) memory named = inl (Bench fault, (format, least), named)
-told-netlist-line name text (Blif fault) own line (format, inl is) memory named = inr (memory is, named ∙ ap blif_fault.fault_line is)
+told-netlist-line name text (Blif fault) own line (format, inl is) memory named = inr (inr (memory is), named ∙ ap blif_fault.fault_line is)
 told-netlist-line name text (Blif fault) own line (format, inr least) memory named = inl (Blif fault, (format, least), named)

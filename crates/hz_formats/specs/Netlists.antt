@@ -13,7 +13,7 @@ use Rattle.hz_blif.specs.Law.{KeepsCovers}
 use Rattle.hz_formats.specs.declared.netlist.NetlistFault.{NetlistFault}
 use Rattle.hz_formats.specs.declared.netlist.NetlistFault.TheVariants.{Bench, Blif}
 use Rattle.hz_refusal.specs.declared.status.Status.{Status}
-use Rattle.hz_refusal.specs.declared.status.Status.TheVariants as status
+use Rattle.hz_refusal.specs.Ending.{IsCutShort}
 use Rattle.hz_formats.specs.Refusal.{netlist_fault_line}
 
 -- the text of a file with this name is read as BLIF: the name ends in '.blif', in any letter case
@@ -32,12 +32,12 @@ abbrev pub named_netlist_line : NetlistFault → ℕ
 named_netlist_line (Bench fault) = bench.fault_line_number fault
 named_netlist_line (Blif fault) = blif.fault_line fault
 
--- The line that is told of a netlist's text: that of its least fault. If memory ran out, none is told.
+-- The line that is told of a netlist's text: that of its least fault, 0 if it names none. If the call was cut short, none is told.
 abbrev pub IsToldNetlistLine : (name bytes : List ℕ) → (own : Status) → (line : ℕ) → Type 0
 IsToldNetlistLine name bytes own line =
     ((fault : NetlistFault) × IsLeastNetlistFault name bytes fault
     × (line ≡ named_netlist_line fault))
-    ⊎ ((own ≡ status.Memory) × (line ≡ 0))
+    ⊎ (IsCutShort own × (line ≡ 0))
 
 -- it is no fault of a text, but memory ran out
 abbrev pub IsWantOfMemory : NetlistFault → Type 0

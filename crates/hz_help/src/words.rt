@@ -4,6 +4,7 @@ use std::env::{Env, FillError};
 use std::{env, io};
 
 /// What stands behind the program's name among the arguments. So that name may be any bytes.
+#[derive(Drop)]
 struct BehindName<'r> {
     rt: &'r HostRuntime,
 }

@@ -10,7 +10,7 @@ use Rattle.hz_refusal.specs.declared.status.Status.{Status}
 use Rattle.hz_refusal.specs.declared.status.Status.TheVariants as status
 use Rattle.hz_refusal.specs.Answer.{Answers, CountTells, WroteWhole, WrotePrefix}
 use Rattle.hz_refusal.specs.Ends.{written_of, Ends, TookWhole, TookFront}
-use Rattle.hz_refusal.specs.Ending.{status_flushed}
+use Rattle.hz_refusal.specs.Ending.{status_flushed, IsCutShort}
 
 -- a prefix, of which the flush wrote a prefix
 TookPrefix-then : {xs : List ℕ} {a b c : Output} → TookPrefix a xs b → TookPrefix b [] c → TookPrefix a xs c
@@ -51,6 +51,19 @@ nothing-written : (was now : Output) → was.waiting ≡ [] → TookPrefix was [
 nothing-written was now none took =
     let all : took.front ++ (now.waiting ++ took.rest) ≡ [] = sym (append_assoc took.front now.waiting took.rest) ∙ took.parts ∙ append-nil was.waiting ∙ none in
     took.grew ∙ ap (extended_text was.written) (front-nil took.front (now.waiting ++ took.rest) all) ∙ extended_text-nil was.written
+
+-- a flush changes no status to one of a refusal
+pub short-flushed : (flush : Result (Unit {0}) PutFault) (own : Status) → IsCutShort own → IsCutShort (status_flushed flush own)
+short-flushed (Ok done) own short = short
+short-flushed (Err fault.Failed) own short = inl refl
+short-flushed (Err fault.Memory) own (inl is) = inl (ap (status_flushed (Err fault.Memory)) is)
+short-flushed (Err fault.Memory) own (inr is) = inr (ap (status_flushed (Err fault.Memory)) is)
+
+pub other-flushed : (named : Status) → status.Sink ≢ named → status.Memory ≢ named → (flush : Result (Unit {0}) PutFault) (own : Status) → own ≢ named → status_flushed flush own ≢ named
+other-flushed named sink memory (Ok done) own other = other
+other-flushed named sink memory (Err fault.Failed) own other = sink
+other-flushed named sink memory (Err fault.Memory) status.Sink other = sink
+other-flushed named sink memory (Err fault.Memory) own other = memory
 
 module _ {S : Type 0} (output : S → Output) (faults : S → ℕ) (comes : Status → List ℕ → Type 0) (was mid now : S) where
   -- a whole text, flushed

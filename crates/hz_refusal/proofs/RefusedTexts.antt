@@ -43,5 +43,5 @@ text-refused holds fault refusal other = refused reading.Memory (IsLeastFaultOf 
 -- the line of a refusal is told
 pub told-line : (holds : TextFault → Type 0) (fault : TextFault) (own : Status) (line : ℕ) → IsLeastFaultOrMemory holds fault → (fault ≡ reading.Memory → own ≡ status.Memory)
     → line ≡ named_line fault → IsToldLine holds own line
-told-line holds fault own line (inl is) memory named = inr (inr (memory is), named ∙ ap named_line is)
+told-line holds fault own line (inl is) memory named = inr (inr (inr (memory is)), named ∙ ap named_line is)
 told-line holds fault own line (inr least) memory named = inl (fault, least, named)

@@ -1,6 +1,7 @@
 -- Words, with their arguments, in the order in which one needs them.
 --
 -- code_of status: the exit status
+-- IsCutShort status: the output was not taken, or memory ran out
 -- Answers written faults comes was now status: a text that comes with this status was written, or a prefix of one
 -- WroteWhole, WrotePrefix: the two cases
 -- CountTells was now status: the sink's count rose if the output failed, and else it is as it was

@@ -8,6 +8,7 @@ use Rattle.hz_pattern_text.specs.PatternFault.{HasPatternFault}
 use Rattle.hz_run_text.specs.RunFault.{HasRunFault}
 use Rattle.hz_refusal.specs.declared.status.Status.{Status}
 use Rattle.hz_refusal.specs.declared.status.Status.TheVariants as status
+use Rattle.hz_refusal.specs.Ending.{IsCutShort}
 use Rattle.hz_refusal.specs.Second.{IsToldLine}
 use Rattle.hz_formats.specs.Netlists.{IsNetlistText, IsToldNetlistLine}
 use Rattle.hz_words.specs.declared.job.Task.{Task}
@@ -57,10 +58,10 @@ ComesTo told task first second own at =
     ⊎ ((at.place ≡ Second) × (at.name.now ≡ second)
     × IsLineOfSecond told task first second own at.line)
 
--- How far a call came. Without a job, and in a demo, it comes to no file; nor if memory ran out when the words were read.
+-- How far a call came. Without a job, and in a demo, it comes to no file; nor if it is cut short when the words are read.
 abbrev pub IsReached : Observation → Option JobOf → Status → Option Reached → Type 0
 IsReached told None own reached = reached ≡ None
 IsReached told (Some (OnFiles task options first second)) own reached =
-    ((own ≡ status.Memory) × (reached ≡ None))
+    (IsCutShort own × (reached ≡ None))
     ⊎ IsSomeAnd reached (ComesTo told task first second own)
 IsReached told (Some (Demo number options)) own reached = reached ≡ None

@@ -10,7 +10,7 @@ ghost use Rattle.hz_refusal.specs.Second.{OfScript, OfRuns, OfPatterns};
 ghost use Rattle.hz_top.specs.LeftFiles.{LeavesFiles};
 ghost use Rattle.hz_words.specs.Job.{OnFiles};
 ghost use Rattle.hz_line.specs.Line.{most_text_bytes};
-ghost use Rattle.hz_top.specs.Outcome.{observation_of, IsFilesOutcome, IsSecondFileOutcome};
+ghost use Rattle.hz_top.specs.Outcome.{observation_of, CountsStay, IsFilesOutcome, IsSecondFileOutcome};
 ghost use Rattle.hz_top.specs.Reached.{IsReached, IsLineOnCircuit, faults_of};
 ghost use Rattle.hz_top.specs.Tasks.{comes_of};
 
@@ -115,6 +115,7 @@ fn work_on_second<F: Files, K: Sink>(
         (IsSecondFileOutcome (observation_of F.held F.faults F.longs files.old files.new)
         (comes_of work.options work.task net.now) second.now)
         out.old out.new result.status }
+    ensures stay { CountsStay (observation_of F.held F.faults F.longs files.old files.new) First }
     ensures line { IsLineOnCircuit (F.held files.old) (faults_of work.task net.now) second.now
         result.status result.line }
 {
@@ -144,6 +145,7 @@ fn work_on_script<J: OnScript, F: Files, K: Sink>(
         (IsSecondFileOutcome (observation_of F.held F.faults F.longs files.old files.new)
         (OfScript (J.judges job.now) net.now) second.now)
         out.old out.new result.status }
+    ensures stay { CountsStay (observation_of F.held F.faults F.longs files.old files.new) First }
     ensures line { IsLineOnCircuit (F.held files.old) (HasScriptFault net.now) second.now result.status
         result.line }
 {
@@ -167,6 +169,7 @@ fn work_on_runs<J: OnRuns, F: Files, K: Sink>(
         (IsSecondFileOutcome (observation_of F.held F.faults F.longs files.old files.new)
         (OfRuns (J.judges job.now) net.now) second.now)
         out.old out.new result.status }
+    ensures stay { CountsStay (observation_of F.held F.faults F.longs files.old files.new) First }
     ensures line { IsLineOnCircuit (F.held files.old) (HasRunFault net.now) second.now result.status
         result.line }
 {
@@ -190,6 +193,7 @@ fn work_on_patterns<J: OnPatterns, F: Files, K: Sink>(
         (IsSecondFileOutcome (observation_of F.held F.faults F.longs files.old files.new)
         (OfPatterns (J.judges job.now) net.now) second.now)
         out.old out.new result.status }
+    ensures stay { CountsStay (observation_of F.held F.faults F.longs files.old files.new) First }
     ensures line { IsLineOnCircuit (F.held files.old) (HasPatternFault net.now) second.now result.status
         result.line }
 {
