@@ -1,5 +1,5 @@
 -- How far a call came, and what the last flush leaves of that.
-use Rattle.std.proofs.Common.{◌≡◌, ◌≢◌, ℕ, inl, inr, refl, sym, subst, List, Option, Some, None, IfSome, IsSomeAnd, Result}
+use Rattle.std.proofs.Common.{◌≡◌, ◌≢◌, ◌∙◌, ℕ, inl, inr, refl, sym, subst, List, Option, Some, None, IfSome, IsSomeAnd, Result}
 use Rattle.hz_outside.specs.WrittenText.{Output}
 use Rattle.hz_outside.specs.declared.fault.Place.{Place}
 use Rattle.hz_outside.specs.declared.fault.Place.TheVariants.{First, Second}
@@ -34,8 +34,10 @@ of-file held name bytes P is p = if-told held (λ bytes_of. bytes ≡ bytes_of n
 
 -- a load that gave no file refuses no text
 refuses-none : (place : Place) (fault : LoadFault) (own : Status) (text : List ℕ) → LoadPrints place fault own text → (own ≢ status.Netlist) × (own ≢ status.Text)
-refuses-none place load.Failed own text says = (λ is. cc, λ is. cc)
-refuses-none place load.TooLong own text says = (λ is. cc, λ is. cc)
+refuses-none place load.Failed own text says =
+    (λ is. let both : status.File ≡ status.Netlist = sym says.0 ∙ is in cc, λ is. let both : status.File ≡ status.Text = sym says.0 ∙ is in cc)
+refuses-none place load.TooLong own text says =
+    (λ is. let both : status.TooLong ≡ status.Netlist = sym says.0 ∙ is in cc, λ is. let both : status.TooLong ≡ status.Text = sym says.0 ∙ is in cc)
 refuses-none place load.Memory own text says = absurd says
 
 pub no-netlist : {S : Type 0} (output : S → Output) (faults : S → ℕ) (place : Place) (fault : LoadFault) (was now : S) (own : Status) → Ends output faults (LoadPrints place fault) was now own → own ≢ status.Netlist
@@ -69,14 +71,15 @@ wordless told (Some (OnFiles task options first second)) = inl (inr refl, refl)
 wordless told (Some (Demo number options)) = refl
 
 module _ (flush : Result (Unit {0}) PutFault) (own : Status) where
+  netlist-flushed : (name bytes : List ℕ) (line : ℕ) → IsToldNetlistLine name bytes own line → IsToldNetlistLine name bytes (status_flushed flush own) line
+  netlist-flushed name bytes line (inl least) = inl least
+  netlist-flushed name bytes line (inr (short, none)) = inr (short-flushed flush own short, none)
+
   first-flushed : (told : Observation) (first : List ℕ) (line : ℕ) → IsLineOfFirst told first own line → IsLineOfFirst told first (status_flushed flush own) line
   first-flushed told first line (inl (other, none)) = inl (other-flushed status.Netlist (λ is. cc) (λ is. cc) flush own other, none)
   first-flushed told first line (inr of) =
       inr (if-told told.held (λ bytes_of. IsToldNetlistLine first (bytes_of first) own line) (λ bytes_of. IsToldNetlistLine first (bytes_of first) (status_flushed flush own) line)
-      (λ bytes_of. netlist-flushed (bytes_of first)) of) where
-    netlist-flushed : (bytes : List ℕ) → IsToldNetlistLine first bytes own line → IsToldNetlistLine first bytes (status_flushed flush own) line
-    netlist-flushed bytes (inl least) = inl least
-    netlist-flushed bytes (inr (short, none)) = inr (short-flushed flush own short, none)
+      (λ bytes_of. netlist-flushed first (bytes_of first) line) of)
 
   text-flushed : (holds : TextFault → Type 0) (line : ℕ) → IsToldLine holds own line → IsToldLine holds (status_flushed flush own) line
   text-flushed holds line (inl least) = inl least
@@ -97,7 +100,7 @@ module _ (flush : Result (Unit {0}) PutFault) (own : Status) where
         place, name,
         if-told told.held (λ bytes_of. (netlist : Netlist) × IsNetlistText first (bytes_of first) netlist × IsLineOnCircuit told.held (faults_of task netlist) second own at.line)
             (λ bytes_of. (netlist : Netlist) × IsNetlistText first (bytes_of first) netlist × IsLineOnCircuit told.held (faults_of task netlist) second (status_flushed flush own) at.line)
-            (λ bytes_of (netlist, text, line). (netlist, text, circuit-flushed told.held (faults_of task netlist) second at.line line)) of,
+            (λ bytes_of read. (read.0, read.1, circuit-flushed told.held (faults_of task read.0) second at.line read.2)) of,
       )
 
   -- the last flush changes nothing of how far a call came
