@@ -3,8 +3,13 @@
 Each is a function of a size. It gives the netlist and the second text. The least sizes are chosen so that eight times as much stays
 within the limits of the program, and takes valgrind some seconds.
 """
+import os
 import random
+import sys
 from collections import namedtuple
+
+sys.path.append(os.path.join(os.path.dirname(os.path.dirname(os.path.abspath(__file__))), "tests"))
+import chosen_names
 
 # A row: the job, its name, the function, the least size, the status that is expected, whether the netlist is BLIF, and further words.
 Case = namedtuple("Case", "job name make least status is_blif options", defaults=(0, False, []))
@@ -12,8 +17,8 @@ Case = namedtuple("Case", "job name make least status is_blif options", defaults
 ONE = "INPUT(a)\ny = NOT(a)\n"
 START = "start a=0\n"
 CHANGE = "start a=0\nchange a=1\n"
-# Names of 33 bytes with this front share the plain hash: the third block equals the state of the hasher, so its product is zero.
-COLLIDING = "iIxfjvsYoPef0VLDchaq2xkq"
+# 65,536 names that share the hash without a key.
+COLLIDING = [name.decode() for name in chosen_names.of_equal_hash()]
 
 
 def lines(count, make):
@@ -82,7 +87,7 @@ def shuffled_gates(n):
 
 
 def colliding_gates(n):
-    return "INPUT(a)\n" + lines(n, lambda k: f"{COLLIDING}{k:08d}x=NOT(a)\n"), START
+    return "INPUT(a)\n" + "".join(f"{name}=NOT(a)\n" for name in COLLIDING[:n]), START
 
 
 def twice(n):
@@ -116,7 +121,7 @@ def blif_inputs(n):
 
 
 def blif_colliding(n):
-    return ".inputs " + " ".join(f"{COLLIDING}{k:08x}" for k in range(n)), "start\n"
+    return ".inputs " + " ".join(COLLIDING[:n]), "start\n"
 
 
 def blif_rows(n):
@@ -339,7 +344,8 @@ def pairs(n):
 
 
 def colliding_listed(n):
-    return "INPUT(a)\n" + lines(n, lambda k: f"{COLLIDING}{k:08d}x=NOT(a)\n"), "start a=0" + lines(n, lambda k: f" {COLLIDING}{k:08d}x=1") + "\nchange a=1\n"
+    netlist, start = colliding_gates(n)
+    return netlist, start.strip() + "".join(f" {name}=1" for name in COLLIDING[:n]) + "\nchange a=1\n"
 
 
 # ---- scripts
@@ -477,7 +483,7 @@ def runs_start(n):
 
 def runs_colliding(n):
     netlist, _ = colliding_listed(n)
-    names = [f"{COLLIDING}{k:08d}x" for k in range(1, n + 1)]
+    names = COLLIDING[:n]
     return netlist, "runs 1\nstart a=0" + "".join(f" {name}=1" for name in names) + "\ninput a=1\nrun\nstep a\n" + "".join(f"step {name}(1)\n" for name in names) + "end\n"
 
 
@@ -617,7 +623,7 @@ def reading():
             ("too many gates", many_gates, 130_000, 3),
             ("too many gates that wait", waiting_gates, 130_000, 3),
             ("too many gates in no order", shuffled_gates, 130_000, 3),
-            ("names chosen to collide", colliding_gates, 12_000, 0),
+            ("names chosen to collide", colliding_gates, 8_000, 0),
             ("one name defined again and again", twice, 200_000, 3),
             ("each name defined twice", all_twice, 60_000, 3),
             ("last line: form", last_form, 180_000, 3),
@@ -631,7 +637,7 @@ def reading():
     for name, make, least, status in (
             ("names of inputs", blif_inputs, 24_000, 4),
             ("too many names of inputs", blif_inputs, 250_000, 3),
-            ("names chosen to collide", blif_colliding, 24_000, 4),
+            ("names chosen to collide", blif_colliding, 8_000, 4),
             ("rows of one cover", blif_rows, 400_000, 3),
             ("constant covers", blif_constants, 120_000, 0),
             ("a constant that is used", blif_used_constant, 120_000, 3),
@@ -679,7 +685,7 @@ CIRCUITS = (
             ("counter", counter, 3_000),
             ("inputs", inputs, 24_000),
             ("gates of two inputs", pairs, 5_000),
-            ("names chosen to collide", colliding_listed, 10_000))
+            ("names chosen to collide", colliding_listed, 8_000))
 
 
 def analyses():

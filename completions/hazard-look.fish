@@ -14,6 +14,7 @@ complete -c hazard-look -n 'test (count (commandline -opc)) -eq 2; and not __fis
 complete -c hazard-look -n 'test (count (commandline -opc)) -eq 2; and __fish_seen_subcommand_from from-yosys' -k -a '(__fish_complete_suffix .json)' -d design
 complete -c hazard-look -n '__fish_seen_subcommand_from from-verilog' -k -a '(__fish_complete_suffix .v)' -d source
 complete -c hazard-look -s h -l help -d 'say how it is called'
+complete -c hazard-look -n '__fish_is_first_token' -l version -d 'say which version this is'
 complete -c hazard-look -n '__fish_seen_subcommand_from start summary expect why testbench page clock' -l hazard -r -F -d 'the program to ask'
 complete -c hazard-look -n '__fish_seen_subcommand_from summary' -l only -x -d 'speak of these nodes alone'
 complete -c hazard-look -n '__fish_seen_subcommand_from summary' -l all -d 'speak of the clean nodes as well'
@@ -21,6 +22,7 @@ complete -c hazard-look -n '__fish_seen_subcommand_from summary' -l outputs -d '
 complete -c hazard-look -n '__fish_seen_subcommand_from summary' -l roots -d 'leave out the echoes'
 complete -c hazard-look -n '__fish_seen_subcommand_from summary' -l fail -d 'end with 1 if there is a hazard'
 complete -c hazard-look -n '__fish_seen_subcommand_from summary expect' -l json -d 'write it as JSON'
+complete -c hazard-look -n '__fish_seen_subcommand_from expect' -l junit -d 'write it as XML of JUnit'
 complete -c hazard-look -n '__fish_seen_subcommand_from why' -l save -r -F -d 'keep the run as a run text'
 complete -c hazard-look -n '__fish_seen_subcommand_from from-yosys from-verilog' -l top -x -d 'the module to take'
 complete -c hazard-look -n '__fish_seen_subcommand_from from-yosys from-verilog' -l join -d 'make gates one again that yosys split'

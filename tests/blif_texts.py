@@ -364,11 +364,6 @@ COMMANDS = [
 ]
 
 
-# The first 24 bytes of names of 33 bytes that share the plain hash: the third block equals the state of the hasher, so its product is zero.
-# An inverter of a pin has three bytes more than its cover's output, so outputs of 30 bytes share none where their inverters do.
-COLLIDING = "iIxfjvsYoPef0VLDchaq2xkq"
-
-
 def hostile(most):
     """Texts as long as a file or a circuit may be, each with what it is refused for, in which one thing is as large or as frequent as it can be;
     and the script, if it lists anything."""
@@ -376,9 +371,6 @@ def hostile(most):
     wide = "".join("".join("01-"[(row * 7 + pin * pin + row * pin) % 3] for pin in range(255)) + "1 1\n" for row in range(256))
     return [
         ("names of inputs", ".inputs " + " ".join(f"{number:x}" for number in range(2_100_000)), "netlist: variables 2100000"),
-        ("names chosen to collide", ".inputs " + " ".join(f"{COLLIDING}{number:08}x" for number in range(490_000)), "netlist: variables 490000"),
-        ("names of gates chosen to collide", ".inputs a b\n" + "".join(f".names a b {COLLIDING}{number:06}\n00 1\n" for number in range(28_000)), "script line 1: unknown name",
-         "start a=0 b=0 " + "".join(f"{COLLIDING}{number:06}\\n1=1 " for number in range(28_000)) + "nobody=1\n"),
         ("one cover of rows", ".inputs a\n.names a y\n" + "1 1\n" * 4_190_000, "netlist line 2: pins 4190000"),
         ("constant covers", "".join(f".names x{number:07}\n" for number in range(most // 16)), None),
         ("covers of 256 pins and rows", f".inputs {pins}\n" + "".join(f".names {pins} y{number}\n{wide}" for number in range(240)), "netlist: variables 12465616"),

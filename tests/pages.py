@@ -134,6 +134,11 @@ def synthesis_rows(program, companion, folder):
         print(f"pages: {', '.join(absent)} is not installed, so the rows of {USING} are skipped")
         return
     page = read(ROOT, USING)
+    spoken_of = re.search(r"what Yosys ([0-9.]+) and its ABC", page)[1]
+    version = subprocess.run(["yosys", "-V"], env=env, stdout=subprocess.PIPE, check=False).stdout.decode().split()[1:2]
+    if version != [spoken_of]:
+        print(f"pages: yosys is not the version {spoken_of}, of which the rows of {USING} speak, so they are skipped")
+        return
     for name, text in (("top.v", MULTIPLEXER), ("set.v", SET_RESET), ("cover.blif", re.search(r"^```cover\.blif\n(.*?)^```$", page, re.S | re.M)[1]), ("n.txt", SCRIPT)):
         write(folder, name, text)
     table = page[page.index("| Commands | `z` |"):].split("\n\n")[0].splitlines()[2:]

@@ -75,6 +75,24 @@ def _pulses(circuit, rows):
         yield f"{what}: flip-flop {first}{more}"
 
 
+def left_out(circuit, change, following):
+    """A line on the flip-flops whose clock has its edge in a plain change, which neither this change nor the one that follows gives the
+    values that they read; none if there are none."""
+    found, rows = [], change.rows
+    for cut in circuit.cuts:
+        clock, reset = _CLOCK.search(cut.comment), _RESET.search(cut.comment)
+        is_reset = bool(reset) and rows[reset[1]].b == reset[2]
+        if clock and not is_reset and cut.name not in change.assigned and cut.name not in following:
+            row, new = rows[clock[1]], str(int(clock[2] == "rising"))
+            if row.start != new == row.b and rows[cut.data].start != rows[cut.name].start:
+                found.append(cut.name)
+    if not found:
+        return []
+    inputs = [name if bit else f"{name}=0" for name, bit in change.changes().items() if name in circuit.primary]
+    more = f" and {len(found) - 1} more keep their bits" if len(found) > 1 else " keeps its bit"
+    return [f"flip-flop {found[0]}{more}: a plain change of a clock moves no flip-flop, a line `#clock {inputs[0] if len(inputs) == 1 else 'NAME'}` does"]
+
+
 class _Made:
     """A change that is written: its line in the script that is read, what it assigns, and the nodes that it brings to another value."""
 

@@ -43,6 +43,15 @@ def read_file(path):
         raise Failure(f"{path}: {fault.strerror or fault}", FILE_NOT_READ) from fault
 
 
+def begins_with_mark(path):
+    """Whether a file begins with a byte order mark, of UTF-8 or of UTF-16, as some editors write it."""
+    try:
+        with open(path, "rb") as file:
+            return file.read(3).startswith((b"\xef\xbb\xbf", b"\xff\xfe", b"\xfe\xff"))
+    except OSError:
+        return False
+
+
 def must_be_plain(path):
     """Fails for a pipe or a device, which can be read once: `hazard` and this program both read each file. What is wrong with a path
     that names nothing, or a folder, `hazard` says."""

@@ -1,9 +1,9 @@
 """The job `expect`: expectations in the comments of a script, so that the script stays one and is a test as well."""
 import json
 from functools import cached_property
-from typing import NamedTuple
+from typing import NamedTuple, Optional
 
-from . import expectations, runtext, script
+from . import expectations, junit, runtext, script
 from .circuit import load
 from .errors import DOES_NOT_HOLD, DONE, WRONG_WORDS, Failure
 from .expectations import Class, Edges, Never
@@ -14,9 +14,10 @@ from .search import Searcher, Values
 
 
 class Answer(NamedTuple):
-    """Whether an expectation holds, a remark that is worth a line in either case, and the node of which it speaks."""
+    """Whether an expectation holds, or None if it was not checked; a remark that is worth a line in either case; the node of which it
+    speaks."""
 
-    holds: bool
+    holds: Optional[bool]
     remark: str
     node: str = ""
 
@@ -27,7 +28,7 @@ class Tally:
 
     def __init__(self):
         self.all = self.failed = self.not_checked = 0
-        self.findings, self.stopped = [], []
+        self.findings, self.stopped, self.cases = [], [], []
 
     def spelt(self):
         """The last line."""
@@ -38,10 +39,12 @@ class Tally:
 def run(words, out):
     """Checks the expectations of a script, and writes a line for each that does not hold."""
     report = words.program.analyse(words.netlist, words.script)
-    tally = checked(words, report.changes)
+    tally = checked(words, report.changes, words.junit)
     if not tally.all:
         raise Failure("no comment of the script begins with `#expect`, so nothing is checked", WRONG_WORDS)
-    if words.json:
+    if words.junit:
+        out.write(junit.text(words, tally))
+    elif words.json:
         out.write(json.dumps({"netlist": words.netlist, "script": words.script, "expectations": tally.all, "failed": tally.failed,
                               "not checked": tally.not_checked, "findings": tally.findings, "not analysed": tally.stopped}, indent=1) + "\n")
     else:
@@ -54,8 +57,9 @@ def run(words, out):
     return DOES_NOT_HOLD if tally.failed or tally.not_checked else DONE
 
 
-def checked(words, changes):
-    """The tally of all expectations of a script along the changes of a report."""
+def checked(words, changes, keeps_all=False):
+    """The tally of all expectations of a script along the changes of a report. It keeps each that was checked if that is wanted, and else
+    those that are worth a line."""
     circuit = load(words.netlist)
     statements = script.must_be_written_out(words.script)
     expected = expectations.read(words.script, statements, circuit)
@@ -67,8 +71,14 @@ def checked(words, changes):
             tally.all += 1
             if change.stopped:
                 tally.not_checked += 1
+                answer = Answer(None, f"not checked: {change.stopped} did not settle before")
             else:
-                _note(tally, words, bench, one, first)
+                answer = bench.answer(one, first)
+                tally.failed += not answer.holds
+                if answer.remark:
+                    tally.findings.append(_finding(words, bench, one, first, answer))
+            if keeps_all:
+                tally.cases.append(_finding(words, bench, one, first, answer))
         if change.stopped:
             _note_stopped(tally, words, plan, change)
     if tally.stopped:
@@ -76,15 +86,13 @@ def checked(words, changes):
     return tally
 
 
-def _note(tally, words, bench, one, first):
-    """Judges an expectation, and notes what is worth a line."""
-    answer, change = bench.answer(one, first), bench.change
-    tally.failed += not answer.holds
-    if answer.remark:
-        title = change.title() if first == change.number else f"{first} to {change.title()}"
-        tally.findings.append({"file": words.script, "line": one.line, "change": title, "number": change.number, "first": first, "holds": answer.holds,
-                               "expectation": one.text, "remark": answer.remark, "node": answer.node,
-                               "netlist": bench.circuit.place(answer.node, words.netlist)})
+def _finding(words, bench, one, first, answer):
+    """What is told of an expectation that was judged at the end of a change."""
+    change = bench.change
+    title = change.title() if first == change.number else f"{first} to {change.title()}"
+    return {"file": words.script, "line": one.line, "change": title, "number": change.number, "first": first, "holds": answer.holds,
+            "expectation": one.text, "remark": answer.remark, "node": answer.node,
+            "netlist": bench.circuit.place(answer.node, words.netlist)}
 
 
 def _note_stopped(tally, words, plan, change):

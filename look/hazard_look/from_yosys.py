@@ -34,7 +34,8 @@ def write(text, words, name, out):
         design = _Design(_module(json.loads(text)["modules"], words, name))
         netlist_text = design.text(words.join)
     except _STRANGE as fault:
-        raise Failure(f"{name}: not what `write_json` of yosys writes", NETLIST_FAULT) from fault
+        hint = "; `hazard-look from-verilog` reads Verilog" if name.lower().endswith((".v", ".sv")) else ""
+        raise Failure(f"{name}: not what `write_json` of yosys writes{hint}", NETLIST_FAULT) from fault
     if not netlist_text.strip():
         raise Failure(f"{name}: the module has neither ports nor cells", NETLIST_FAULT)
     out.write(netlist_text)

@@ -31,6 +31,8 @@ class Network:
                 self.gate.append(place)
                 self.names.append(f"{gate.name}({pin})")
         self.number = {name: at for at, name in enumerate(self.names)}
+        # the last cone that was asked for
+        self._cone = None, None
 
     def is_input(self, variable):
         return variable < self.inputs
@@ -68,16 +70,22 @@ class Network:
         return [self.gate[variable]] if variable >= self.nodes else self.fan_out[variable]
 
     def cone(self, node):
-        """The variables on which a node depends, with itself."""
-        found, waiting = {node}, [node]
-        while waiting:
-            variable = waiting.pop()
-            if variable >= self.inputs:
-                for read in (self.source[variable],) if variable >= self.nodes else self.wires(variable):
-                    if read not in found:
-                        found.add(read)
-                        waiting.append(read)
-        return found
+        """The variables on which a node depends, with itself. Who asks does not change the set."""
+        if self._cone[0] != node:
+            found, waiting = {node}, [node]
+            while waiting:
+                variable = waiting.pop()
+                if variable >= self.inputs:
+                    for read in (self.source[variable],) if variable >= self.nodes else self.wires(variable):
+                        if read not in found:
+                            found.add(read)
+                            waiting.append(read)
+            self._cone = node, found
+        return self._cone[1]
+
+    def looped(self):
+        """The gates that depend on themselves."""
+        return {self.number[name] for loop in self.netlist.loops() for name in loop}
 
 
 def gate_value(kind, ones, pins):
@@ -99,18 +107,15 @@ class Follower:
         for wire in range(network.nodes, len(self.value)):
             self.ones[network.gate[wire]] += self.value[wire]
 
-    def excitation(self, variable):
-        """What drives the variable asks for."""
-        network = self.network
-        if variable >= network.nodes:
-            return self.value[network.source[variable]]
-        if variable < network.inputs:
-            return self.target[variable]
-        needed = network.needed[variable]
-        return (self.ones[variable] >= needed if needed else self.ones[variable] & 1) ^ network.inverted[variable]
-
     def is_unstable(self, variable):
-        return self.value[variable] != self.excitation(variable)
+        """Whether what drives a variable asks for another value."""
+        network, value = self.network, self.value
+        if variable >= network.nodes:
+            return value[variable] != value[network.source[variable]]
+        if variable < network.inputs:
+            return value[variable] != self.target[variable]
+        needed, ones = network.needed[variable], self.ones[variable]
+        return value[variable] != (ones >= needed if needed else ones & 1) ^ network.inverted[variable]
 
     def flip(self, variable):
         """Changes one variable, whether it is unstable or not."""
@@ -128,11 +133,22 @@ class Follower:
             self.flip(variable)
         return moved
 
-    def undo(self, steps):
-        """Goes back over steps that were made, in any order."""
+    def flip_all(self, steps):
+        """Changes the variables of some steps, whether they are unstable or not. The same steps once more, in any order, take that back."""
+        value, ones, gate, nodes = self.value, self.ones, self.network.gate, self.network.nodes
         for step in steps:
             for variable in step:
-                self.flip(variable)
+                bit = value[variable] = value[variable] ^ 1
+                if variable >= nodes:
+                    ones[gate[variable]] += 1 if bit else -1
+
+    def kept(self):
+        """The state, to go back to."""
+        return self.value[:], self.ones[:]
+
+    def back_to(self, kept):
+        """Goes back to a state that was kept, once."""
+        self.value, self.ones = kept
 
     def unstable(self):
         """All variables that are unstable."""

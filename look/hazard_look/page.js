@@ -27,10 +27,13 @@ function play() {
 
 // ---- choices ----
 
-/** Chooses a node, with the run that shows most of it, at its first edge there. */
+/** Chooses a node, with the run that shows most of it, at its first edge there: the one of `why`; or else the one that is shown, if the
+ * node moves in it; or else the one in which it moves most. */
 function chooseNode(node) {
-  const at = runsOf().findIndex(one => one.node === node);
-  if (at < 0 || at === view.run) return choose({ node });
+  const edges = runsOf().map(one => one.steps.filter(step => step.includes(node)).length);
+  const own = runsOf().findIndex(one => one.node === node), most = Math.max(0, ...edges);
+  const at = own >= 0 ? own : edges[view.run] || !most ? view.run : edges.indexOf(most);
+  if (at === view.run) return choose({ node });
   view.node = node;
   view.run = at;
   choose({ node, step: opening(node) });

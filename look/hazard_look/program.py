@@ -8,7 +8,7 @@ import sys
 import tempfile
 
 from . import report
-from .errors import DOES_NOT_HOLD, NAME_NOT_READ, NO_PROGRAM, NOT_ACCEPTED, OUTPUT_FAILED, OWN_FAULT, SCRIPT_FAULT, SIGNALLED, Failure
+from .errors import DOES_NOT_HOLD, NAME_NOT_READ, NO_PROGRAM, NOT_ACCEPTED, OUTPUT_FAILED, OWN_FAULT, SCRIPT_FAULT, SIGNALLED, Failure, begins_with_mark, read_file
 from .terminal import Progress
 
 VARIABLE = "HAZARD"
@@ -17,6 +17,7 @@ HINTS = (
     (r"netlist line \d+: construct", "flip-flops, latches and cells come by way of Yosys, `read_blif -sop`, and `hazard-look from-yosys`"),
     (r"netlist line \d+: constant", "let it be an input, which the script never changes; `hazard-look from-yosys` does so"),
     (r"netlist line \d+: unknown kind", "the kinds are AND, NAND, OR, NOR, XOR, XNOR, NOT, BUFF and DFF; any other cell is written as gates"),
+    (r"netlist line \d+: pins", "NOT, BUFF and DFF have one pin, and a gate has 256 at most"),
     (r"netlist line \d+: undefined name", "nothing drives it; an input has a line `INPUT(NAME)`, or stands behind `.inputs`"),
     (r"script line \d+: unknown name", "a start assigns nodes of the netlist, a change inputs and flip-flops alone"),
     (r"script line 0: order", "no line is a statement; a script begins with a line `start`, which `hazard-look start` writes"),
@@ -120,7 +121,7 @@ class Program:
         with self._running(words) as running:
             for number, line in enumerate(running.stdout):
                 if number == 0 and line.startswith("refused: "):
-                    raise Failure(f"hazard: {line.strip()}{_hint(line, words[1])}", _status(running.wait()))
+                    raise Failure(f"hazard: {line.strip()}{_hint(line, words)}", _status(running.wait()))
                 yield line.rstrip("\n")
             if running.wait() != 0:
                 ended = f"with status {running.returncode}" if running.returncode > 0 else f"by signal {-running.returncode}"
@@ -142,14 +143,27 @@ def _status(code):
     return OWN_FAULT if code == DOES_NOT_HOLD else code
 
 
-def _hint(line, netlist):
-    """What helps after the line of a refusal, with the mark that goes before it."""
-    refusal = line.removeprefix("refused: ")
+def _hint(line, words):
+    """What helps after the line of a refusal of some words, with the mark that goes before it."""
+    refusal, netlist = line.removeprefix("refused: "), words[1]
+    text = re.match("(netlist|script) line ([0-9]+): ", refusal)
+    if text and text[2] == "1" and begins_with_mark(words[1 if text[1] == "netlist" else 2]):
+        return "; the file begins with a byte order mark: save it as UTF-8 without one"
+    if text and text[1] == "netlist" and _is_of_script(netlist, int(text[2])):
+        return "; that is a line of a script, and the netlist comes before the script"
     if refusal.startswith("netlist ") and netlist.lower().endswith((".v", ".sv")):
-        return "; Verilog goes by way of Yosys: see `hazard-look from-yosys --help`"
+        return "; Verilog goes by way of Yosys: `hazard-look from-verilog` makes a netlist of it"
+    if re.match(r"netlist line \d+: form", refusal) and not netlist.lower().endswith((".blif", ".json")):
+        return "; a line is `INPUT(a)`, `OUTPUT(z)` or `z = AND(a, b)`; a comment begins with #"
     if refusal.startswith("netlist ") and netlist.lower().endswith(".json"):
         return "; `hazard-look from-yosys` makes a netlist of what `write_json` of Yosys writes"
     return next((f"; {hint}" for form, hint in HINTS if re.match(form, refusal)), "")
+
+
+def _is_of_script(path, number):
+    """Whether a line of a file is a statement of a script."""
+    lines = read_file(path).split("\n", number)
+    return number <= len(lines) and bool(re.match(r"\s*(start|change)\s+\S+\s*=\s*[01?]", lines[number - 1], re.I))
 
 
 @contextlib.contextmanager

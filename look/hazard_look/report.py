@@ -30,11 +30,14 @@ class Change(NamedTuple):
     run_lines: List[str]
     stopped: Optional[str]
 
+    def changes(self):
+        """The inputs that get another value, with that. None are known of a change that is not analysed."""
+        return {name: bit for name, bit in self.assigned.items() if self.rows and self.rows[name].start != str(bit)}
+
     def title(self):
         """The number and the inputs that change, as in `3 ck=0`; all that are assigned if none does or if that isn't known. Of many the
         first."""
-        changed = {name: bit for name, bit in self.assigned.items() if self.rows and self.rows[name].start != str(bit)}
-        words = [f" {name}={bit}" for name, bit in (changed or self.assigned).items()]
+        words = [f" {name}={bit}" for name, bit in (self.changes() or self.assigned).items()]
         more = f" and {len(words) - MOST_TITLED} more" if len(words) > MOST_TITLED else ""
         return f"{self.number}" + "".join(words[:MOST_TITLED]) + more
 

@@ -38,15 +38,17 @@ class RunText(NamedTuple):
 def read(lines):
     """The run text of a report's lines, from `runs` to `end`."""
     at, text = _head(lines)
-    runs = []
+    runs, steps = [], []
     for line in lines[at + 2:-1]:
         word, *step = line.split()
+        if word == "step":
+            steps.append(step)
+            continue
+        steps = []
         if word == "run":
-            runs.append(Run([], None))
-        elif word == "cycle":
-            runs[-1] = runs[-1]._replace(cycle=[])
+            runs.append(Run(steps, None))
         else:
-            (runs[-1].lead if runs[-1].cycle is None else runs[-1].cycle).append(step)
+            runs[-1] = runs[-1]._replace(cycle=steps)
     return text.of(runs)
 
 

@@ -99,19 +99,20 @@ class Searcher:
         steps = first_edge(self.follower, node, cone)
         if steps is None:
             return None
-        for (variable,) in steps:
-            self.follower.flip(variable)
+        follower, readers = self.follower, self.network.readers
+        kept = follower.kept()
+        follower.flip_all(steps)
         made, left = (sum(node in step for step in steps)), 4 * len(cone) + 100
-        waiting = deque(variable for variable in sorted(cone) if self.follower.is_unstable(variable)) if made < count else ()
+        waiting = deque(variable for variable in sorted(cone) if follower.is_unstable(variable)) if made < count else ()
         while waiting and made < count and left:
             variable = waiting.popleft()
-            if self.follower.is_unstable(variable):
-                self.follower.flip(variable)
+            if follower.is_unstable(variable):
+                follower.flip(variable)
                 steps.append([variable])
                 made += variable == node
                 left -= 1
-                waiting.extend(reader for reader in self.network.readers(variable) if reader in cone and self.follower.is_unstable(reader))
-        self.follower.undo(reversed(steps))
+                waiting.extend(reader for reader in readers(variable) if reader in cone and follower.is_unstable(reader))
+        follower.back_to(kept)
         return steps if made == count else None
 
     def _random_runs(self, cone):
@@ -148,7 +149,7 @@ class Searcher:
                 steps.append([variable])
                 for reader in self.network.readers(variable):
                     look_at(reader, now)
-        follower.undo(steps)
+        follower.flip_all(steps)
         return steps
 
     def endings(self, node):
@@ -160,7 +161,7 @@ class Searcher:
             for step in steps:
                 self.follower.move(step)
             bit, rests = self.follower.value[node], not self.follower.unstable()
-            self.follower.undo(steps)
+            self.follower.flip_all(steps)
             if rests and (bit not in found or len(steps) < len(found[bit])):
                 found[bit] = steps
         return found
@@ -178,7 +179,7 @@ class Searcher:
             steps.append(self.follower.unstable())
             self.follower.move(steps[-1])
         begin = seen.get(bytes(self.follower.value))
-        self.follower.undo(steps)
+        self.follower.flip_all(steps)
         if begin is None or len(set(values[begin:])) < 2:
             return None
         return steps[:begin], steps[begin:]
@@ -252,11 +253,13 @@ def sliced(follower, steps, node, moving):
 
 def is_run(follower, steps):
     """Whether each of some single changes is one of an unstable variable; the follower is where it was."""
-    made = 0
-    while made < len(steps) and follower.is_unstable(steps[made][0]):
-        follower.flip(steps[made][0])
+    kept, made = follower.kept(), 0
+    for (variable,) in steps:
+        if not follower.is_unstable(variable):
+            break
+        follower.flip(variable)
         made += 1
-    follower.undo(steps[:made])
+    follower.back_to(kept)
     return made == len(steps)
 
 
@@ -273,7 +276,7 @@ def play(follower, steps, goal):
         if moved:
             made.append(moved)
             reached = goal.is_reached(moved, follower)
-    follower.undo(made)
+    follower.flip_all(made)
     return made if reached else None
 
 

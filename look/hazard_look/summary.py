@@ -1,9 +1,9 @@
 """The job `summary`: a line for each change of a script, and a sentence for each node that may do more than one clean edge."""
 import json
 
-from . import script
+from . import clock, script
 from .circuit import load, no_node
-from .errors import DOES_NOT_HOLD, DONE, WRONG_WORDS, Failure
+from .errors import DOES_NOT_HOLD, DONE, WRONG_WORDS, Failure, say
 from .moves import Moves, is_clean, kind_of
 from .one_edge import one_edge
 
@@ -69,6 +69,9 @@ class _Teller:
         self.words, self.circuit = words, circuit
         self.line_of, self.first_of = script.lines_of_changes(statements), script.edges_of(statements)
         self.firsts = set(self.first_of.values())
+        changes = [statement for statement in statements if statement.keyword == "change"]
+        # of each plain change, which is none of an edge that is written out, what the next one assigns
+        self.following = {number: after.values if after else {} for number, (one, after) in enumerate(zip(changes, changes[1:] + [None]), 1) if not one.texts("edge")}
         self.chosen = _chosen(words, circuit)
         self.moves, self.stopped, self.told, self.data = None, None, 0, []
 
@@ -81,6 +84,8 @@ class _Teller:
         finding = Finding(self.circuit, change)
         told = [row for row in finding.roots + ([] if self.words.roots else finding.echoes) if row.name in self.chosen]
         pulses = self._pulses(change, finding.edges)
+        for line in clock.left_out(self.circuit, change, self.following[change.number]) if change.number in self.following else ():
+            say(f"hazard-look: {self.words.script}:{self.line_of[change.number]}: {line}")
         self.told += len(told) + len(pulses)
         if self.words.json:
             self.data.append(self._as_data(change, told, finding, pulses))
@@ -122,7 +127,7 @@ class _Teller:
         of_root = {row.name for row in finding.roots}
         rows = told if self.words.all or len(told) <= MOST_LINES else [row for row in told if row.name in of_root][:None if self.words.roots else MOST_LINES]
         more = len(told) - len(rows)
-        lines = [f"{change.title()}: {_verdict(told, finding)}"] + [self._line(row, finding) for row in rows]
+        lines = [f"{change.title()}: {_verdict(told, finding)}{'' if change.changes() else '; no input changes'}"] + [self._line(row, finding) for row in rows]
         lines += [f"  .. and {more} more, which --all has"] if more else []
         names = {row.name for row in told}
         return lines + [self._line(row, finding) for row in change.rows.values() if self.words.all and row.name in self.chosen and row.name not in names]

@@ -17,13 +17,14 @@ class Wave(NamedTuple):
 def waves(follower, steps, variables, begin=0):
     """The waves of some variables along a run from one of its states on; the follower is where it was."""
     found = {variable: Wave(follower.network.names[variable], [], []) for variable in variables}
-    for number, step in enumerate([[]] + steps):
-        for variable in step:
-            follower.flip(variable)
-        for variable, wave in found.items() if number >= begin else ():
+    kept = follower.kept()
+    follower.flip_all(steps[:begin])
+    for step in [[]] + steps[begin:]:
+        follower.flip_all([step])
+        for variable, wave in found.items():
             wave.values.append(follower.value[variable])
             wave.unstable.append(follower.is_unstable(variable))
-    follower.undo(steps)
+    follower.back_to(kept)
     return list(found.values())
 
 

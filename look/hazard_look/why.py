@@ -123,10 +123,10 @@ def in_place(comparison, first, other):
 
 def _essential(network, comparisons):
     """That a change of an input reaches a gate by its own way after it has come through the feedback, as Unger names it."""
-    turns = lambda path: any(not network.is_wire(gate) and any(gate in network.cone(pin) for pin in network.reads(gate)) for gate in path)
-    for early, late in comparisons:
-        starts = any(map(network.is_input, early + late))
-        if not starts and turns(early[:-1]) and not turns(late):
+    known = [(early[:-1], late) for early, late in comparisons if not any(map(network.is_input, early + late))]
+    looped = network.looped() if known else set()
+    for early, late in known:
+        if not looped.isdisjoint(early) and looped.isdisjoint(late):
             return ["an essential hazard: an input's own way is slower than its way through the feedback; delay in the feedback takes it away"]
     return []
 
@@ -207,11 +207,10 @@ def _variables(searcher, node, steps):
     """The variables of a waveform: of the node's cone the last ones that change, by their first step; then those that wait at the
     end; and the node."""
     follower, cone = searcher.follower, searcher.network.cone(node)
-    for step in steps:
-        for variable in step:
-            follower.flip(variable)
+    kept = follower.kept()
+    follower.flip_all(steps)
     waiting = [variable for variable in sorted(cone) if follower.is_unstable(variable)]
-    follower.undo(steps)
+    follower.back_to(kept)
     moving = dict.fromkeys(variable for step in steps for variable in step if variable in cone)
     waiting = [variable for variable in waiting if variable not in moving and variable != node]
     moving.pop(node, None)

@@ -5,7 +5,7 @@ import re
 import sys
 import traceback
 
-from . import clock, expect, from_verilog, from_yosys, page, program, start, summary, terminal, testbench, why
+from . import VERSION, clock, expect, from_verilog, from_yosys, page, program, start, summary, terminal, testbench, why
 from .errors import INTERRUPTED, OUTPUT_FAILED, OWN_FAULT, WRONG_WORDS, Failure, must_be_plain, say
 
 ABOUT = """The companion of `hazard`: it shows what a circuit does, asks why, and keeps it as a test. Each value and class
@@ -72,6 +72,7 @@ def _failed(lines, status):
 def parser():
     """The parser of the words, with the help of each job."""
     top = argparse.ArgumentParser("hazard-look", description=ABOUT, epilog=STATUSES, allow_abbrev=False)
+    top.add_argument("--version", action="version", version=f"hazard-look {VERSION}", help="say which version this is")
     jobs = top.add_subparsers(title="jobs", metavar="JOB", required=True)
     _netlist_job(jobs, "start", start.run, "the first line of a script: what it has to list, with `?` for each bit")
     job = _job(jobs, "summary", summary.run, "a line for each change, and what each hazard means")
@@ -82,7 +83,9 @@ def parser():
     job.add_argument("--fail", action="store_true", help="write each hazard as FILE:LINE: .., and end with 1 if there is one")
     job.add_argument("--json", action="store_true", help="write it as JSON")
     job = _job(jobs, "expect", expect.run, "check the comments `#expect ..` of a script")
-    job.add_argument("--json", action="store_true", help="write it as JSON")
+    form = job.add_mutually_exclusive_group()
+    form.add_argument("--json", action="store_true", help="write it as JSON")
+    form.add_argument("--junit", action="store_true", help="write it as JUnit's XML, for a CI that shows tests")
     job = _job(jobs, "why", why.run, "a short run in which a node makes its hazard")
     _node(job)
     job.add_argument("--save", metavar="FILE", help="keep the run as a run text for `hazard replay`")

@@ -46,6 +46,7 @@ def rows(folder, call, write, example):
     yield from _crossings(opened, call, example)
     yield from _stopped(opened, call, write, folder, example)
     yield from _expected(opened, call, write, folder)
+    yield from _other_root(opened, call, write, folder)
     yield from _clean(opened, call, write, folder)
     yield from _large(opened, call, write, folder)
 
@@ -129,6 +130,18 @@ def _expected(opened, call, write, folder):
     told, errors = opened(page, 'tell("opened"); told.red = document.querySelector("nav .failed").textContent; told.said = document.querySelector("aside .failed").textContent; press("hidden"); tell("hidden");')
     yield "a change of which an expectation fails", (errors, told["red"], told["said"]), ([], "2 b=1clean; 1 #expect failed", "#expect failed: z steady: its class is single")
     yield "the failed change is chosen", (told["opened"]["nav"], told["opened"]["chosen"], told["hidden"]["changes"]), ("1 a=11 hazard2 b=1clean; 1 #expect failed", "b", 2)
+
+
+def _other_root(opened, call, write, folder):
+    """Of a hazard that the run of `why` does not show a run is shown in which it moves."""
+    bench = write(folder, "o.bench", "INPUT(a)\nINPUT(b)\nn = NOT(a)\nh = AND(a, n)\nm = NOT(b)\nk = AND(b, m)\n")
+    page = call(["page", bench, write(folder, "o.txt", "start a=0 b=0\nchange a=1 b=1\n")])[1]
+    told, errors = opened(page, """
+        tell("opened"); key("ArrowDown"); tell("other"); told.moves = edgesOf(view.node).length;
+        boxOf("m").dispatchEvent(new MouseEvent("click")); tell("kept"); boxOf("h").dispatchEvent(new MouseEvent("click")); tell("first");""")
+    seen = [(told[name]["chosen"], told[name]["which"].partition(",")[0]) for name in ("opened", "other", "kept", "first")]
+    yield "a run for each hazard", (errors, seen, told["moves"] > 0, told["other"]["step"] != "step 0"), (
+        [], [("h", "why h: a pulse"), ("k", "report: settle run"), ("m", "report: settle run"), ("h", "why h: a pulse")], True, True)
 
 
 def _clean(opened, call, write, folder):

@@ -33,6 +33,7 @@ def rows(folder, run, write):
     for job, *more in (["summary"], ["expect"], ["why", "y"], ["page"]):
         yield f"an edge that is not written out, {job}", run([job, unread, edges] + more, folder), (
             2, "", f"hazard-look: {folder}/n.txt:2: the edge is not written out; call `hazard-look clock` first\n")
+    yield from _plain_changes(folder, run, write, bench, start)
     early = write(folder, "e.txt", "#clock ck\n" + start)
     yield "an edge before the start", run(["clock", bench, early], folder), (
         4, "", f"hazard-look: {folder}/e.txt:1: an edge stands after the start\n")
@@ -43,3 +44,17 @@ def rows(folder, run, write):
     yield "a race", run(["clock", latch, write(folder, "l.txt", "start r=1 s=1\nchange r=0 s=0\n#clock")], folder)[::2], (
         1, f"hazard-look: {folder}/l.txt:2: q does not settle after `change r=0 s=0`\n")
     yield "nothing is written of a script that has a fault", run(["clock", bench, write(folder, "c.txt", start + "#clock ck\n#clock dk\n")], folder)[:2], (4, "")
+
+
+def _plain_changes(folder, run, write, bench, start):
+    """A summary warns of a plain change of a clock that leaves flip-flops behind; not if a change gives them what they read, if they read
+    what they have, or if they are reset."""
+    kept = lambda first, more, edge: [f"flip-flop {first}{more}: a plain change of a clock moves no flip-flop, a line `#clock {edge}` does"]
+    cases = [("change ck=1\n", kept("c", " and 1 more keep their bits", "ck")), ("change ck=1\nchange c=1\n", kept("e", " keeps its bit", "ck")), ("change ck=1 c=1\nchange e=0\n", []),
+             ("change d=0\nchange ck=1\nchange ck=0\n", kept("b", " keeps its bit", "ck=0")), ("change r=1\nchange ck=1 c=1\n", []), ("change ck=1 d=0\n", kept("e", " keeps its bit", "NAME"))]
+    for text, wanted in cases:
+        path = write(folder, "k.txt", start.replace("a=0", "a=1") + text)
+        found = run(["summary", bench, path], folder)[2].splitlines()
+        yield f"plain changes {text!r}", [line.split(": ", 2)[2] for line in found], wanted
+    written = run(["clock", bench, write(folder, "k.clk", start + "#clock ck\n#clock ck=0\n")], folder)[1]
+    yield "edges that are written out", run(["summary", bench, write(folder, "k.txt", written)], folder)[2], ""

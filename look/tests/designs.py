@@ -6,6 +6,7 @@ The files NAME.json come from `yosys -p "read_verilog NAME.v; synth -flatten -to
 import json
 import os
 import random
+import re
 import shutil
 import subprocess
 from itertools import product
@@ -207,6 +208,10 @@ def _refused(folder, run):
         with open(path, "w", encoding="utf-8") as file:
             file.write(text)
         yield f"refused: {text[:20]}", run(["from-yosys", path], folder), (3, "", f"hazard-look: {path}: {wanted}\n")
+    verilog = os.path.join(folder, "f.v")
+    with open(verilog, "w", encoding="utf-8") as file:
+        file.write("module f;\n")
+    yield "refused: Verilog", run(["from-yosys", verilog], folder), (3, "", f"hazard-look: {verilog}: {other}; `hazard-look from-verilog` reads Verilog\n")
     strange = design({"u": cell("$_AND_", A=2, B="1", Y=3)}, **{"a b,(c)": port("input", 2), "a_b__c_": port("output", 3)})
     with open(path, "w", encoding="utf-8") as file:
         json.dump(strange, file)
@@ -271,7 +276,10 @@ def _joined(folder, run):
     words = "read_verilog join.v; synth -flatten -noabc -top top; opt_clean; rename -enumerate; write_json join.json"
     subprocess.run(["yosys", "-q", "-p", words], cwd=folder, stdout=subprocess.DEVNULL, stderr=subprocess.DEVNULL, check=True)
     status, found, _ = run(["from-yosys", "--join", "join.json"], folder)
-    yield "joined gates of yosys", (status, dict(line.partition("  #")[0].split(" = ") for line in found.splitlines() if " = " in line)), (0, wanted)
+    # the order of pins is that of the version of yosys
+    made = dict(line.partition("  #")[0].split(" = ") for line in found.splitlines() if " = " in line)
+    pins = lambda gates: {name: sorted(re.findall(r"\w+", gate)) for name, gate in gates.items()}
+    yield "joined gates of yosys", (status, pins(made)), (0, pins(wanted))
 
 
 def _write(folder, name, text):

@@ -1,5 +1,7 @@
 """Expectations that hold, that do not, that can't be read, and that could be left out unseen."""
 import json
+import os
+import xml.etree.ElementTree as tree
 
 GATE = "INPUT(ck)\nINPUT(en)\ngck = AND(ck, en)\n"
 # a clock edge at which z pulses by itself, and one at which it is cut in two
@@ -17,6 +19,7 @@ def rows(folder, run, write, example, expected):
     yield from _not_analysed(mutex, asked)
     yield from _edges(folder, run, write)
     yield from _as_data(folder, gate, run, write)
+    yield from _as_tests(folder, run, write)
 
 
 def _judged(folder, gate, mutex, asked, expected):
@@ -108,3 +111,20 @@ def _as_data(folder, gate, run, write):
     yield "a summary that fails", run(["summary", "--fail", "h.bench", "h.txt", "--roots"], folder)[:2], (
         1, "h.txt:3: change 1 a=1: h static-0: it is 0 before and after, and may pulse to 1 in between (h.bench:4)\n")
     yield "a summary that does not fail", run(["summary", "--fail", "h.bench", "h.txt", "--only", "n"], folder)[:2], (0, "0 findings\n")
+
+
+def _as_tests(folder, run, write):
+    """`--junit` has a test for each expectation in each change, whatever letters names have, also in a place that has few letters."""
+    bench = write(folder, "j.bench", "INPUT(<&>)\nINPUT(r)\nINPUT(s)\n\"e = NOT(<&>)\nq = NOR(r, p)\np = NOR(s, q)\n")
+    script = write(folder, "jé.txt", "start <&>=0 r=1 s=1 #expect \"e clean\nchange <&>=1 #expect \"e static, never <&>=0 \"e=0\nchange r=0 s=0\nchange r=1\n")
+    status, text, _ = run(["expect", "--junit", bench, script], folder, env=dict(os.environ, PYTHONIOENCODING="ascii"))
+    found = tree.fromstring(text)
+    yield "a document for a CI", (status, text.isascii(), [dict(one.attrib) for one in found.iter("testsuite")]), (
+        1, True, [{"name": script, "tests": "4", "failures": "1", "errors": "1", "skipped": "0"}])
+    yield "its tests", [(one.get("line"), one.get("name"), [(part.tag, part.get("message")) for part in one]) for one in found.iter("testcase")], [
+        ("2", 'line 2, change 1 <&>=1: "e static', [("failure", f"its class is single ({bench}:4)")]),
+        ("2", 'line 2, change 1 <&>=1: never <&>=0 "e=0', [("properties", None)]),
+        ("1", 'line 1, change 2 r=0 s=0: "e clean', []),
+        ("1", 'line 1, change 3 r=1: "e clean', [("error", "not checked: q did not settle before")])]
+    yield "its remarks", [one.get("value") for one in found.iter("property")], ["not shown, which is no proof"]
+    yield "one form alone", run(["expect", "--junit", "--json", bench, script], folder)[:2], (2, "")

@@ -140,7 +140,7 @@ def _timed(follower, node, delay):
                 look_at(reader, now)
             look_at(variable, now)
     end = follower.value[node]
-    follower.undo(steps)
+    follower.flip_all(steps)
     return edges, end
 
 

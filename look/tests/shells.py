@@ -19,9 +19,9 @@ heard() { # everything up to a pattern, or what there is after some seconds
 }
 zpty z zsh -f -i
 zpty -w z "PS1=; fpath=($1 \$fpath); autoload -U compinit; compinit -u -D; setopt nolistbeep; LISTMAX=0; echo BE''GIN"
-heard BEGIN 60
+heard BEGIN 300
 zpty -w -n z "hazard-look $2"$'\x04'
-heard "hazard-look $2*hazard-look" 30
+heard "hazard-look $2*hazard-look" 300
 print -r -- $all
 """
 
@@ -43,14 +43,14 @@ def rows(folder, root, run, write):
 
 def _output(words, folder):
     done = subprocess.run(words, cwd=folder, env=dict(os.environ, HOME=folder, TERM="dumb"), stdin=subprocess.DEVNULL, stdout=subprocess.PIPE,
-                          stderr=subprocess.DEVNULL, timeout=200, check=False)
+                          stderr=subprocess.DEVNULL, timeout=700, check=False)
     return done.stdout.decode(errors="replace")
 
 
 def _bash(folder, script, jobs, options):
     def told(*asked):
         return sorted(_output(["bash", "-c", BASH, script, "hazard-look", *asked], folder).split())
-    yield "bash: jobs", told(""), sorted(jobs + ["--help"])
+    yield "bash: jobs", told(""), sorted(jobs + ["--help", "--version"])
     for job in jobs:
         yield f"bash: options of {job}", told(job, "-"), sorted(options[job])
         yield f"bash: first file of {job}", told(job, ""), [FIRST[job]] if job in FIRST else ["m.BLIF", "n.bench"]
@@ -65,6 +65,7 @@ def _fish(folder, place, jobs, options):
         lines = _output(["fish", "--no-config", "-c", FISH, os.path.join(place, "hazard-look.fish"), "hazard-look " + text], folder).splitlines()
         return [line.split("\t")[0] for line in lines]
     yield "fish: jobs", sorted(told("")), sorted(jobs)
+    yield "fish: words in place of a job", set(told("--")), {"--help", "--version"}
     for job in jobs:
         yield f"fish: options of {job}", set(told(f"{job} --")), options[job]
         yield f"fish: first file of {job}", told(f"{job} ")[0], FIRST.get(job, "n.bench")

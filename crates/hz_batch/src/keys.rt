@@ -1,4 +1,5 @@
-//! Both values of an output in a lane as one number, by which their letters are looked up.
+//! Both values of an output in a lane as one number, by which their letters are looked up. By the values themselves, `batch` on an
+//! adder of 32 bits takes 105 million instructions in place of 72.
 ghost use Rattle.std.specs.Prelude.{◌≡◌, ◌<◌, length, IfOk};
 ghost use Rattle.std.specs.Int.{bit_at};
 ghost use Rattle.std.specs.List.{slice_index_or};

@@ -1,4 +1,5 @@
-//! The line of a number, in which each output of a circuit has two values.
+//! The line of a number, in which each output of a circuit has two values. Its bytes are kept: word by word, `batch` on an adder of
+//! 32 bits takes 207 million instructions in place of 72.
 ghost use Rattle.std.specs.Prelude.{◌≡◌, ◌<◌, ◌+◌, ◌++◌, [], ◌∷◌, length, map, slice_set, IfOk, OnOk};
 ghost use Rattle.hz_core.specs.declared.tri.Tri.TheVariants.{Unknown};
 ghost use Rattle.hz_write.specs.Writer.{Writes, NoneWaits};

@@ -24,7 +24,7 @@ pub(crate) fn build(alloc: Global, statements: &Statements, uses: &Uses) -> Resu
 {
     let nodes = statements.nodes.as_slice();
     let names = &statements.names;
-    let mut circuit = Circuit::with_names(alloc, names.hashing(), names.room())?;
+    let mut circuit = Circuit::with_names(alloc, names.hashing(), names.len())?;
     add_inputs(&mut circuit, nodes)?;
     add_cuts(&mut circuit, nodes)?;
     add_gates(&mut circuit, nodes)?;

@@ -13,7 +13,7 @@ ghost use Rattle.hz_blif.specs.Plain.{IsPlain};
 use crate::draft::Draft;
 use crate::gates::{Gate, Role, Source};
 use crate::names::TextNames;
-use hz_core::{Chains, Circuit, Memory, NameHashing};
+use hz_core::{Circuit, Memory};
 use hz_netlist::{add_outputs, connect_gate, resolve};
 use itoa::Buffer;
 use std::alloc::Global;
@@ -25,7 +25,7 @@ pub(crate) fn build(alloc: Global, draft: &Draft) -> Result<Circuit, Memory>
 {
     let gates = draft.gates.as_slice();
     let inputs = draft.inputs.as_slice();
-    let hashing = choose_hashing(alloc, &draft.names, gates)?;
+    let hashing = draft.names.hashing();
     let mut circuit = Circuit::with_names(alloc, hashing, inputs.len() + gates.len())?;
     add_inputs(&mut circuit, &draft.names, inputs)?;
     add_gates(alloc, &mut circuit, &draft.names, gates)?;
@@ -122,25 +122,6 @@ fn resolve_pins(
         };
     }
     Ok(pins)
-}
-
-// How the names of nodes are hashed: as those of the text, but with a key if the names of gates
-// were chosen to collide.
-fn choose_hashing(alloc: Global, names: &TextNames, gates: &[Gate]) -> Result<NameHashing, Memory>
-    requires { All (λ gate. gate.output < length names.now) gates.now }
-{
-    let hashing = names.hashing();
-    let mut chains = Chains::new(alloc);
-    let mut buffer = Vec::new(alloc);
-    for gate in gates {
-        write_name(&mut buffer, names.name(gate.output), gate.role)?;
-        chains.push(hashing.hash(buffer.as_slice()))?;
-    }
-    if chains.are_crowded() {
-        Ok(names.keyed_hashing())
-    } else {
-        Ok(hashing)
-    }
 }
 
 // Adds the inputs with these names.

@@ -53,11 +53,6 @@ impl<'t> TextNames<'t> {
         self.table.hashing()
     }
 
-    /// The hash with a digest of the text as the key.
-    pub(crate) fn keyed_hashing(&self) -> NameHashing {
-        self.table.keyed_hashing()
-    }
-
     /// The name with this number.
     pub(crate) fn name(&self, number: u32) -> &'t [u8]
         requires { number < length self.now }

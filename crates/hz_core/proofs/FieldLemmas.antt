@@ -1,8 +1,7 @@
 -- How the fields of a circuit change at each call, and what they then stand for.
-use Rattle.std.proofs.Common.{◌≡◌, ◌∙◌, sym, ap, ℕ, ◌+◌, ◌-◌, ◌<◌, ◌≤◌, All, List, [], ◌∷◌, ◌++◌, length, None, get_or, set, map, arith, subst}
+use Rattle.std.proofs.Common.{◌≡◌, ◌∙◌, sym, ap, ℕ, ◌+◌, ◌-◌, ◌<◌, ◌≤◌, All, List, [], ◌∷◌, ◌++◌, length, None, get_or, set, arith, subst}
 use Rattle.std.specs.List.{position}
 use Rattle.std.specs.Str.{bytes_eq}
-use Rattle.hz_core.specs.NameHash.{hash_of}
 use Rattle.hz_core.specs.declared.kind.Kind.{Kind}
 use Rattle.hz_core.specs.declared.kind.Kind.TheVariants.{And}
 use Rattle.hz_core.specs.declared.circuit.Circuit.TheInside.{Inside}
@@ -10,28 +9,16 @@ use Rattle.hz_core.specs.Inside.{netlist_of_fields, HoldsCircuit}
 use Rattle.hz_core.specs.Gate.{most_pins}
 use Rattle.hz_core.specs.Pins.{with_pins, with_sources}
 use Rattle.hz_core.specs.Netlist.{Gate, Netlist, IsName, IsCircuit, IsGateNumber, pin_count, variable_count, gate_at, node_named, empty_netlist, with_input, with_cut, with_gate}
-use Rattle.std.proofs.lemmas.List.{map-append}
 use Rattle.hz_core.proofs.ListLemmas.{get_or-default}
 use Rattle.hz_core.proofs.CircuitLemmas.{IsCircuit-empty, IsCircuit-with_input, IsCircuit-with_cut, IsCircuit-with_gate, IsCircuit-with_pins, pin_count-with_gate, pin_count-with_pins, same_netlist}
 use Rattle.hz_core.specs.Limits.{most_variables}
 
--- the hashes on the chains after a new name came
-name_hashed :
-    (old new : Inside) (name : List ℕ) → old.chains ≡ map (hash_of old.hashing) old.names.items → new.hashing ≡ old.hashing →
-    new.names.items ≡ old.names.items ++ name ∷ [] → new.chains ≡ old.chains ++ hash_of old.hashing name ∷ [] →
-    new.chains ≡ map (hash_of new.hashing) new.names.items
-name_hashed old new name hashed hashing names chains =
-    chains ∙ ap (λ hashes. hashes ++ hash_of old.hashing name ∷ []) hashed
-    ∙ sym (map-append (hash_of old.hashing) old.names.items (name ∷ []))
-    ∙ ap (map (hash_of old.hashing)) (sym names)
-    ∙ ap (λ one. map (hash_of one) new.names.items) (sym hashing)
-
 -- fields that stand for a circuit, and count its pins
 holds_circuit :
     (fields : Inside) (netlist : Netlist) → netlist_of_fields fields ≡ netlist → IsCircuit netlist → fields.pins ≡ pin_count netlist →
-    fields.chains ≡ map (hash_of fields.hashing) fields.names.items → HoldsCircuit fields
-holds_circuit fields netlist same circuit counted hashed =
-    record { circuit = rw same circuit; counted = counted ∙ sym (ap pin_count same); hashed = hashed }
+    HoldsCircuit fields
+holds_circuit fields netlist same circuit counted =
+    record { circuit = rw same circuit; counted = counted ∙ sym (ap pin_count same) }
 
 -- the circuit that the fields stand for
 circuit_of : (fields : Inside) (netlist : Netlist) → netlist_of_fields fields ≡ netlist → HoldsCircuit fields → IsCircuit netlist
@@ -39,18 +26,16 @@ circuit_of fields netlist same holds = subst IsCircuit same holds.circuit
 
 -- the fields of a new circuit
 pub HoldsCircuit-empty :
-    (fields : Inside) → fields.names.items ≡ [] → fields.chains ≡ [] → fields.inputs ≡ 0 → fields.cuts.items ≡ [] → fields.gates.items ≡ [] →
+    (fields : Inside) → fields.names.keys ≡ [] → fields.inputs ≡ 0 → fields.cuts.items ≡ [] → fields.gates.items ≡ [] →
     fields.outputs ≡ [] → fields.pins ≡ 0 → HoldsCircuit fields
-HoldsCircuit-empty fields names chains inputs cuts gates outputs pins =
+HoldsCircuit-empty fields names inputs cuts gates outputs pins =
     holds_circuit fields empty_netlist
     (same_netlist (netlist_of_fields fields) empty_netlist names inputs cuts gates outputs)
-    IsCircuit-empty pins (chains ∙ ap (map (hash_of fields.hashing)) (sym names))
+    IsCircuit-empty pins
 
 -- the fields from old to new, where an input came
 pub record InputComes (old new : Inside) (name : List ℕ) : Type 0 where
-  pub names : new.names.items ≡ old.names.items ++ name ∷ []
-  pub hashing : new.hashing ≡ old.hashing
-  pub chains : new.chains ≡ old.chains ++ hash_of old.hashing name ∷ []
+  pub names : new.names.keys ≡ old.names.keys ++ name ∷ []
   pub inputs : new.inputs ≡ old.inputs + 1
   pub cuts : new.cuts.items ≡ old.cuts.items
   pub gates : new.gates.items ≡ old.gates.items
@@ -73,13 +58,11 @@ pub HoldsCircuit-InputComes :
 HoldsCircuit-InputComes old new netlist name same fresh comes holds is_name no_gate room =
     holds_circuit new (with_input netlist name) (view-InputComes old new netlist name same fresh comes)
     (IsCircuit-with_input netlist name (circuit_of old netlist same holds) is_name fresh no_gate room)
-    (comes.pins ∙ holds.counted ∙ ap pin_count same) (name_hashed old new name holds.hashed comes.hashing comes.names comes.chains)
+    (comes.pins ∙ holds.counted ∙ ap pin_count same)
 
 -- the fields from old to new, where a cut came
 pub record CutComes (old new : Inside) (name : List ℕ) : Type 0 where
-  pub names : new.names.items ≡ old.names.items ++ name ∷ []
-  pub hashing : new.hashing ≡ old.hashing
-  pub chains : new.chains ≡ old.chains ++ hash_of old.hashing name ∷ []
+  pub names : new.names.keys ≡ old.names.keys ++ name ∷ []
   pub inputs : new.inputs ≡ old.inputs + 1
   pub cuts : new.cuts.items ≡ old.cuts.items ++ None ∷ []
   pub gates : new.gates.items ≡ old.gates.items
@@ -102,13 +85,11 @@ pub HoldsCircuit-CutComes :
 HoldsCircuit-CutComes old new netlist name same fresh comes holds is_name no_gate room =
     holds_circuit new (with_cut netlist name) (view-CutComes old new netlist name same fresh comes)
     (IsCircuit-with_cut netlist name (circuit_of old netlist same holds) is_name fresh no_gate room)
-    (comes.pins ∙ holds.counted ∙ ap pin_count same) (name_hashed old new name holds.hashed comes.hashing comes.names comes.chains)
+    (comes.pins ∙ holds.counted ∙ ap pin_count same)
 
 -- the fields from old to new, where a gate came
 pub record GateComes (old new : Inside) (name : List ℕ) (kind : Kind) : Type 0 where
-  pub names : new.names.items ≡ old.names.items ++ name ∷ []
-  pub hashing : new.hashing ≡ old.hashing
-  pub chains : new.chains ≡ old.chains ++ hash_of old.hashing name ∷ []
+  pub names : new.names.keys ≡ old.names.keys ++ name ∷ []
   pub inputs : new.inputs ≡ old.inputs
   pub cuts : new.cuts.items ≡ old.cuts.items
   pub gates : new.gates.items ≡ old.gates.items ++ record { kind = kind; sources = [] } ∷ []
@@ -131,13 +112,11 @@ pub HoldsCircuit-GateComes :
 HoldsCircuit-GateComes old new netlist name kind same fresh comes holds is_name room =
     holds_circuit new (with_gate netlist name kind) (view-GateComes old new netlist name kind same fresh comes)
     (IsCircuit-with_gate netlist name kind (circuit_of old netlist same holds) is_name fresh room)
-    (comes.pins ∙ holds.counted ∙ ap pin_count same ∙ sym (pin_count-with_gate netlist name kind)) (name_hashed old new name holds.hashed comes.hashing comes.names comes.chains)
+    (comes.pins ∙ holds.counted ∙ ap pin_count same ∙ sym (pin_count-with_gate netlist name kind))
 
 -- the fields from old to new, where pins came to the gate that was read
 pub record PinsCome (old new : Inside) (was : Gate) (node : ℕ) (sources : List ℕ) : Type 0 where
-  pub names : new.names.items ≡ old.names.items
-  pub hashing : new.hashing ≡ old.hashing
-  pub chains : new.chains ≡ old.chains
+  pub names : new.names.keys ≡ old.names.keys
   pub inputs : new.inputs ≡ old.inputs
   pub cuts : new.cuts.items ≡ old.cuts.items
   pub gates : new.gates.items ≡ set old.gates.items (node - old.inputs) (with_sources was sources)
@@ -170,16 +149,15 @@ HoldsCircuit-PinsCome old new netlist was node sources same holds is_gate come a
     holds_circuit new (with_pins netlist node sources) (view-PinsCome old new netlist was node sources same holds is_gate come)
     (IsCircuit-with_pins netlist node sources circuit is_gate are_nodes free room)
     (come.pins ∙ ap (λ n. n + length sources) (holds.counted ∙ ap pin_count same) ∙ sym (pin_count-with_pins netlist node sources circuit is_gate))
-    (come.chains ∙ holds.hashed ∙ ap (map (hash_of old.hashing)) (sym come.names) ∙ ap (λ one. map (hash_of one) new.names.items) (sym come.hashing))
 
 -- how many names, of a list of keys
-pub names_counted : (fields : Inside) (netlist : Netlist) → netlist_of_fields fields ≡ netlist → length fields.names.items ≡ length netlist.names
+pub names_counted : (fields : Inside) (netlist : Netlist) → netlist_of_fields fields ≡ netlist → length fields.names.keys ≡ length netlist.names
 names_counted fields netlist same =
     ap (λ n. length n.names) same
 
 -- the key that is looked for stands where its name does
 pub found_at :
     (fields : Inside) (netlist : Netlist) (name : List ℕ) → netlist_of_fields fields ≡ netlist →
-    position (bytes_eq name) fields.names.items ≡ node_named netlist name
+    position (bytes_eq name) fields.names.keys ≡ node_named netlist name
 found_at fields netlist name same =
     ap (λ n. node_named n name) same

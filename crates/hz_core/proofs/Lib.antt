@@ -1,10 +1,8 @@
 -- Lemmas on lists of names
 pub mod ListLemmas
--- Lemmas on the chains of a hash table
-pub mod ChainLemmas
 -- Names that are compared by their first four bytes and their last four
 pub mod EndLemmas
--- Lemmas on names that are found by their hashes
+-- Lemmas on the words of a name
 pub mod NameLemmas
 -- What each call of `Circuit` makes of a circuit is one, and what holds of the gates of a whole circuit
 pub mod CircuitLemmas

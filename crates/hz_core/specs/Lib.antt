@@ -34,8 +34,8 @@
 -- IsWhole netlist: each gate has a pin, and each cut a data node that is an output
 -- with_input, with_cut, with_data, with_gate, with_pin, with_output: a circuit with one part more
 -- with_pins netlist node sources: a circuit with more pins at a gate
--- hash_of hashing name: the hash of a name
--- AreLinked count links: each entry of a hash table is linked to the one before it in its bucket
+-- hashing_of_text text: the hash of names with a digest of a text as its key
+-- words_of name: a name in the words that are hashed one after the other
 -- netlist_of_fields fields, HoldsCircuit fields: the circuit that the fields of the code's Circuit stand for
 
 pub mod Limits
@@ -47,7 +47,7 @@ pub mod Kleene
 pub mod Pattern
 pub mod BitOrSwitch
 pub mod NameHash
-pub mod Chains
+pub mod NodeName
 pub mod Netlist
 pub mod Pins
 pub mod Inside

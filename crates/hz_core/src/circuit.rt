@@ -1,16 +1,17 @@
 //! Circuits: named inputs, flip-flops that are cut, gates with their sources, and outputs.
-ghost use Rattle.std.specs.Prelude.{◌≡◌, ◌+◌, ◌<◌, ◌≤◌, ◌↔◌, length, slice_get, Some, None, IsTrue, IfOk, IsOk, OnOk, OnErr, [], ◌∷◌, ◌++◌, All, nat_eq};
+ghost use Rattle.std.specs.Prelude.{◌≡◌, ◌+◌, ◌<◌, ◌≤◌, ◌↔◌, length, slice_get, Some, None, IsTrue, IfOk, IsOk, OnOk, OnErr, [], ◌∷◌, ◌++◌, All, nat_eq, position};
 ghost use Rattle.std.specs.List.{list_any};
-ghost use Rattle.hz_core.specs.NameHash.{hash_of};
+ghost use Rattle.std.specs.Str.{bytes_eq};
 ghost use Rattle.hz_core.specs.Gate.{most_pins};
 ghost use Rattle.hz_core.specs.Netlist.{IsName, IsCircuit, IsCutNumber, IsGateNumber, IsWhole, node_named, variable_count, primary_inputs, data_of, has_output, gate_at, empty_netlist, with_input, with_cut, with_data, with_gate, with_pin, with_output};
 ghost use Rattle.hz_core.specs.Pins.{with_pins};
 ghost use Rattle.hz_core.specs.Limits.{most_variables};
 
 use crate::gate::GateEntry;
-use crate::name::{NameEntry, find_name};
-use crate::{Chains, Kind, Memory, NameHashing};
+use crate::name::NodeName;
+use crate::{Kind, Memory, NameHashing};
 use hz_lists::NumberList;
+use indexmap::IndexSet;
 use std::alloc::Global;
 use std::marker::Model;
 
@@ -26,9 +27,7 @@ pub const MAX_VARIABLES: u32 = 200_000;
 /// node. So a clocked circuit is one without flip-flops between two edges of its clock.
 #[derive(Debug, Drop)]
 pub struct Circuit {
-    names: Vec<NameEntry>,
-    hashing: NameHashing,
-    chains: Chains,
+    names: IndexSet<NodeName<'static>, NameHashing>,
     inputs: u32,
     cuts: Vec<Option<u32>>,
     gates: Vec<GateEntry>,
@@ -54,27 +53,24 @@ impl Circuit {
     pub fn new(alloc: Global) -> Circuit
         ensures { result ≡ empty_netlist }
     {
-        Circuit::of_names(alloc, NameHashing::plain(), Chains::new(alloc))
+        Circuit::of_names(alloc, IndexSet::with_hasher(alloc, NameHashing::plain()))
     }
 
-    /// A circuit without nodes, whose names are hashed in this way, with as many buckets as that many names take.
+    /// A circuit without nodes, whose names are hashed in this way, with room for that many.
     pub fn with_names(alloc: Global, hashing: NameHashing, names: usize) -> Result<Circuit, Memory>
         ensures { IfOk result (λ circuit. circuit ≡ empty_netlist) }
     {
-        let mut chains = Chains::new(alloc);
-        chains.reserve(names)?;
-        Ok(Circuit::of_names(alloc, hashing, chains))
+        let names = IndexSet::with_capacity_and_hasher(alloc, names, hashing)?;
+        Ok(Circuit::of_names(alloc, names))
     }
 
     // A circuit without nodes.
-    fn of_names(alloc: Global, hashing: NameHashing, chains: Chains) -> Circuit
-        requires { chains ≡ [] }
+    fn of_names(alloc: Global, names: IndexSet<NodeName<'static>, NameHashing>) -> Circuit
+        requires { names.keys ≡ [] }
         ensures { result ≡ empty_netlist }
     {
         Circuit {
-            names: Vec::new(alloc),
-            hashing,
-            chains,
+            names,
             inputs: 0,
             cuts: Vec::new(alloc),
             gates: Vec::new(alloc),
@@ -96,7 +92,7 @@ impl Circuit {
         ensures err { OnErr result (self.new ≡ self.old) }
     {
         let number = self.names.len() as u32;
-        add_name(&mut self.names, &mut self.chains, &self.hashing, name)?;
+        add_name(&mut self.names, name)?;
         self.inputs += 1;
         Ok(number)
     }
@@ -115,7 +111,7 @@ impl Circuit {
         let Ok(()) = self.cuts.reserve(1) else {
             return Err(Memory);
         };
-        add_name(&mut self.names, &mut self.chains, &self.hashing, name)?;
+        add_name(&mut self.names, name)?;
         self.cuts.push_reserved(None);
         self.inputs += 1;
         Ok(number)
@@ -147,7 +143,7 @@ impl Circuit {
         let Ok(()) = self.gates.reserve(1) else {
             return Err(Memory);
         };
-        add_name(&mut self.names, &mut self.chains, &self.hashing, name)?;
+        add_name(&mut self.names, name)?;
         self.gates.push_reserved(GateEntry::new(alloc, kind));
         Ok(number)
     }
@@ -208,7 +204,7 @@ impl Circuit {
         ensures found { result ≡ node_named self.now name.now }
         ensures circuit { IsCircuit self.now }
     {
-        let place = find_name(self.names.as_slice(), &self.chains, &self.hashing, name)?;
+        let place = self.names.get_index_of(&NodeName::sought(name))?;
         Some(place as u32)
     }
 
@@ -218,7 +214,7 @@ impl Circuit {
         ensures name { slice_get self.now.names node ≡ Some result.now }
         ensures circuit { IsCircuit self.now }
     {
-        self.names[node as usize].as_slice()
+        self.names.as_slice()[node as usize].as_slice()
     }
 
     /// The number of inputs, cuts among them.
@@ -311,29 +307,15 @@ impl Circuit {
     }
 }
 
-// Adds a name after the others, and to the chains.
+// Adds a name after the others.
 #[inline(always)]
-fn add_name(
-    names: &mut Vec<NameEntry>,
-    chains: &mut Chains,
-    hashing: &NameHashing,
-    name: &[u8],
-) -> Result<(), Memory>
-    ensures names { OnOk result (names.new.items ≡ names.old.items ++ name.now ∷ []) }
-    ensures chains { OnOk result (chains.new ≡ chains.old ++ hash_of hashing.now name.now ∷ []) }
-    ensures names_err { OnErr result (names.new.items ≡ names.old.items) }
-    ensures chains_err { OnErr result (chains.new ≡ chains.old) }
+fn add_name(names: &mut IndexSet<NodeName<'static>, NameHashing>, name: &[u8]) -> Result<(), Memory>
+    requires { position (bytes_eq name.now) names.old.keys ≡ None }
+    ensures ok { OnOk result (names.new.keys ≡ names.old.keys ++ name.now ∷ []) }
+    ensures err { OnErr result (names.new.keys ≡ names.old.keys) }
 {
-    let Ok(entry) = NameEntry::new(*names.allocator(), name) else {
-        return Err(Memory);
-    };
-    let Ok(()) = names.reserve(1) else {
-        return Err(Memory);
-    };
-    let Ok(()) = chains.push(hashing.hash(name)) else {
-        return Err(Memory);
-    };
-    names.push_reserved(entry);
+    let entry = NodeName::kept(*names.allocator(), name)?;
+    names.insert(entry)?;
     Ok(())
 }
 

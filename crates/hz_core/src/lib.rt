@@ -6,15 +6,13 @@
 //! | `kind` | [`Kind`]: the kinds of gates, their functions and ternary extensions; in `kind/pattern.rt` the canonical pattern |
 //! | `circuit` | [`Circuit`]: named inputs, cuts, gates and outputs |
 //! | `gate` | the gates of a circuit, as it keeps them |
-//! | `name` | [`find_name`]: names that are found by their hashes; [`same_name`] |
+//! | `name` | [`Name`]: names as the keys of tables; [`same_name`] |
 //! | `name_hashing` | [`NameHashing`]: how names are hashed |
 //! | `bytes` | four bytes as one number |
-//! | `chains` | [`Chains`]: the chains of a hash table |
 //! | `memory` | [`Memory`]: memory ran out |
 #![tactic(auto)]
 
 mod bytes;
-mod chains;
 mod circuit;
 mod gate;
 mod kind;
@@ -23,10 +21,9 @@ mod name;
 mod name_hashing;
 mod tri;
 
-pub use chains::Chains;
 pub use circuit::{Circuit, MAX_VARIABLES};
 pub use kind::{Kind, MAX_PINS};
 pub use memory::Memory;
-pub use name::{MAX_NAME, Named, find_name, same_name};
+pub use name::{MAX_NAME, Name, same_name};
 pub use name_hashing::NameHashing;
 pub use tri::Tri;

@@ -1,50 +1,174 @@
-//! Names that are found by their hashes.
-ghost use Rattle.std.specs.Prelude.{◌≡◌, IfOk, map, position};
-ghost use Rattle.std.specs.List.{IsDistinct};
+//! Names as the keys of tables.
+//!
+//! A name is fed to its hasher word by word, so that each word is joined with the state before it is multiplied. By one write the
+//! hasher would multiply each second word of a long name by another one, which brings that product to 0 if it is chosen well.
+ghost use Rattle.std.specs.Prelude.{◌≡◌, IfOk, fold};
+ghost use Rattle.std.specs.Cmp.Lexicographic.{bytes_decides, nat_list_eq_equiv};
+ghost use Rattle.std.specs.Cmp.{partial_equiv_from_equiv};
 ghost use Rattle.std.specs.Str.{bytes_eq};
-ghost use Rattle.hz_core.specs.NameHash.{hash_of};
+ghost use Rattle.std.proofs.Common.{ap};
+ghost use Rattle.hz_core.specs.NameHash.{words_of};
 
+use crate::Memory;
 use crate::bytes::four_at;
-use crate::{Chains, Memory, NameHashing};
 use smallvec::SmallVec;
 use std::alloc::Global;
+use std::hash::{Hash, Hasher};
 use std::marker::Model;
 
 /// The most bytes of a name.
 pub const MAX_NAME: usize = 255;
 
-/// What has a name.
-pub trait Named {
-    ghost use Rattle.std.specs.Prelude.{ℕ, List};
-
-    // The bytes of its name.
-    ghost name_of: { Self → List ℕ };
-
-    /// The bytes of its name.
-    fn name(&self) -> &[u8]
-        ensures { result.now ≡ name_of self.now };
+/// A name that borrows its bytes.
+#[derive(Drop)]
+pub struct Name<'a> {
+    bytes: &'a [u8],
 }
 
-/// The place of the item with this name, if the chains have the items by the hashes of their names, and no two have the same name.
-pub fn find_name<N: Named>(
-    items: &[N],
-    chains: &Chains,
-    hashing: &NameHashing,
-    name: &[u8],
-) -> Option<usize>
-    requires { chains.now ≡ map (hash_of hashing.now) (map N.name_of items.now) }
-    ensures { IsDistinct bytes_eq (map N.name_of items.now) →
-        result ≡ position (bytes_eq name.now) (map N.name_of items.now) }
-{
-    let mut number = chains.last(hashing.hash(name));
-    while number > 0 {
-        let place = number as usize - 1;
-        if same_name(name, items[place].name()) {
-            return Some(place);
-        }
-        number = chains.earlier(place);
+impl<'a> Model for Name<'a> {
+    ghost use Rattle.std.specs.Prelude.{ℕ, List};
+
+    ghost Value = { List ℕ };
+
+    ghost view = { λ name. name.bytes.now };
+}
+
+impl<'a> Name<'a> {
+    /// The name with these bytes.
+    #[inline(always)]
+    pub fn new(bytes: &'a [u8]) -> Name<'a>
+        ensures { result ≡ bytes.now }
+    {
+        Name { bytes }
     }
-    None
+
+    /// The bytes of the name.
+    #[inline(always)]
+    pub fn bytes(&self) -> &'a [u8]
+        ensures { result.now ≡ self.now }
+    {
+        self.bytes
+    }
+}
+
+impl<'a> PartialEq for Name<'a> {
+    ghost eq = { bytes_eq };
+
+    ghost laws = { partial_equiv_from_equiv nat_list_eq_equiv };
+
+    #[inline(always)]
+    fn eq(&self, other: &Self) -> bool {
+        same_name(self.bytes, other.bytes)
+    }
+}
+
+impl<'a> Eq for Name<'a> {
+    ghost laws = { nat_list_eq_equiv };
+}
+
+impl<'a> Hash for Name<'a> {
+    ghost hash_input = { words_of };
+
+    ghost respects_eq = { λ name other same. ap words_of ((bytes_decides name other).0 same) };
+
+    #[inline(always)]
+    fn hash<H: Hasher>(&self, state: &mut H) {
+        write_words(self.bytes, state);
+    }
+}
+
+// The bytes of a name. Most names are short, and need no allocation.
+#[derive(Debug, Drop)]
+enum NodeBytes<'a> {
+    Kept(SmallVec<u8, 16>),
+    Sought(&'a [u8]),
+}
+
+// A name that a circuit keeps, or one that is sought in it.
+#[derive(Debug, Drop)]
+pub(crate) struct NodeName<'a> {
+    bytes: NodeBytes<'a>,
+}
+
+impl<'a> Model for NodeName<'a> {
+    ghost use Rattle.std.specs.Prelude.{ℕ, List};
+    ghost use Rattle.hz_core.specs.NodeName.{bytes_in};
+
+    ghost Value = { List ℕ };
+
+    ghost view = { λ name. bytes_in name.bytes };
+}
+
+impl<'a> NodeName<'a> {
+    // The name with these bytes, to be kept.
+    pub(crate) fn kept(alloc: Global, name: &[u8]) -> Result<NodeName<'a>, Memory>
+        ensures { IfOk result (λ kept. kept ≡ name.now) }
+    {
+        let Ok(bytes) = SmallVec::from_slice(alloc, name) else {
+            return Err(Memory);
+        };
+        Ok(NodeName {
+            bytes: NodeBytes::Kept(bytes),
+        })
+    }
+
+    // The name with these bytes, to be sought.
+    #[inline(always)]
+    pub(crate) fn sought(name: &'a [u8]) -> NodeName<'a>
+        ensures { result ≡ name.now }
+    {
+        NodeName {
+            bytes: NodeBytes::Sought(name),
+        }
+    }
+
+    #[inline(always)]
+    pub(crate) fn as_slice(&self) -> &[u8]
+        ensures { result.now ≡ self.now }
+    {
+        match &self.bytes {
+            NodeBytes::Kept(bytes) => bytes.as_slice(),
+            NodeBytes::Sought(bytes) => bytes,
+        }
+    }
+}
+
+impl<'a> PartialEq for NodeName<'a> {
+    ghost eq = { bytes_eq };
+
+    ghost laws = { partial_equiv_from_equiv nat_list_eq_equiv };
+
+    fn eq(&self, other: &Self) -> bool {
+        same_name(self.as_slice(), other.as_slice())
+    }
+}
+
+impl<'a> Eq for NodeName<'a> {
+    ghost laws = { nat_list_eq_equiv };
+}
+
+impl<'a> Hash for NodeName<'a> {
+    ghost hash_input = { words_of };
+
+    ghost respects_eq = { λ name other same. ap words_of ((bytes_decides name other).0 same) };
+
+    fn hash<H: Hasher>(&self, state: &mut H) {
+        write_words(self.as_slice(), state);
+    }
+}
+
+// Feeds the words of a name to a hasher.
+#[inline(always)]
+fn write_words<H: Hasher>(name: &[u8], state: &mut H)
+    ensures { state.new ≡ fold H.write state.old (words_of name.now) }
+{
+    let mut rest = name;
+    while rest.len() > 8 {
+        let (word, left) = rest.split_at(8);
+        state.write(word);
+        rest = left;
+    }
+    state.write(rest);
 }
 
 /// Whether two names are the same. Most have four to eight bytes, which are compared four at once.
@@ -57,44 +181,4 @@ pub fn same_name(name: &[u8], other: &[u8]) -> bool
         return name == other;
     }
     four_at(name, 0) == four_at(other, 0) && four_at(name, len - 4) == four_at(other, len - 4)
-}
-
-// A name that a circuit keeps. Most names are short, and need no allocation.
-#[derive(Debug, Drop)]
-pub(crate) struct NameEntry {
-    bytes: SmallVec<u8, 16>,
-}
-
-impl Model for NameEntry {
-    ghost use Rattle.std.specs.Prelude.{ℕ, List};
-
-    ghost Value = { List ℕ };
-
-    ghost view = { λ entry. entry.bytes.items };
-}
-
-impl NameEntry {
-    // The name with these bytes.
-    pub(crate) fn new(alloc: Global, name: &[u8]) -> Result<NameEntry, Memory>
-        ensures { IfOk result (λ entry. entry ≡ name.now) }
-    {
-        let Ok(bytes) = SmallVec::from_slice(alloc, name) else {
-            return Err(Memory);
-        };
-        Ok(NameEntry { bytes })
-    }
-
-    pub(crate) fn as_slice(&self) -> &[u8]
-        ensures { result.now ≡ self.now }
-    {
-        self.bytes.as_slice()
-    }
-}
-
-impl Named for NameEntry {
-    ghost name_of = { λ entry. entry };
-
-    fn name(&self) -> &[u8] {
-        self.as_slice()
-    }
 }

@@ -1,7 +1,7 @@
 //! A pass over the unsettled gates.
 ghost use Rattle.std.specs.Prelude.{◌≡◌, ℕ, ◌+◌, ◌<◌, ◌≤◌, Bool, true, ◌&&◌, List, [], length, map, not, IsTrue};
 ghost use Rattle.hz_core.specs.Ternary.{is_unknown};
-ghost use Rattle.hz_core.specs.Netlist.{IsCircuit, IsGateNumber, gate_at};
+ghost use Rattle.hz_core.specs.Netlist.{IsCircuit, IsGateNumber};
 ghost use Rattle.hz_net.specs.Network.{network_of, IsState, IsVariable};
 ghost use Rattle.hz_reach.specs.Order.{IsInKeyOrder};
 ghost use Rattle.hz_reach.specs.Room.{Spends};
@@ -13,7 +13,7 @@ ghost use Rattle.hz_cycle.specs.Pass.{AreFixedAndRanked, MayBegin, HasRoom, IsPa
 use hz_core::{MAX_PINS, Tri};
 use hz_gmw::Run;
 use hz_net::Net;
-use hz_reach::{FEW_PINS, Scratch, is_gate, take_turn};
+use hz_reach::{Scratch, is_gate, take_turn};
 
 // Each unsettled gate has its turn, by rank and then by number, in which its unsettled pins are free and the wires of its fan-out
 // go along. The variables are sorted by rank, and stay so.
@@ -76,42 +76,10 @@ fn turn_unsettled(net: &Net, b: &[Tri], gate: u32, scratch: &mut Scratch, run: &
     ensures sorted { scratch.new.sorted ≡ scratch.old.sorted }
     ensures room { Spends run.old run.new }
 {
-    let (_, pins) = net.wires_in(gate);
-    if pins as usize <= FEW_PINS {
-        let mut free = [false; FEW_PINS];
-        turn_by_free(net, b, gate, &mut free[..pins as usize], scratch, run);
-    } else {
-        let mut free = [false; MAX_PINS];
-        turn_by_free(net, b, gate, &mut free[..pins as usize], scratch, run);
-    }
-}
-
-// The same, with room for which pins are free. What stood there is not read.
-#[inline(always)]
-fn turn_by_free(
-    net: &Net,
-    b: &[Tri],
-    gate: u32,
-    free: &mut [bool],
-    scratch: &mut Scratch,
-    run: &mut Run,
-)
-    requires circuit { IsCircuit net.now }
-    requires b { IsState net.now b.now }
-    requires gate { IsGateNumber net.now gate }
-    requires free { length free.old ≡ length (gate_at net.now gate).sources }
-    requires possible { CanTurn net.now gate (unsettled_pins net.now b.now gate) scratch.old.state }
-    requires scratch { IsScratchFor net.now scratch.old }
-    requires room { HasRoomForTurn net.now gate (unsettled_pins net.now b.now gate) true
-        scratch.old.state run.old }
-    ensures turn { IsTurn net.now gate (unsettled_pins net.now b.now gate) true
-        scratch.old.state scratch.new.state run.old.steps run.new.steps }
-    ensures marked { scratch.new.marked ≡ [] }
-    ensures sorted { scratch.new.sorted ≡ scratch.old.sorted }
-    ensures room { Spends run.old run.new }
-{
     let (first, pins) = net.wires_in(gate);
     let wires = first as usize..(first + pins) as usize;
+    let mut room = [false; MAX_PINS];
+    let free = &mut room[..pins as usize];
     list_unsettled(&b[wires], free);
     take_turn(net, gate, free, true, scratch, run);
 }

@@ -1,46 +1,35 @@
 //! Names that have a number at first sight.
 
-ghost use Rattle.std.specs.Prelude.{◌≡◌, ◌<◌, ◌++◌, ◌∷◌, [], IfOk, OnErr, OnOk, Some, length, map, position};
-ghost use Rattle.std.specs.List.{IsDistinct};
+ghost use Rattle.std.specs.Prelude.{◌≡◌, ◌<◌, [], IfOk, OnErr, OnOk, Some, length, position};
 ghost use Rattle.std.specs.Str.{bytes_eq};
-ghost use Rattle.hz_core.specs.NameHash.{hash_of};
 ghost use Rattle.hz_netlist.specs.Names.{definer_in, first_undefined, place_in, seen_at, seen_names, undefined_line, with_definition, with_sight, with_use};
-ghost use Rattle.hz_netlist.specs.Table.{IsSearched, entry_names, entry_of, seen_of};
+ghost use Rattle.hz_netlist.specs.Table.{seen_of};
 
-use hz_core::{Chains, Memory, NameHashing, Named, same_name};
+use hz_core::{Memory, Name, NameHashing};
 use hz_lists::lesser;
-use sha2::{Digest, Sha256};
+use indexmap::IndexSet;
 use std::alloc::Global;
 use std::marker::Model;
 
 // How many names a table has room for at first.
 const FIRST_ROOM: usize = 1000;
 
-/// A name, and the lines that define and use it first. The name borrows the text.
+/// The lines that define and use a name first.
 #[derive(Clone, Copy)]
-pub(crate) struct Entry<'a> {
-    pub(crate) name: &'a [u8],
+pub(crate) struct Lines {
     pub(crate) definer: Option<u32>,
     pub(crate) user: Option<u32>,
 }
 
-impl<'a> Entry<'a> {
+impl Lines {
     // The first line that uses the name, if no line defines it.
     fn undefined(&self) -> Option<u32>
-        ensures { result ≡ undefined_line (seen_of self.now) }
+        ensures { result ≡ undefined_line (seen_of [] self.now) }
     {
         match self.definer {
             None => self.user,
             Some(_) => None,
         }
-    }
-}
-
-impl<'a> Named for Entry<'a> {
-    ghost name_of = { λ one. one.name.now };
-
-    fn name(&self) -> &[u8] {
-        self.name
     }
 }
 
@@ -55,16 +44,13 @@ pub struct Definition {
 /// The names of a text, in the order of first sight, each with the lines that define and use it
 /// first. The number of a name is its place.
 ///
-/// Names are hashed plainly, until some chain is longer than chance makes one: then they were
-/// chosen to collide, and are hashed with a digest of the whole text as the key, which nobody knows
-/// before the text is written.
+/// Names are hashed with a digest of the whole text as the key: so nobody can choose names that
+/// collide, since other names are another text.
 #[derive(Drop)]
 pub struct NameTable<'a> {
-    text: &'a [u8],
-    entries: Vec<Entry<'a>>,
-    hashing: NameHashing,
-    chains: Chains,
-    is_keyed: bool,
+    names: IndexSet<Name<'a>, NameHashing>,
+    lines: Vec<Lines>,
+    text_bytes: usize,
 }
 
 impl<'a> Model for NameTable<'a> {
@@ -85,11 +71,9 @@ impl<'a> NameTable<'a> {
         ensures { result ≡ [] }
     {
         NameTable {
-            text,
-            entries: Vec::new(alloc),
-            hashing: NameHashing::plain(),
-            chains: Chains::new(alloc),
-            is_keyed: false,
+            names: IndexSet::with_hasher(alloc, NameHashing::of_text(text)),
+            lines: Vec::new(alloc),
+            text_bytes: text.len(),
         }
     }
 
@@ -97,23 +81,12 @@ impl<'a> NameTable<'a> {
     pub fn len(&self) -> usize
         ensures { result ≡ length self.now }
     {
-        self.entries.len()
+        self.names.len()
     }
 
     /// How the names are hashed.
     pub fn hashing(&self) -> NameHashing {
-        self.hashing
-    }
-
-    /// How many names there may be before the table is made anew.
-    pub fn room(&self) -> usize {
-        self.chains.room()
-    }
-
-    /// The hash with a digest of the text as the key: names that collide in it can't be chosen.
-    pub fn keyed_hashing(&self) -> NameHashing {
-        let digest = Sha256::digest(self.text);
-        NameHashing::keyed(&digest)
+        *self.names.hasher()
     }
 
     /// The name with this number.
@@ -121,7 +94,7 @@ impl<'a> NameTable<'a> {
         requires { number < length self.now }
         ensures { result.now ≡ (seen_at self.now number).name }
     {
-        self.entries[number as usize].name
+        self.names.as_slice()[number as usize].bytes()
     }
 
     /// The first line that uses the name with this number.
@@ -129,7 +102,7 @@ impl<'a> NameTable<'a> {
         requires { number < length self.now }
         ensures { result ≡ (seen_at self.now number).user }
     {
-        self.entries[number as usize].user
+        self.lines[number as usize].user
     }
 
     /// The number of a name; a new name comes last.
@@ -140,18 +113,20 @@ impl<'a> NameTable<'a> {
             (seen_names self.new) ≡ Some number) }
         ensures err { OnErr result (self.new ≡ self.old) }
     {
-        self.scatter()?;
-        match find_entry(self.entries.as_slice(), &self.chains, &self.hashing, name) {
-            Search::Found(place) => {
-                let number = number_of(place)?;
-                Ok(number)
-            }
-            Search::Missing(hash) => {
-                let number = number_of(self.entries.len())?;
-                add_entry(&mut self.entries, &mut self.chains, name, hash)?;
-                Ok(number)
-            }
+        let Ok(_) = u32::try_from(self.names.len()) else {
+            return Err(Memory);
+        };
+        self.lines.reserve(1)?;
+        let Ok((place, is_new)) = self.names.insert_full(Name::new(name)) else {
+            return Err(Memory);
+        };
+        if is_new {
+            self.lines.push_reserved(Lines {
+                definer: None,
+                user: None,
+            });
         }
+        Ok(place as u32)
     }
 
     /// Notes that a line defines a name; the first line that did before, if one did.
@@ -160,12 +135,12 @@ impl<'a> NameTable<'a> {
         ensures before { result ≡ (seen_at self.old number).definer }
         ensures defined { self.new ≡ with_definition self.old (seen_at self.old number).name line }
     {
-        let entry = self.entries[number as usize];
-        self.entries[number as usize] = Entry {
-            definer: Some(entry.definer.unwrap_or(line)),
-            ..entry
+        let lines = self.lines[number as usize];
+        self.lines[number as usize] = Lines {
+            definer: Some(lines.definer.unwrap_or(line)),
+            ..lines
         };
-        entry.definer
+        lines.definer
     }
 
     /// Notes that a line uses a name.
@@ -173,10 +148,10 @@ impl<'a> NameTable<'a> {
         requires { number < length self.old }
         ensures { self.new ≡ with_use self.old (seen_at self.old number).name line }
     {
-        let entry = self.entries[number as usize];
-        self.entries[number as usize] = Entry {
-            user: Some(entry.user.unwrap_or(line)),
-            ..entry
+        let lines = self.lines[number as usize];
+        self.lines[number as usize] = Lines {
+            user: Some(lines.user.unwrap_or(line)),
+            ..lines
         };
     }
 
@@ -210,8 +185,8 @@ impl<'a> NameTable<'a> {
         ensures { result ≡ first_undefined self.now }
     {
         let mut first = None;
-        for entry in &self.entries {
-            first = lesser(first, entry.undefined());
+        for lines in &self.lines {
+            first = lesser(first, lines.undefined());
         }
         first
     }
@@ -223,11 +198,11 @@ impl<'a> NameTable<'a> {
     pub fn make_room(&mut self, left: usize) -> Result<(), Memory>
         ensures { self.new ≡ self.old }
     {
-        let names = self.entries.len();
-        if names < self.chains.room() {
+        let names = self.names.len();
+        if names < self.names.capacity() {
             return Ok(());
         }
-        let read = self.text.len().saturating_sub(left);
+        let read = self.text_bytes.saturating_sub(left);
         let more = names.saturating_mul(left) / read.max(1);
         self.reserve(more.max(FIRST_ROOM))
     }
@@ -237,105 +212,8 @@ impl<'a> NameTable<'a> {
     fn reserve(&mut self, more: usize) -> Result<(), Memory>
         ensures { self.new ≡ self.old }
     {
-        self.entries.reserve(more)?;
-        self.chains.reserve(self.entries.len().saturating_add(more))
-    }
-
-    // Hashes the names anew, if they were chosen to collide.
-    #[inline(always)]
-    fn scatter(&mut self) -> Result<(), Memory>
-        ensures { self.new ≡ self.old }
-    {
-        if self.chains.are_crowded() && !self.is_keyed {
-            self.rekey()
-        } else {
-            Ok(())
-        }
-    }
-
-    // Hashes the names with a digest of the text as the key.
-    #[cold]
-    fn rekey(&mut self) -> Result<(), Memory>
-        ensures { self.new ≡ self.old }
-    {
-        let hashing = self.keyed_hashing();
-        let mut chains = Chains::new(*self.entries.allocator());
-        chains.reserve(self.chains.room())?;
-        hash_names(self.entries.as_slice(), &hashing, &mut chains)?;
-        self.hashing = hashing;
-        self.chains = chains;
-        self.is_keyed = true;
+        self.names.reserve(more)?;
+        self.lines.reserve(more)?;
         Ok(())
     }
-}
-
-// A place as a number, of which a table has no more than 32 bits tell.
-fn number_of(place: usize) -> Result<u32, Memory>
-    ensures { IfOk result (λ number. number ≡ place) }
-{
-    match u32::try_from(place) {
-        Ok(number) => Ok(number),
-        Err(_) => Err(Memory),
-    }
-}
-
-// Puts the names of entries on chains.
-fn hash_names(entries: &[Entry], hashing: &NameHashing, chains: &mut Chains) -> Result<(), Memory>
-    ensures { OnOk result (chains.new ≡ chains.old
-        ++ map (hash_of hashing.now) (entry_names entries.now)) }
-{
-    for entry in entries {
-        chains.push(hashing.hash(entry.name))?;
-    }
-    Ok(())
-}
-
-/// What a search for a name comes to: its place, or its hash if no entry has it.
-#[derive(Clone, Copy)]
-pub(crate) enum Search {
-    Found(usize),
-    Missing(u32),
-}
-
-// Searches entries, which are on chains, for a name.
-#[inline(always)]
-fn find_entry(entries: &[Entry], chains: &Chains, hashing: &NameHashing, name: &[u8]) -> Search
-    requires { chains.now ≡ map (hash_of hashing.now) (entry_names entries.now) }
-    ensures { IsDistinct bytes_eq (entry_names entries.now)
-        → IsSearched entries.now hashing.now name.now result }
-{
-    let hash = hashing.hash(name);
-    let mut number = chains.last(hash);
-    while number > 0 {
-        let place = number as usize - 1;
-        if same_name(name, entries[place].name()) {
-            return Search::Found(place);
-        }
-        number = chains.earlier(place);
-    }
-    Search::Missing(hash)
-}
-
-// Adds an entry for a name with this hash, which no line defines or uses so far.
-#[inline(always)]
-fn add_entry<'a>(
-    entries: &mut Vec<Entry<'a>>,
-    chains: &mut Chains,
-    name: &'a [u8],
-    hash: u32,
-) -> Result<(), Memory>
-    ensures entries { OnOk result (entries.new.items ≡ entries.old.items
-        ++ entry_of name.entry ∷ []) }
-    ensures chains { OnOk result (chains.new ≡ chains.old ++ hash ∷ []) }
-    ensures err { OnErr result ((entries.new.items ≡ entries.old.items)
-        × (chains.new ≡ chains.old)) }
-{
-    entries.reserve(1)?;
-    chains.push(hash)?;
-    entries.push_reserved(Entry {
-        name,
-        definer: None,
-        user: None,
-    });
-    Ok(())
 }

@@ -19,7 +19,6 @@ mod cuts;
 mod forcing;
 mod front;
 mod laws;
-mod noted;
 mod round;
 mod rounds;
 

@@ -1,5 +1,5 @@
 //! The rounds of a pass.
-ghost use Rattle.std.specs.Prelude.{◌≡◌, ◌+◌, ◌*◌, ◌≤◌, length};
+ghost use Rattle.std.specs.Prelude.{◌≡◌, ℕ, ◌+◌, ◌*◌, ◌≤◌, length, slice_index};
 ghost use Rattle.hz_net.specs.Network.{network_of, wires_of, AreByVariable};
 ghost use Rattle.hz_net.specs.Passes.{AreRounds};
 ghost use Rattle.hz_pass.specs.Changes.{differing_count};
@@ -7,7 +7,6 @@ ghost use Rattle.hz_pass.specs.Frontier.{AreFirstRounds};
 ghost use Rattle.hz_pass.specs.InRound.{states_from, CanBegin};
 
 use crate::front::Front;
-use crate::noted::forget;
 use crate::round::{Round, Rule, take_over};
 use hz_core::Tri;
 use hz_lists::Steps;
@@ -77,4 +76,12 @@ impl Pass<'_> {
         front.due.clear();
         rounds
     }
+}
+
+// Notes 0 at every variable.
+fn forget(noted: &mut [u32])
+    ensures long { length noted.new ≡ length noted.old }
+    ensures zero { (i : ℕ) → slice_index noted.new i ≡ 0 }
+{
+    noted.fill(0);
 }

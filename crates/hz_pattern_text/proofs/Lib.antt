@@ -12,5 +12,3 @@ pub mod PatternModelLaws
 pub mod BehindLaws
 -- A text whose first lines are printed patterns: its faults and its value, by what is read of the rest
 pub mod PatternBehindLaws
--- The commonest line of a text of patterns
-pub mod PatternLines

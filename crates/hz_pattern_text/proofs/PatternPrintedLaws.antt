@@ -33,7 +33,7 @@ use Rattle.hz_text.proofs.PrintedLines.{numbered, without-numbers, length-number
 use Rattle.hz_text.proofs.WordLaws.{AreNodes, no_word, pairs_read, pairs_inline, assignments_read}
 
 -- what the bytes of a word are
-pub record IsWord (word : List ℕ) : Type 0 where
+record IsWord (word : List ℕ) : Type 0 where
   pub some : 0 < length word
   pub letters : list_all is_word_byte word ≡ true
   pub inline : list_all is_inline word ≡ true
@@ -53,7 +53,7 @@ bits_written [] = record { some = omega arith; letters = refl; inline = refl }
 bits_written (bit ∷ bits) = let facts = letters_facts (bit ∷ bits) in record { some = omega arith; letters = facts.0; inline = facts.1 }
 
 -- the keywords
-pub record AreKeywords : Type 0 where
+record AreKeywords : Type 0 where
   pub hold : pattern_keyword_of (codes "hold") ≡ Some HoldWord
   pub from : pattern_keyword_of (codes "from") ≡ Some FromWord
   pub to : is_to (codes "to") ≡ true
@@ -61,12 +61,12 @@ pub record AreKeywords : Type 0 where
   pub from_letters : list_all is_word_byte (codes "from") ≡ true
   pub to_letters : list_all is_word_byte (codes "to") ≡ true
 
-pub keywords : AreKeywords
+keywords : AreKeywords
 unfolding class_of pattern_keyword_of is_to
 keywords = record { hold = refl; from = refl; to = refl; hold_letters = refl; from_letters = refl; to_letters = refl }
 
 -- the tokens of a pattern's line
-pub pattern_tokens : (from to : List ℕ) → IsWord from → IsWord to → tokens_of (codes "from " ++ from ++ codes " to " ++ to) ≡ Some (WordOf (codes "from") ∷ WordOf from ∷ WordOf (codes "to") ∷ WordOf to ∷ [])
+pattern_tokens : (from to : List ℕ) → IsWord from → IsWord to → tokens_of (codes "from " ++ from ++ codes " to " ++ to) ≡ Some (WordOf (codes "from") ∷ WordOf from ∷ WordOf (codes "to") ∷ WordOf to ∷ [])
 pattern_tokens from to f t =
     let behind = 32 ∷ codes "to" ++ (32 ∷ to) in
     let last : tokens_of to ≡ Some (WordOf to ∷ []) = ap tokens_of (sym (append-nil to)) ∙ tokens_of-word_before to [] t.some t.letters refl in

@@ -15,7 +15,6 @@
 pub mod Limits
 pub mod PatternStatement
 pub mod PatternWord
-pub mod PatternLetters
 pub mod PatternResolution
 pub mod PatternFault
 pub mod PatternValue

@@ -51,7 +51,6 @@ resolve_pattern_keyword netlist keyword rest =
 abbrev pub pattern_resolution_of : Held → ResolvedPatternStatement
 pattern_resolution_of (held.Hold assigned) = Hold assigned.items
 pattern_resolution_of (held.Pattern from to) = Pattern from.now to.now
-pattern_resolution_of (held.Short from to) = Pattern from to
 
 -- a statement that was read, with its line
 abbrev pub PatternEntry : Type 0

@@ -77,9 +77,5 @@ fn push_statement(bits: &mut Vec<bool>, held: &Held, inputs: u32) -> Result<(), 
             push_bits(bits, from, inputs as usize)?;
             push_bits(bits, to, inputs as usize)
         }
-        Held::Short(from, to) => {
-            push_bits(bits, from.word(), inputs as usize)?;
-            push_bits(bits, to.word(), inputs as usize)
-        }
     }
 }

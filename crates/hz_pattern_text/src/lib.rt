@@ -6,7 +6,6 @@
 //! | `read` | [`read_patterns`]: the order of work |
 //! | `reader` | [`PatternReader`]: a text that comes part by part |
 //! | `printed` | the first lines of a text, where they are as they are printed, read block by block |
-//! | `short` | the commonest line, read without its tokens |
 //! | `statement` | the statements, looked up in a circuit |
 //! | `word` | words of bits |
 //! | `rules` | the passes over the statements, one for each fault |
@@ -20,7 +19,6 @@ mod printed;
 mod read;
 mod reader;
 mod rules;
-mod short;
 mod statement;
 mod value;
 mod word;

@@ -1,4 +1,5 @@
-// The first lines of a text of patterns, where they are as they are printed.
+// The first lines of a text of patterns, where they are as they are printed. By the tokens of each line, `batch` on an adder of 32 bits
+// takes 186 million instructions in place of 72.
 
 ghost use Rattle.std.specs.Prelude.{◌≡◌, ◌+◌, ◌-◌, ◌*◌, ◌^◌, ◌<◌, ◌≤◌, ◌⊎◌, ◌++◌, ◌&&◌, [], true, nat_eq, length, take, drop, map, replicate, IfOk, OnOk};
 ghost use Rattle.hz_pattern_text.specs.PatternModel.{AgreesWith, agrees, slack_by, bits_at, model_line, model_lines, AreAddedBits, text_behind};

@@ -18,7 +18,7 @@ pub(crate) fn assignments_in<'h>(held: &'h Held) -> &'h [Assigned]
 {
     match held {
         Held::Hold(assigned) => assigned.as_slice(),
-        Held::Pattern(_, _) | Held::Short(_, _) => &[],
+        Held::Pattern(_, _) => &[],
     }
 }
 
@@ -37,9 +37,6 @@ pub(crate) fn lacks_bit(held: &Held, inputs: u32) -> bool
         Held::Hold(assigned) => any_without_bit(assigned.as_slice()),
         Held::Pattern(from, to) => {
             !is_bits_word(from, inputs as usize) || !is_bits_word(to, inputs as usize)
-        }
-        Held::Short(from, to) => {
-            !from.is_bits_word(inputs as usize) || !to.is_bits_word(inputs as usize)
         }
     }
 }

@@ -11,8 +11,6 @@ ghost use Rattle.hz_pattern_text.specs.PatternRules.{rules_behind};
 ghost use Rattle.hz_text.specs.Rules.{AreBelow};
 
 use crate::rules::{assignments_in, first_late_hold, holds_unknown, lacks_bit, line_beyond};
-use crate::short::read_short;
-use crate::word::Letters;
 use hz_core::{Circuit, Memory};
 use hz_line::{Numbered, StatementFault, Token, first_word, is_blank_line, is_keyword};
 use hz_text::{Assigned, Mismatch, Text, read_assignments};
@@ -25,13 +23,11 @@ pub(crate) enum Keyword {
     From,
 }
 
-/// A statement: the gates that are held, or a pattern by its two words, which stand in the text. Those of a short line are
-/// known to be letters of bits.
+/// A statement: the gates that are held, or a pattern by its two words, which stand in the text.
 #[derive(Debug, Drop)]
 pub(crate) enum Held<'t> {
     Hold(Vec<Assigned>),
     Pattern(&'t [u8], &'t [u8]),
-    Short(Letters<'t>, Letters<'t>),
 }
 
 /// A statement with its line.
@@ -77,9 +73,9 @@ impl<'c, 't> Text<'t> for Statements<'c> {
         read_statement_of(self.alloc, self.circuit, keyword, rest)
     }
 
-    fn short(&self, line: &'t [u8]) -> Option<Held<'t>> {
-        let (from, to) = read_short(line, self.circuit.inputs())?;
-        Some(Held::Short(from, to))
+    // No line has a form of its own.
+    fn short(&self, _line: &'t [u8]) -> Option<Held<'t>> {
+        None
     }
 
     fn node_count(&self) -> u32

@@ -1,58 +1,11 @@
 // Words of bits: a letter for each input.
 
-ghost use Rattle.std.specs.Prelude.{◌≡◌, ◌≤◌, ◌++◌, ◌&&◌, length, nat_le, true, IfSome, OnOk};
+ghost use Rattle.std.specs.Prelude.{◌≡◌, ◌≤◌, ◌++◌, ◌&&◌, length, nat_le, OnOk};
 ghost use Rattle.std.specs.List.{list_all};
 ghost use Rattle.hz_pattern_text.specs.PatternInside.{letter_bits};
 ghost use Rattle.hz_pattern_text.specs.PatternWord.{is_bit_letter, is_bits_word};
 
 use hz_core::Memory;
-use std::marker::Model;
-
-// A word of letters `0` and `1` alone.
-#[derive(Debug, Drop)]
-pub(crate) struct Letters<'t> {
-    letters: &'t [u8],
-}
-
-impl<'t> Model for Letters<'t> {
-    ghost use Rattle.std.specs.Prelude.{ℕ, List};
-
-    ghost Value = { List ℕ };
-
-    ghost use Rattle.hz_pattern_text.specs.PatternLetters.{letters_in, HoldsLetters};
-
-    ghost view = { letters_in };
-
-    ghost invariant = { HoldsLetters };
-}
-
-impl<'t> Letters<'t> {
-    // The letters.
-    pub(crate) fn word(&self) -> &[u8]
-        ensures { result.now ≡ self.now }
-    {
-        self.letters
-    }
-
-    // Whether the word is one of so many bits.
-    pub(crate) fn is_bits_word(&self, inputs: usize) -> bool
-        ensures { result ≡ is_bits_word inputs self.now }
-    {
-        inputs != 0 && self.letters.len() == inputs
-    }
-}
-
-// The word, if it has letters `0` and `1` alone.
-pub(crate) fn letters_of<'t>(word: &'t [u8]) -> Option<Letters<'t>>
-    ensures same { IfSome result (λ letters. letters ≡ word.now) }
-    ensures letters { IfSome result (λ letters. list_all is_bit_letter word.now ≡ true) }
-{
-    if are_bit_letters(word) {
-        Some(Letters { letters: word })
-    } else {
-        None
-    }
-}
 
 // Whether a word is one of so many bits. Without inputs it is `-`.
 pub(crate) fn is_bits_word(word: &[u8], inputs: usize) -> bool

@@ -119,13 +119,12 @@ module _
       ]
 
 -- a listed start without held gates lists nothing past the inputs
-pub held-none : (nodes : ℕ) (first : List Bool) (held : List (ℕ × Bool)) (node : ℕ) → held ≡ [] → length first ≤ node → node < nodes → get_or (listed_with nodes first held) node None ≡ None
-held-none nodes first held node empty past inside =
+pub none-past : (nodes : ℕ) (first : List Bool) (node : ℕ) → length first ≤ node → node < nodes → get_or (listed_with nodes first []) node None ≡ None
+none-past nodes first node past inside =
     let nothing : Option Bool = None in
     let bits : List (Option Bool) = map (λ (b : Bool). Some b) first in
-    ap (λ (list : List (ℕ × Bool)). get_or (listed_with nodes first list) node None) empty
-    ∙ (get_or-append_right bits (replicate (nodes - length first) nothing) (length first) node nothing (length-map first (λ (b : Bool). Some b)) past
-    ∙ get_or-replicate (nodes - length first) (node - length first) nothing nothing (omega (arith, past, inside)))
+    get_or-append_right bits (replicate (nodes - length first) nothing) (length first) node nothing (length-map first (λ (b : Bool). Some b)) past
+    ∙ get_or-replicate (nodes - length first) (node - length first) nothing nothing (omega (arith, past, inside))
 
 -- a whole vector that was lent as a slice: what was written is its items then
 pub record IsBack {X : Type 0} (count : ℕ) (new items : List X) : Type 0 where
@@ -183,3 +182,19 @@ pub not-loaded : (loaded : List ℕ) (inputs : List (List ℕ)) (listings : List
 not-loaded loaded inputs listings lane e =
     let inside : lane < 512 = omega (arith, slice_get_within (lane_loads loaded inputs listings) lane None e, count-lanes loaded inputs listings) in
     unloaded (has_lane loaded lane) (record { input = lane_input inputs lane; listed = lane_listed listings lane }) (sym (at-lane loaded inputs listings lane inside) ∙ get_or_from_slice_get (lane_loads loaded inputs listings) lane None None e)
+
+-- a lane that is not loaded lists nothing
+pub fresh-lane :
+    (loaded : List ℕ) (inputs : List (List ℕ)) (listings lent : List Listing) (lane : ℕ) → lane < 512 → ((other : ℕ) → other < 512 → has_lane loaded other ≡ false → lane_listed listings other ≡ replicate (length listings) None) →
+    slice_get (lane_loads loaded inputs listings) lane ≡ Some None → lent ≡ listings → lane_listed lent lane ≡ replicate (length lent) None
+fresh-lane loaded inputs listings lent lane inside fresh at same =
+    subst (λ (all : List Listing). lane_listed all lane ≡ replicate (length all) None) (sym same) (fresh lane inside (not-loaded loaded inputs listings lane at))
+
+-- the start of a lane that listed nothing
+pub first-listed :
+    (before after : List Listing) (lane nodes : ℕ) (first : List Bool) → lane_listed before lane ≡ replicate (length before) None → length before ≡ nodes →
+    lane_listed after lane ≡ map (λ (b : Bool). Some b) first ++ drop (length first) (lane_listed before lane) → lane_listed after lane ≡ listed_with nodes first []
+first-listed before after lane nodes first none long is =
+    let nothing : Option Bool = None in
+    let rest : drop (length first) (lane_listed before lane) ≡ replicate (nodes - length first) nothing = ap (drop (length first)) none ∙ (drop-replicate (length first) (length before) nothing ∙ ap (λ (n : ℕ). replicate (n - length first) nothing) long) in
+    is ∙ ap (λ (list : List (Option Bool)). map (λ (b : Bool). Some b) first ++ list) rest

@@ -3,6 +3,7 @@ pub mod Pairs
 pub mod Rules
 pub mod Steps
 pub mod Lanes
+pub mod Passes
 pub mod Loads
 pub mod LoadsInside
 pub mod EightBits

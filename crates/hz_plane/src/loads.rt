@@ -5,7 +5,7 @@ ghost use Rattle.hz_plane.specs.Bits.{has_lane};
 ghost use Rattle.hz_plane.specs.Loads.{Loaded, block_loads, held_load, lane_input, lane_listed, held_at, listed_with, loaded_from};
 
 use crate::eights::{set_eight, start_eight};
-use crate::lanes::{has_lane, put_eight, put_lane};
+use crate::lanes::{put_eight, put_lane};
 use crate::listing::Listing;
 use hz_core::Memory;
 use std::alloc::Global;
@@ -107,38 +107,6 @@ impl Loads {
         self.no_gates = false;
     }
 
-    /// Loads a lane with a new input, and the listed start that lists the first bits of the inputs, and the held gates.
-    pub(crate) fn load_held(
-        &mut self,
-        lane: u32,
-        input: &[bool],
-        first: &[bool],
-        held: &[(u32, bool)],
-    )
-        requires lane { lane < 512 }
-        requires input { length input.now ≡ self.old.inputs }
-        requires first { length first.now ≤ self.old.nodes }
-        requires inputs { length first.now ≤ self.old.inputs }
-        requires held { All (λ node. node.0 < self.old.nodes) held.now }
-        ensures { self.new ≡ record self.old {
-          lanes = slice_set self.old.lanes lane (Some (record {
-            input = input.now;
-            listed = listed_with self.old.nodes first.now held.now;
-          }));
-        } }
-    {
-        put_inputs(lane, input, self.inputs.as_mut_slice());
-        list_start(
-            lane,
-            &self.loaded,
-            first,
-            held,
-            self.listings.as_mut_slice(),
-        );
-        put_lane(&mut self.loaded, lane, true);
-        self.no_gates = are_none_with(self.no_gates, held);
-    }
-
     /// Forgets what was loaded, and loads the first lanes, from a list of the bits of one lane after the other.
     pub(crate) fn load_block(&mut self, lanes: u32, bits: &[bool], held: &[(u32, bool)])
         requires lanes { lanes ≤ 512 }
@@ -220,8 +188,27 @@ impl Loads {
             let inputs = self.inputs.len();
             let at = lane as usize * (2 * inputs);
             let middle = at + inputs;
-            self.load_held(lane, &bits[middle..middle + inputs], &bits[at..middle], &[]);
+            self.load_one(lane, &bits[middle..middle + inputs], &bits[at..middle]);
         }
+    }
+
+    // Loads a lane that is not loaded: its new input, and the start that lists the first bits of the inputs. No gate is held.
+    fn load_one(&mut self, lane: u32, input: &[bool], first: &[bool])
+        requires lane { lane < 512 }
+        requires none { slice_get self.old.lanes lane ≡ Some None }
+        requires input { length input.now ≡ self.old.inputs }
+        requires first { length first.now ≤ self.old.nodes }
+        requires inputs { length first.now ≤ self.old.inputs }
+        ensures { self.new ≡ record self.old {
+          lanes = slice_set self.old.lanes lane (Some (record {
+            input = input.now;
+            listed = listed_with self.old.nodes first.now [];
+          }));
+        } }
+    {
+        put_inputs(lane, input, self.inputs.as_mut_slice());
+        list_inputs(lane, first, self.listings.as_mut_slice());
+        put_lane(&mut self.loaded, lane, true);
     }
 }
 
@@ -291,51 +278,11 @@ fn put_listed(lane: u32, listed: &[Option<bool>], listings: &mut [Listing])
     }
 }
 
-// Gives a lane the listed start that lists the first bits of the inputs, and the held gates.
-fn list_start(
-    lane: u32,
-    loaded: &[u64; 8],
-    first: &[bool],
-    held: &[(u32, bool)],
-    listings: &mut [Listing],
-)
-    requires lane { lane < 512 }
-    requires fresh { has_lane loaded.now lane ≡ false
-        → lane_listed listings.old lane ≡ replicate (length listings.old) None }
-    requires first { length first.now ≤ length listings.old }
-    requires held { All (λ node. node.0 < length listings.old) held.now }
-    ensures here { lane_listed listings.new lane
-        ≡ listed_with (length listings.old) first.now held.now }
-    ensures others { (other : ℕ) → other < 512 → other ≢ lane
-        → lane_listed listings.new other ≡ lane_listed listings.old other }
-{
-    unlist(lane, loaded, listings);
-    list_inputs(lane, first, listings);
-    list_held(lane, held, listings);
-}
-
-// Lets a lane list nothing. A lane that was not loaded lists nothing already.
-fn unlist(lane: u32, loaded: &[u64; 8], listings: &mut [Listing])
-    requires lane { lane < 512 }
-    requires fresh { has_lane loaded.now lane ≡ false
-        → lane_listed listings.old lane ≡ replicate (length listings.old) None }
-    ensures here { lane_listed listings.new lane ≡ replicate (length listings.old) None }
-    ensures others { (other : ℕ) → other < 512 → other ≢ lane
-        → lane_listed listings.new other ≡ lane_listed listings.old other }
-{
-    if has_lane(loaded, lane) {
-        for node in 0..listings.len() {
-            listings[node].put(lane, None);
-        }
-    }
-}
-
-// Lets a lane that lists no input list the first bits of the inputs.
+// Lets a lane that lists nothing list the first bits of the inputs.
 fn list_inputs(lane: u32, first: &[bool], listings: &mut [Listing])
     requires lane { lane < 512 }
     requires first { length first.now ≤ length listings.old }
-    requires none { (node : ℕ) → node < length first.now
-        → slice_index_or (lane_listed listings.old lane) node None ≡ None }
+    requires none { lane_listed listings.old lane ≡ replicate (length listings.old) None }
     ensures here { lane_listed listings.new lane ≡ map Some first.now
         ++ drop (length first.now) (lane_listed listings.old lane) }
     ensures others { (other : ℕ) → other < 512 → other ≢ lane
@@ -343,20 +290,6 @@ fn list_inputs(lane: u32, first: &[bool], listings: &mut [Listing])
 {
     for node in 0..first.len() {
         listings[node].list(lane, first[node]);
-    }
-}
-
-// Lets a lane list the held gates.
-fn list_held(lane: u32, held: &[(u32, bool)], listings: &mut [Listing])
-    requires lane { lane < 512 }
-    requires held { All (λ node. node.0 < length listings.old) held.now }
-    ensures here { lane_listed listings.new lane
-        ≡ held_at held.now (lane_listed listings.old lane) }
-    ensures others { (other : ℕ) → other < 512 → other ≢ lane
-        → lane_listed listings.new other ≡ lane_listed listings.old other }
-{
-    for (node, bit) in held {
-        listings[*node as usize].put(lane, Some(*bit));
     }
 }
 

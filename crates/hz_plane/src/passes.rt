@@ -1,18 +1,16 @@
 //! The three passes over planes, lane by lane in their clauses.
-ghost use Rattle.std.specs.Prelude.{◌≡◌, ℕ, ◌+◌, ◌/◌, ◌<◌, ◌≤◌, Bool, true, Some, List, [], length};
+ghost use Rattle.std.specs.Prelude.{◌≡◌, ℕ, ◌+◌, ◌/◌, ◌<◌, ◌≤◌, Bool, true, Some, [], length};
 ghost use Rattle.std.specs.List.{slice_index_or};
-ghost use Rattle.hz_core.specs.declared.tri.Tri.{Tri};
-ghost use Rattle.hz_core.specs.Ternary.{tri_of, AllBelow};
+ghost use Rattle.hz_core.specs.Ternary.{tri_of};
 ghost use Rattle.hz_core.specs.Netlist.{Netlist, IsCircuit, IsWhole};
-ghost use Rattle.hz_net.specs.Network.{network_of, IsInput};
-ghost use Rattle.hz_net.specs.Passes.{excitations, algorithm_b, AreRounds};
-ghost use Rattle.hz_net.specs.TernaryStarts.{algorithm_a_from};
+ghost use Rattle.hz_net.specs.Network.{IsInput};
 ghost use Rattle.hz_plane.specs.Pairs.{pair_at, widened_pair, known_pair};
+ghost use Rattle.hz_plane.specs.Passes.{HoldsForced, SpreadsLanes, SettlesLanes};
 ghost use Rattle.hz_plane.specs.Steps.{AreAllPlanes, HasLane};
 ghost use Rattle.hz_plane.specs.Schedules.{IsSchedule};
 ghost use Rattle.hz_plane.specs.Bits.{HasValue};
 ghost use Rattle.hz_plane.specs.Forward.{IsKnownPair, AreEvaluated};
-ghost use Rattle.hz_plane.specs.Lanes.{ListsAllInputs, ListsNoGate, AreForcedNodes, HasInputs, AreInputPlanes, AreAllOf, listed_values};
+ghost use Rattle.hz_plane.specs.Lanes.{ListsAllInputs, ListsNoGate, AreInputPlanes, listed_values};
 ghost use Rattle.hz_plane.specs.Loads.{lane_listed, listed_in};
 
 use crate::forward::evaluate_all;
@@ -46,8 +44,7 @@ pub(crate) fn fill(
         → net.now.inputs ≡ netlist.inputs → net.now.gates ≡ netlist.gates
         → (lane : ℕ) → lane < 512 → ListsAllInputs netlist (lane_listed listings.now lane)
         → (no_gates ≡ true → ListsNoGate netlist (lane_listed listings.now lane))
-        → (last : List Tri) × HasLane values.new lane last
-        × AreForcedNodes netlist (lane_listed listings.now lane) last }
+        → HoldsForced netlist values.new lane (lane_listed listings.now lane) }
 {
     if schedule.is_forward && no_gates {
         fill_forward(net, schedule, listings, values);
@@ -71,8 +68,7 @@ fn fill_forward(net: &Net, schedule: &Schedule, listings: &[Listing], values: &m
         → net.now.inputs ≡ netlist.inputs → net.now.gates ≡ netlist.gates
         → (lane : ℕ) → lane < 512 → ListsAllInputs netlist (lane_listed listings.now lane)
         → ListsNoGate netlist (lane_listed listings.now lane)
-        → (last : List Tri) × HasLane values.new lane last
-        × AreForcedNodes netlist (lane_listed listings.now lane) last }
+        → HoldsForced netlist values.new lane (lane_listed listings.now lane) }
 {
     list_bits(net.circuit().inputs() as usize, listings, values);
     evaluate_all(net, schedule, values);
@@ -111,8 +107,7 @@ fn fill_by_steps(
     ensures lanes { (netlist : Netlist) → IsCircuit netlist → IsWhole netlist
         → net.now.inputs ≡ netlist.inputs → net.now.gates ≡ netlist.gates
         → (lane : ℕ) → lane < 512 → ListsAllInputs netlist (lane_listed listings.now lane)
-        → (last : List Tri) × HasLane values.new lane last
-        × AreForcedNodes netlist (lane_listed listings.now lane) last }
+        → HoldsForced netlist values.new lane (lane_listed listings.now lane) }
 {
     begin(listings, values);
     let pass = Pass {
@@ -191,14 +186,7 @@ pub(crate) fn spread(
     requires planes { AreAllPlanes values.old }
     requires marks { length marks.old ≡ length schedule.now.order.items / 64 + 1 }
     ensures planes { AreAllPlanes values.new }
-    ensures lanes { (netlist : Netlist) → IsCircuit netlist → IsWhole netlist
-        → net.now.inputs ≡ netlist.inputs → net.now.gates ≡ netlist.gates
-        → (lane : ℕ) (input : List Bool) (first nodes : List Tri) (rounds : ℕ)
-        → lane < 512 → HasLane values.old lane nodes → AreAllOf netlist first nodes
-        → HasInputs inputs.now lane input
-        → AreRounds (algorithm_a_from (network_of netlist) input first) rounds
-        → (last : List Tri) × HasLane values.new lane last
-        × AreAllOf netlist (algorithm_a_from (network_of netlist) input first rounds) last }
+    ensures lanes { SpreadsLanes net.now inputs.now values.old values.new }
 {
     join_inputs(inputs, values);
     let pass = Pass {
@@ -227,15 +215,7 @@ pub(crate) fn settle(
     requires marks { length marks.old ≡ length schedule.now.order.items / 64 + 1 }
     ensures planes { AreAllPlanes values.new }
     ensures evaluated { result ≡ true → AreEvaluated net.now values.new }
-    ensures lanes { (netlist : Netlist) → IsCircuit netlist → IsWhole netlist
-        → net.now.inputs ≡ netlist.inputs → net.now.gates ≡ netlist.gates
-        → (lane : ℕ) (input : List Bool) (first nodes : List Tri) (rest : ℕ)
-        → lane < 512 → HasLane values.old lane nodes → AreAllOf netlist first nodes
-        → HasInputs inputs.now lane input
-        → AllBelow (excitations (network_of netlist) input first) first
-        → AreRounds (algorithm_b (network_of netlist) input first) rest
-        → (last : List Tri) × HasLane values.new lane last
-        × AreAllOf netlist (algorithm_b (network_of netlist) input first rest) last }
+    ensures lanes { SettlesLanes net.now inputs.now values.old values.new }
 {
     if schedule.is_forward {
         settle_forward(net, schedule, inputs, values);
@@ -255,15 +235,7 @@ fn settle_forward(net: &Net, schedule: &Schedule, inputs: &[[u64; 8]], values: &
     requires values { length values.old ≡ length net.now.names }
     ensures planes { AreAllPlanes values.new }
     ensures evaluated { AreEvaluated net.now values.new }
-    ensures lanes { (netlist : Netlist) → IsCircuit netlist → IsWhole netlist
-        → net.now.inputs ≡ netlist.inputs → net.now.gates ≡ netlist.gates
-        → (lane : ℕ) (input : List Bool) (first nodes : List Tri) (rest : ℕ)
-        → lane < 512 → HasLane values.old lane nodes → AreAllOf netlist first nodes
-        → HasInputs inputs.now lane input
-        → AllBelow (excitations (network_of netlist) input first) first
-        → AreRounds (algorithm_b (network_of netlist) input first) rest
-        → (last : List Tri) × HasLane values.new lane last
-        × AreAllOf netlist (algorithm_b (network_of netlist) input first rest) last }
+    ensures lanes { SettlesLanes net.now inputs.now values.old values.new }
 {
     net.keeps_shape();
     set_inputs(inputs, values);
@@ -286,15 +258,7 @@ fn settle_by_steps(
     requires planes { AreAllPlanes values.old }
     requires marks { length marks.old ≡ length schedule.now.order.items / 64 + 1 }
     ensures planes { AreAllPlanes values.new }
-    ensures lanes { (netlist : Netlist) → IsCircuit netlist → IsWhole netlist
-        → net.now.inputs ≡ netlist.inputs → net.now.gates ≡ netlist.gates
-        → (lane : ℕ) (input : List Bool) (first nodes : List Tri) (rest : ℕ)
-        → lane < 512 → HasLane values.old lane nodes → AreAllOf netlist first nodes
-        → HasInputs inputs.now lane input
-        → AllBelow (excitations (network_of netlist) input first) first
-        → AreRounds (algorithm_b (network_of netlist) input first) rest
-        → (last : List Tri) × HasLane values.new lane last
-        × AreAllOf netlist (algorithm_b (network_of netlist) input first rest) last }
+    ensures lanes { SettlesLanes net.now inputs.now values.old values.new }
 {
     set_inputs(inputs, values);
     let pass = Pass {

@@ -13,7 +13,7 @@ ghost use Rattle.hz_core.specs.Netlist.{Netlist, IsCircuit, IsWhole, IsGateNumbe
 ghost use Rattle.hz_net.specs.Network.{IsInput};
 ghost use Rattle.hz_plane.specs.Gates.{pin_sources};
 ghost use Rattle.hz_plane.specs.Lanes.{ListsAllInputs};
-ghost use Rattle.hz_plane.specs.Loads.{Loaded, block_loads, listed_with};
+ghost use Rattle.hz_plane.specs.Loads.{Loaded, block_loads};
 ghost use Rattle.hz_plane.specs.Steps.{AreAllPlanes};
 ghost use Rattle.hz_plane.specs.View.{Seen, AreOf, IsLaneValue, IsFilledValue, IsLaneFault, IsUnsettled, LeavesUnknown, value_by, value_in, variables_of};
 ghost use Rattle.hz_plane.specs.declared.stage.Stage.TheVariants.{Loading, Completed, Spread, Settled};
@@ -35,8 +35,8 @@ use std::simd::prelude::*;
 
 /// Bit planes for 512 lanes, each of which holds a pattern: a start, and a new input.
 ///
-/// `load_block` loads the first lanes at once, `load` and `load_held` a lane of their own. Then `complete` fills the starts of
-/// all lanes, `spread` makes Algorithm A of them, and `settle` Algorithm B (Brzozowski and Seger). Each is one pass for all lanes.
+/// `load_block` loads the first lanes at once, `load` a lane of its own. Then `complete` fills the starts of all lanes, `spread`
+/// makes Algorithm A of them, and `settle` Algorithm B (Brzozowski and Seger). Each is one pass for all lanes.
 #[derive(Debug, Drop)]
 pub struct Planes {
     stage: Stage,
@@ -119,35 +119,8 @@ impl Planes {
         self.loads.load(lane, input, listed);
     }
 
-    /// Loads a lane as `load` does, with the start that lists the first bits of the inputs, and these held gates. The work
-    /// doesn't grow with the number of gates, if the lane was not loaded since `clear`.
-    pub fn load_held(
-        &mut self,
-        net: &Net,
-        lane: u32,
-        input: &[bool],
-        first: &[bool],
-        held: &[(u32, bool)],
-    )
-        requires net { AreOf net.now self.old }
-        requires stage { self.old.stage ≡ Loading }
-        requires lane { lane < 512 }
-        requires input { IsInput net.now input.now }
-        requires first { length first.now ≡ net.now.inputs }
-        requires held { All (λ node. IsGateNumber net.now node.0) held.now }
-        ensures { self.new ≡ record self.old {
-          lanes = slice_set self.old.lanes lane (Some (record {
-            input = input.now;
-            listed = listed_with (length net.now.names) first.now held.now;
-          }));
-        } }
-    {
-        net.keeps_shape();
-        self.loads.load_held(lane, input, first, held);
-    }
-
-    /// Forgets what was loaded, and loads the first lanes, as `clear` does and then `load_held` of one lane after the
-    /// other. The bits are those of one lane after the other: of each the bits that its start lists for the inputs, and
+    /// Forgets what was loaded, as `clear` does, and loads the first lanes. Each start lists the inputs, and these held
+    /// gates. The bits are those of one lane after the other: of each the bits that its start lists for the inputs, and
     /// its new input.
     pub fn load_block(&mut self, net: &Net, lanes: u32, bits: &[bool], held: &[(u32, bool)])
         requires net { AreOf net.now self.old }

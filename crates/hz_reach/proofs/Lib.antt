@@ -10,7 +10,7 @@ pub mod ListPlaces
 pub mod Links
 -- Variables that are listed by number: those with a key are, and what stands between two that are listed has none
 pub mod ListedKeys
--- Sorting variables by a key: pairs of a key and a variable, in order, without the keys
+-- Sorting variables by a key and then by number: a list of those whose key is not 0, in that order
 pub mod SortLemmas
 -- Turns in the order of a key: who has had one and whose comes next, and that they keep what each turn keeps
 pub mod Order

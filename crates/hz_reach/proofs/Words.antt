@@ -38,7 +38,7 @@ pub use Rattle.hz_reach.specs.Existence.{AIsExact, SparingRunExists, SpreadRunEx
 pub use Rattle.hz_reach.specs.FilteredRange.{filtered_range}
 pub use Rattle.hz_reach.specs.Given.{AreResultsOfA, IsEmptyRun}
 pub use Rattle.hz_reach.specs.Linked.{AreBefore, AreLinked, IsBefore, IsFirst}
-pub use Rattle.hz_reach.specs.Order.{IsEarlier, IsInKeyOrder, key_at, keyed_below}
+pub use Rattle.hz_reach.specs.Order.{IsEarlier, IsInKeyOrder, key_at}
 pub use Rattle.hz_reach.specs.Room.{HasRoomFor, HasRoomForStep, Spends, with_step_if_any}
 pub use Rattle.hz_reach.specs.ScratchState.{ScratchState}
 pub use Rattle.hz_reach.specs.Spread.{IsSparingRun, IsSpreadRun, changes_in}

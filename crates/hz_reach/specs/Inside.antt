@@ -20,7 +20,6 @@ pub record HoldsScratch (fields : Inside) : Type 0 where
   pub few : length fields.state.items < 2 ^ 32
   pub first_fit : length fields.state.items + 1 ≤ vec_capacity fields.first
   pub next_long : length fields.next.items ≡ length fields.state.items
-  pub keyed_fit : length fields.state.items ≤ vec_capacity fields.keyed
   pub listed_fit : length fields.state.items ≤ vec_capacity fields.listed
   pub listed_ascends : AscendsBelow (length fields.state.items) fields.listed.items
   pub listed_covers : (i : ℕ) → IsTrue (is_listed fields.sorted.items i)

@@ -6,6 +6,7 @@
 //! | `spreading` | [`spread_run`]: a run that changes each X of Algorithm A once |
 //! | `turn` | [`take_turn`]: a gate's turn, two steps that turn it |
 //! | `scratch` | [`Scratch`]: the room to make a run in |
+//! | `sorting` | variables by a key and then by number |
 //! | `existence` | the law that there are spread runs |
 //! | `counts` | laws on the length of runs |
 #![tactic(auto)]
@@ -18,6 +19,7 @@ mod change;
 mod counts;
 mod existence;
 mod scratch;
+mod sorting;
 mod spreading;
 mod turn;
 
@@ -26,7 +28,7 @@ pub use counts::{run_counts, run_ends, spread_flips};
 pub use existence::spread_runs_exist;
 pub use scratch::Scratch;
 pub use spreading::{add_unused, sparing_in_order, spread_in_order, spread_run};
-pub use turn::{FEW_PINS, is_gate, take_turn};
+pub use turn::{is_gate, take_turn};
 
 /// Algorithm A is exact: from a start that is stable under its own input, the value of its result at a variable is the
 /// join of the values that the variable has in the reachable states. So if the result is X, one reachable state has 0

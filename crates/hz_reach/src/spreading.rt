@@ -10,9 +10,11 @@
 //!
 //! What breaks if you add a change: a wire before its source, or a gate before its wires, is stable then, and the step is
 //! none. A second change of a variable falsifies `IsSpreadRun`, and the room. A new kind of gate needs its canonical pattern.
+//!
+//! To pass over sixteen wires that are not X at once gains 3.2 % of a script's instructions (1,000 changes of 2,000 variables).
 ghost use Rattle.std.specs.Prelude.{◌≡◌, ℕ, ◌+◌, ◌-◌, ◌<◌, ◌≤◌, ◌^◌, Bool, true, false, not, ◌&&◌, List, [], ◌∷◌, ◌++◌, length, IsTrue, MatchBool, if◌then◌else◌};
 ghost use Rattle.hz_core.specs.Ternary.{is_unknown};
-ghost use Rattle.hz_core.specs.Netlist.{IsCircuit, IsGateNumber, gate_at};
+ghost use Rattle.hz_core.specs.Netlist.{IsCircuit, IsGateNumber};
 ghost use Rattle.hz_core.specs.Pattern.{differs};
 ghost use Rattle.hz_net.specs.Network.{network_of, value_at, IsState, AreByVariable, IsInput};
 ghost use Rattle.hz_gmw.specs.Runs.{end_of};
@@ -24,7 +26,7 @@ ghost use Rattle.hz_reach.specs.Given.{AreResultsOfA, IsScratchFor, IsEmptyRun};
 ghost use Rattle.hz_reach.specs.Spread.{IsSpreadRun, IsSparingRun};
 ghost use Rattle.hz_reach.specs.Turn.{changed_inputs, free_pins, earlier_pins, is_unchanged, IsTurn, unchanged_wires, CanTurn, HasRoomForTurn};
 
-use crate::turn::{FEW_PINS, is_gate, take_turn};
+use crate::turn::{is_gate, take_turn};
 use crate::{Change, Scratch};
 use hz_core::{MAX_PINS, Tri};
 use hz_gmw::Run;
@@ -186,43 +188,10 @@ fn turn_by_rank(net: &Net, rank: &[u32], gate: u32, scratch: &mut Scratch, run: 
     ensures sorted { scratch.new.sorted ≡ scratch.old.sorted }
     ensures room { Spends run.old run.new }
 {
-    let (_, pins) = net.wires_in(gate);
-    if pins as usize <= FEW_PINS {
-        let mut free = [false; FEW_PINS];
-        turn_by_free(net, rank, gate, &mut free[..pins as usize], scratch, run);
-    } else {
-        let mut free = [false; MAX_PINS];
-        turn_by_free(net, rank, gate, &mut free[..pins as usize], scratch, run);
-    }
-}
-
-// The same, with room for which pins are free. What stood there is not read.
-#[inline(always)]
-fn turn_by_free(
-    net: &Net,
-    rank: &[u32],
-    gate: u32,
-    free: &mut [bool],
-    scratch: &mut Scratch,
-    run: &mut Run,
-)
-    requires circuit { IsCircuit net.now }
-    requires rank { AreByVariable net.now rank.now }
-    requires gate { IsGateNumber net.now gate }
-    requires free { length free.old ≡ length (gate_at net.now gate).sources }
-    requires possible { CanTurn net.now gate (earlier_pins net.now rank.now gate)
-        scratch.old.state }
-    requires scratch { IsScratchFor net.now scratch.old }
-    requires room { HasRoomForTurn net.now gate (earlier_pins net.now rank.now gate) false
-        scratch.old.state run.old }
-    ensures turn { IsTurn net.now gate (earlier_pins net.now rank.now gate) false
-        scratch.old.state scratch.new.state run.old.steps run.new.steps }
-    ensures marked { scratch.new.marked ≡ [] }
-    ensures sorted { scratch.new.sorted ≡ scratch.old.sorted }
-    ensures room { Spends run.old run.new }
-{
     let (first, pins) = net.wires_in(gate);
     let wires = first as usize..(first + pins) as usize;
+    let mut room = [false; MAX_PINS];
+    let free = &mut room[..pins as usize];
     list_free(rank[gate as usize], &rank[wires], free);
     take_turn(net, gate, free, false, scratch, run);
 }

@@ -21,9 +21,6 @@ use hz_core::MAX_PINS;
 use hz_gmw::Run;
 use hz_net::Net;
 
-/// So many pins are few: most gates have no more, and what is noted of each of them stands in a short array.
-pub const FEW_PINS: usize = 8;
-
 /// Whether a variable is a gate.
 pub fn is_gate(net: &Net, var: u32) -> bool
     requires { IsVariable net.now var }
@@ -75,29 +72,10 @@ fn mark_pattern(net: &Net, gate: u32, free: &[bool], scratch: &mut Scratch)
     ensures state { scratch.new.state ≡ scratch.old.state }
     ensures sorted { scratch.new.sorted ≡ scratch.old.sorted }
 {
-    if free.len() <= FEW_PINS {
-        let mut pattern = [false; FEW_PINS];
-        mark_chosen(net, gate, free, &mut pattern[..free.len()], scratch);
-    } else {
-        let mut pattern = [false; MAX_PINS];
-        mark_chosen(net, gate, free, &mut pattern[..free.len()], scratch);
-    }
-}
-
-// The same, with room for the pattern. What stood there is not read.
-#[inline(always)]
-fn mark_chosen(net: &Net, gate: u32, free: &[bool], pattern: &mut [bool], scratch: &mut Scratch)
-    requires gate { IsGateNumber net.now gate }
-    requires free { length free.now ≡ length (gate_at net.now gate).sources }
-    requires pattern { length pattern.old ≡ length (gate_at net.now gate).sources }
-    requires possible { CanTurn net.now gate free.now scratch.old.state }
-    requires scratch { IsScratchFor net.now scratch.old }
-    ensures marked { AreTurnWires net.now gate free.now scratch.old.state scratch.new.marked }
-    ensures state { scratch.new.state ≡ scratch.old.state }
-    ensures sorted { scratch.new.sorted ≡ scratch.old.sorted }
-{
     let kind = net.circuit().kind(gate);
     let (first, pins) = net.wires_in(gate);
+    let mut room = [false; MAX_PINS];
+    let pattern = &mut room[..free.len()];
     kind.choose(
         &scratch.state()[first as usize..(first + pins) as usize],
         free,

@@ -22,5 +22,3 @@ pub mod Folds
 pub mod Laws
 -- Walks, histories and capped forms worked by hand: the definitions compute them
 mod Examples
--- A pin that rests at the letter that does not control leaves the word of the other pins as it is
-pub mod Resting

@@ -51,7 +51,7 @@ fn controlled(controlling: bool, pins: &[Word], cap: u64) -> Word
 {
     let mut so_far = Word::constant(!controlling);
     for pin in pins {
-        so_far = joined(so_far, *pin, controlling, cap);
+        so_far = controlled_pair(so_far, *pin, controlling, cap);
     }
     so_far
 }
@@ -69,25 +69,7 @@ fn parity(pins: &[Word], cap: u64) -> Word
     so_far
 }
 
-// The word of such a gate over two pins. If one of them rests at the other letter, it is the word of the other pin: so it is with most
-// pins of a gate that changes.
-fn joined(left: Word, right: Word, controlling: bool, cap: u64) -> Word
-    requires counted_left { IsWithinCap cap left.changes }
-    requires counted_right { IsWithinCap cap right.changes }
-    requires cap_high { cap ≤ greatest_cap }
-    ensures value { result ≡ controlled_pair controlling cap left right }
-    ensures counted { IsWithinCap cap result.changes }
-{
-    if right.is_constant(!controlling) {
-        return left;
-    }
-    if left.is_constant(!controlling) {
-        return right;
-    }
-    controlled_pair(left, right, controlling, cap)
-}
-
-// The same, whatever the pins are. A pin that has the controlling letter alone fixes it.
+// The word of such a gate over two pins. A pin that has the controlling letter alone fixes it.
 fn controlled_pair(left: Word, right: Word, controlling: bool, cap: u64) -> Word
     requires counted_left { IsWithinCap cap left.changes }
     requires counted_right { IsWithinCap cap right.changes }

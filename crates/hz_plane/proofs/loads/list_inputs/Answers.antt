@@ -1,5 +1,5 @@
 use Rattle.std.proofs.Common.{◌≡◌, ◌<◌, ◌≤◌, ◌+◌, ◌-◌, ◌∙◌, ℕ, List, Bool, Option, Some, None, false, length, map, take, drop, get_or, ap, sym, arith}
-use Rattle.std.proofs.lemmas.List.{length-map, length-take-le, get_or-map, get_or-drop, get_or-append_right}
+use Rattle.std.proofs.lemmas.List.{length-map, length-take-le, get_or-map, get_or-drop, get_or-append_right, get_or-replicate}
 use Rattle.hz_plane.specs.declared.listing.Listing.{Listing}
 use Rattle.hz_plane.specs.Loads.{listed_in, lane_listed}
 use Rattle.hz_plane.proofs.LoadLemmas.{written, unwritten}
@@ -19,7 +19,8 @@ list-requires-clause-none c =
     sym (get_or-map (λ (listing : Listing). listed_in listing lane) c.loop-node.listings node _ nothing inside)
     ∙ (ap (λ (list : List (Option Bool)). get_or list node nothing) c.loop-node.invariant.here
     ∙ (get_or-append_right (take node target) (drop node was) node node nothing front (omega arith)
-    ∙ (get_or-drop node was (node - node) nothing ∙ (ap (λ (n : ℕ). get_or was n nothing) zero ∙ c.requires.none node c.loop-node-test.true))))
+    ∙ (get_or-drop node was (node - node) nothing ∙ (ap (λ (n : ℕ). get_or was n nothing) zero
+    ∙ (ap (λ (list : List (Option Bool)). get_or list node nothing) c.requires.none ∙ get_or-replicate (length c.args.listings.now) node nothing nothing (omega (arith, c.loop-node-test.true, c.requires.first)))))))
 
 pub loop-node-preserved : goal.loop-node-preserved
 loop-node-preserved c =

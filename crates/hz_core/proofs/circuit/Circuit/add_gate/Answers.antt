@@ -1,4 +1,4 @@
-use Rattle.std.proofs.Common.{◌≡◌, ◌∙◌, ap, refl, ◌++◌, ◌∷◌, [], length, vec_len, rules}
+use Rattle.std.proofs.Common.{◌∙◌, ap, refl, ◌++◌, ◌∷◌, []}
 use Rattle.hz_core.proofs.FieldLemmas.{GateComes, HoldsCircuit-GateComes, view-GateComes, names_counted}
 use Rattle.hz_core.proofs.circuit.Circuit.add_gate.Goals as goal
 
@@ -7,8 +7,6 @@ comes :
     GateComes c.self.inside
     (record {
       names = c.add_name.new.names;
-      hashing = c.self.inside.hashing;
-      chains = c.add_name.new.chains;
       inputs = c.self.inside.inputs;
       cuts = c.self.inside.cuts;
       gates = c.push_reserved.new.self;
@@ -18,9 +16,7 @@ comes :
     c.args.name.now c.args.kind
 comes c =
     record {
-      names = c.in_ok-add_name.ensures.names;
-      hashing = refl;
-      chains = c.in_ok-add_name.ensures.chains;
+      names = c.in_ok-add_name.ensures.ok;
       inputs = refl;
       cuts = refl;
       gates = c.push_reserved.ensures.items ∙
@@ -35,5 +31,4 @@ invariant_of-self-2 c =
 
 pub returns-clause-ok : goal.returns-clause-ok
 returns-clause-ok c =
-    let counted : vec_len c.self.inside.names ≡ length c.self.inside.names.items = search rules in
-    (c.len-number.ensures ∙ counted ∙ names_counted c.self.inside c.args.self.now c.self.view_is, view-GateComes _ _ _ _ _ c.self.view_is c.requires.fresh (comes c))
+    (c.len-number.ensures.len ∙ names_counted c.self.inside c.args.self.now c.self.view_is, view-GateComes _ _ _ _ _ c.self.view_is c.requires.fresh (comes c))

@@ -10,5 +10,4 @@ invariant_of-self-2 c =
     record {
       circuit = rw c.in-Ok.ensures.ok (IsCircuit-with_output (netlist_of_fields c.self.inside) c.args.node c.self.invariant.circuit is_node);
       counted = c.self.invariant.counted;
-      hashed = c.self.invariant.hashed;
     }

@@ -9,8 +9,6 @@ invariant_of-self-2 c =
     c.self.invariant c.requires.gate
     (record {
       names = refl;
-      hashing = refl;
-      chains = refl;
       inputs = refl;
       cuts = refl;
       gates = ap (set c.self.inside.gates.items (c.args.gate - c.self.inside.inputs)) c.in-Ok.ensures.ok;

@@ -4,4 +4,4 @@ use Rattle.hz_core.proofs.circuit.Circuit.of_names.Goals as goal
 
 pub invariant_of-result : goal.invariant_of-result
 invariant_of-result c =
-    HoldsCircuit-empty _ c.new.ensures.items c.requires refl c.new-2.ensures.items c.new-3.ensures.items c.new-4.ensures refl
+    HoldsCircuit-empty _ c.requires refl c.new.ensures.items c.new-2.ensures.items c.new-3.ensures refl

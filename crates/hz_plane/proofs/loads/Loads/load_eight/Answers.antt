@@ -1,19 +1,17 @@
-use Rattle.std.proofs.Common.{◌≡◌, ◌≢◌, ◌<◌, ◌≤◌, ◌+◌, ◌*◌, ◌/◌, ◌%◌, ◌++◌, ◌∙◌, ℕ, Bool, Option, List, Some, None, [], false, true, refl, length, get_or, take, drop, replicate, slice_get, sym, ap, subst, arith, rules}
+use Rattle.std.proofs.Common.{◌≡◌, ◌≢◌, ◌<◌, ◌≤◌, ◌+◌, ◌*◌, ◌/◌, ◌%◌, ◌++◌, ◌∙◌, ℕ, Bool, Option, List, Some, None, [], false, true, length, get_or, take, drop, replicate, slice_get, sym, ap, subst, arith, rules}
 use Rattle.std.proofs.lemmas.List.{length-take}
 use Rattle.hz_plane.specs.declared.listing.Listing.{Listing}
 use Rattle.hz_plane.specs.Bits.{has_lane}
 use Rattle.hz_plane.specs.Loads.{LaneLoads, lane_input, lane_listed, lane_loads, listed_with, loaded_from}
 use Rattle.hz_plane.proofs.ByteLemmas.{all-bits}
-use Rattle.hz_plane.proofs.LoadLemmas.{written-back, held-none, not-loaded}
+use Rattle.hz_plane.proofs.LoadLemmas.{written-back, none-past, fresh-lane}
 use Rattle.hz_plane.proofs.BlockLoads.{lane-begins, eight-input, same-input, eight-loaded, others-loaded, fresh-eight, unlisted-eight}
 use Rattle.hz_plane.proofs.loads.Loads.load_eight.Goals as goal
 
 pub start_eight-requires-clause-none : goal.start_eight-requires-clause-none
 start_eight-requires-clause-none c lane same =
     let fields = c.self.inside in
-    let at : slice_get (lane_loads fields.loaded fields.inputs.items fields.listings.items) lane ≡ Some None = ap (λ (s : LaneLoads). slice_get s.lanes lane) c.self.view_is ∙ c.requires.none lane same in
-    subst (λ (all : List Listing). lane_listed all lane ≡ replicate (length all) None) (sym c.as_mut_slice-2.ensures.value)
-    (c.self.invariant.fresh lane (omega (arith, same, c.requires.eight)) (not-loaded fields.loaded fields.inputs.items fields.listings.items lane at))
+    fresh-lane fields.loaded fields.inputs.items fields.listings.items c.as_mut_slice-2.result.now lane (omega (arith, same, c.requires.eight)) c.self.invariant.fresh (ap (λ (s : LaneLoads). slice_get s.lanes lane) c.self.view_is ∙ c.requires.none lane same) c.as_mut_slice-2.ensures.value
 
 pub invariant_of-self : goal.invariant_of-self
 invariant_of-self c =
@@ -40,7 +38,7 @@ invariant_of-self c =
           gate (λ lane same.
           let first = take c.len-inputs.result (drop (8 * c.args.eight * (2 * c.len-inputs.result) + (lane % 8) * (2 * c.len-inputs.result)) c.args.bits.now) in
           ap (λ (list : List (Option Bool)). get_or list gate None) (c.start_eight.ensures.here lane same)
-          ∙ held-none (length c.as_mut_slice-2.result.now) first [] gate refl (omega (arith, beyond, length-take c.len-inputs.result (drop (8 * c.args.eight * (2 * c.len-inputs.result) + (lane % 8) * (2 * c.len-inputs.result)) c.args.bits.now), c.len-inputs.ensures)) (omega (arith, inside, ap (length {A = Listing}) c.as_mut_slice-2.ensures.value)))
+          ∙ none-past (length c.as_mut_slice-2.result.now) first gate (omega (arith, beyond, length-take c.len-inputs.result (drop (8 * c.args.eight * (2 * c.len-inputs.result) + (lane % 8) * (2 * c.len-inputs.result)) c.args.bits.now), c.len-inputs.ensures)) (omega (arith, inside, ap (length {A = Listing}) c.as_mut_slice-2.ensures.value)))
           (λ one few. c.self.invariant.no_gates none one gate few beyond inside) other below;
     }
 

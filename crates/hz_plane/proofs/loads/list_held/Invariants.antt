@@ -1,9 +1,0 @@
-use Rattle.std.proofs.Common.{◌≡◌, ◌≢◌, ◌<◌, ℕ, take}
-use Rattle.hz_plane.specs.Loads.{lane_listed, held_at}
-use Rattle.hz_plane.proofs.loads.list_held.Given as goal
-
-abbrev pub invariant-loop-node : goal.invariant-loop-node
-invariant-loop-node l = record {
-  here : lane_listed l.listings l.lane ≡ held_at (take l.node-index l.held) (lane_listed l.fn.listings l.lane);
-  others : (other : ℕ) → other < 512 → other ≢ l.lane → lane_listed l.listings other ≡ lane_listed l.fn.listings other;
-}
