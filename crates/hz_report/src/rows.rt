@@ -101,7 +101,7 @@ fn write_kept_lines<K: Sink>(
     ensures none_waits { NoneWaits writer.old → NoneWaits writer.new }
 {
     for node in from..to {
-        writer.end_by(kept_line(net, text, begins, node));
+        writer.end_by(kept_lines(net, text, begins, node, node + 1));
     }
 }
 
@@ -200,15 +200,16 @@ fn set_before(text: &mut [u8], end: usize, common: &[u8; COMMON])
     text[end - 1 - COMMON..end - 1].copy_from_slice(common);
 }
 
-// The line of a node.
+// The lines of the nodes from one up to another.
 #[inline(always)]
-fn kept_line<'t>(net: &Net, text: &'t [u8], begins: &[usize], node: usize) -> &'t [u8]
+fn kept_lines<'t>(net: &Net, text: &'t [u8], begins: &[usize], from: usize, to: usize) -> &'t [u8]
     requires kept { AreRowParts net.now (length net.now.names) text.now begins.now }
-    requires within { node < length net.now.names }
+    requires ordered { from ≤ to }
+    requires within { to ≤ length net.now.names }
     ensures { result.now
-        ≡ slice_range text.now (slice_index begins.now node) (slice_index begins.now (node + 1)) }
+        ≡ slice_range text.now (slice_index begins.now from) (slice_index begins.now to) }
 {
-    bytes_between(text, begins[node], begins[node + 1])
+    bytes_between(text, begins[from], begins[to])
 }
 
 // The bytes from one place up to another.

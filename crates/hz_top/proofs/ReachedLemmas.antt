@@ -97,7 +97,8 @@ module _ (flush : Result (Unit {0}) PutFault) (own : Status) where
   comes-flushed told task first second at (inl (place, name, stay, of)) = inl (place, name, stay, first-flushed told first at.line of)
   comes-flushed told task first second at (inr (place, name, of)) =
       inr (
-        place, name,
+        place,
+        name,
         if-told told.held (λ bytes_of. (netlist : Netlist) × IsNetlistText first (bytes_of first) netlist × IsLineOnCircuit told.held (faults_of task netlist) second own at.line)
             (λ bytes_of. (netlist : Netlist) × IsNetlistText first (bytes_of first) netlist × IsLineOnCircuit told.held (faults_of task netlist) second (status_flushed flush own) at.line)
             (λ bytes_of read. (read.0, read.1, circuit-flushed told.held (faults_of task read.0) second at.line read.2)) of,

@@ -131,7 +131,11 @@ returns-clause-reached g c =
     let net = c.in-Ok-build.net in
     let told = observation_of held g.F.Files.faults g.F.Files.longs c.args.files.now ending.new.files in
     let P : Option (List ℕ → List ℕ) → Type 0 = λ held. IsLineOnCircuit held (faults_of c.args.work.task net) c.args.second.now ending.result.status ending.result.line in
-    inr (inr (refl, refl, second-line told c.args.work.task c.args.first.now c.args.second.now c.as_slice.result.now net ending.result.status ending.result.line
-    (rw c.as_slice.ensures.value c.in-Ok.ensures.bytes)
-    (subst (IsNetlistText c.args.first.now c.as_slice.result.now) (sym c.in-Ok-build.ensures.ok) c.in-Ok-read_netlist.ensures.netlist)
-    (subst P c.load.ensures.same_files ending.ensures.line)))
+    inr (inr (
+      refl,
+      refl,
+      second-line told c.args.work.task c.args.first.now c.args.second.now c.as_slice.result.now net ending.result.status ending.result.line
+          (rw c.as_slice.ensures.value c.in-Ok.ensures.bytes)
+          (subst (IsNetlistText c.args.first.now c.as_slice.result.now) (sym c.in-Ok-build.ensures.ok) c.in-Ok-read_netlist.ensures.netlist)
+          (subst P c.load.ensures.same_files ending.ensures.line),
+    ))
