@@ -52,7 +52,8 @@ pub fn write<K: Sink>(
     ensures none_waits { NoneWaits writer.new }
 {
     let mut room = [false; ROOM];
-    write_within(writer, net, nodes, &mut room, lead, cycle);
+    let state = &mut room[..net.len() as usize];
+    write_within(writer, net, nodes, state, lead, cycle);
 }
 
 /// The same, with room for a bit of each variable, which is written over.
