@@ -52,8 +52,9 @@ pub fn write<K: Sink>(
     ensures none_waits { NoneWaits writer.new }
 {
     let mut room = [false; ROOM];
-    let state = &mut room[..net.len() as usize];
-    write_within(writer, net, nodes, state, lead, cycle);
+    // No network has more variables, as its length says.
+    let _variables = net.len();
+    write_within(writer, net, nodes, &mut room, lead, cycle);
 }
 
 /// The same, with room for a bit of each variable, which is written over.
