@@ -1,6 +1,6 @@
 -- Where what is told and what the witness shows meet, the number is exact.
-use Rattle.std.proofs.Common.{◌≡◌, ℕ, ◌+◌, ◌<◌, ◌≤◌, Bool, true, false, cond, not, List, [], ◌∷◌, length, get_or, refl, ◌∙◌, subst, arith}
-use Rattle.std.proofs.lemmas.List.Sums.{sum_by-cons}
+use Rattle.std.proofs.Common.{◌≡◌, ℕ, ◌+◌, ◌<◌, ◌≤◌, Bool, cond, not, List, [], ◌∷◌, length, get_or, refl, ap, ◌∙◌, subst, arith, inl, inr}
+use Rattle.std.proofs.lemmas.Bool.{cases_Bool}
 use Rattle.hz_lists.specs.Listed.{is_listed}
 use Rattle.hz_core.specs.declared.tri.Tri.{Tri}
 use Rattle.hz_core.specs.Netlist.{Netlist, IsCircuit, IsWhole}
@@ -9,6 +9,7 @@ use Rattle.hz_net.specs.Starts.{IsStableStart}
 use Rattle.hz_gmw.specs.Runs.{IsRun, state_after}
 use Rattle.hz_gmw.proofs.Flips.{length-state_after, at-state_after}
 use Rattle.hz_reach.specs.Spread.{changes_in}
+use Rattle.hz_reach.proofs.FlipCounts.{listed, changes-more}
 use Rattle.hz_word.specs.declared.count.Count.{Count}
 use Rattle.hz_word.specs.declared.count.Count.TheVariants.{Exact}
 use Rattle.hz_word.specs.declared.word.Word.{Word}
@@ -23,16 +24,23 @@ use Rattle.hz_witness.specs.Witness.{IsWitness}
 use Rattle.hz_bounds.specs.Ranges.{IsMostChanges}
 
 -- a step changes a variable if it lists it
-change-listed : (x x' : Bool) (listed : Bool) → x' ≡ cond listed (not x) x → change_between x x' ≡ cond listed 1 0
-change-listed x x' true same = rw same (change-not x)
-change-listed x x' false same = rw same (change-same x)
+change-listed : (flips : List ℕ) (i : ℕ) (x x' : Bool) → x' ≡ cond (is_listed flips i) (not x) x → change_between x x' ≡ listed flips i
+change-listed flips i x x' same =
+    elim (cases_Bool (is_listed flips i)) [
+      | inl there ↦
+          let turned : x' ≡ not x = same ∙ ap (λ (bit : Bool). cond bit (not x) x) there in
+          rw (there, turned) (change-not x)
+      | inr out ↦
+          let stayed : x' ≡ x = same ∙ ap (λ (bit : Bool). cond bit (not x) x) out in
+          rw (out, stayed) (change-same x)
+    ]
 
 changes-listed : (state : List Bool) (steps : List (List ℕ)) (i : ℕ) → i < length state → changes_along (λ s. bit_at s i) state steps ≡ changes_in steps i
 changes-listed state [] i inside = refl
 changes-listed state (flips ∷ steps) i inside =
-    let one = change-listed (bit_at state i) (bit_at (state_after flips state) i) (is_listed flips i) (at-state_after flips state i inside) in
+    let one = change-listed flips i (bit_at state i) (bit_at (state_after flips state) i) (at-state_after flips state i inside) in
     let later = changes-listed (state_after flips state) steps i (omega (arith, inside, length-state_after flips state)) in
-    let sum = sum_by-cons (λ (list : List ℕ). cond (is_listed list i) 1 0) flips steps in
+    let sum = changes-more flips steps i in
     omega (arith, one, later, sum)
 
 -- the history of a variable has as many changes as steps list it

@@ -2,5 +2,7 @@
 pub mod Below
 -- One flip more of a run that is tried, and how often it changes each variable
 pub mod Tried
+-- One more flip of a step that is counted, and one more step of a run
+pub mod Counted
 -- What was tried is a witness, if it shows the nodes and has settled
 pub mod Shown

@@ -1,8 +1,7 @@
 -- One flip more of a run that is tried, and how often it changes each variable.
-use Rattle.std.proofs.Common.{◌≡◌, ℕ, ◌+◌, ◌<◌, Bool, false, cond, not, List, [], ◌∷◌, ◌++◌, length, get_or, set, IsTrue, refl, sym, ap, ◌∙◌, subst, arith, inl, inr}
+use Rattle.std.proofs.Common.{◌≡◌, ℕ, ◌+◌, ◌<◌, Bool, true, false, not, List, [], ◌∷◌, ◌++◌, length, get_or, set, IsTrue, refl, sym, ap, ◌∙◌, subst, arith, inl, inr}
 use Rattle.std.proofs.lemmas.Bool.{cases_eq}
 use Rattle.std.proofs.lemmas.List.{get_or-set_same, get_or-set_other}
-use Rattle.std.proofs.lemmas.List.Sums.{sum_by-append}
 use Rattle.hz_lists.specs.Listed.{is_listed}
 use Rattle.hz_lists.proofs.ListedLemmas.{listed-first, listed-other, listed-one}
 use Rattle.hz_net.specs.Network.{Driver, bit_at, IsUnstable}
@@ -10,6 +9,7 @@ use Rattle.hz_gmw.specs.Runs.{IsStep, state_after, end_of}
 use Rattle.hz_gmw.proofs.Paths.{end_of-append, IsRun-append}
 use Rattle.hz_gmw.proofs.Flips.{state_after-one}
 use Rattle.hz_reach.specs.Spread.{changes_in}
+use Rattle.hz_reach.proofs.FlipCounts.{changes-more}
 use Rattle.hz_witness.specs.Witness.{IsTried}
 
 -- one unstable variable is a step
@@ -23,13 +23,19 @@ lone-step net input state var inside unstable = record {
 
 -- the changes of steps and of more
 pub changes-append : (steps more : List (List ℕ)) (i : ℕ) → changes_in (steps ++ more) i ≡ changes_in steps i + changes_in more i
-changes-append steps more i = sum_by-append (λ flips. cond (is_listed flips i) 1 0) steps more
+changes-append [] more i = refl
+changes-append (flips ∷ steps) more i =
+    let whole = changes-more flips (steps ++ more) i in
+    let front = changes-more flips steps i in
+    let rest = changes-append steps more i in
+    omega (arith, whole, front, rest)
 
-changes-one : (i : ℕ) → changes_in ((i ∷ []) ∷ []) i ≡ 1
-changes-one i = rw (listed-first i i [] refl) refl
+-- the changes of one step, by whether it lists the variable
+pub changes-yes : (flips : List ℕ) (i : ℕ) → is_listed flips i ≡ true → changes_in (flips ∷ []) i ≡ 1
+changes-yes flips i there = changes-more flips [] i ∙ rw there refl
 
-changes-other : (i var : ℕ) → (i ≡ var → ⊥) → changes_in ((var ∷ []) ∷ []) i ≡ 0
-changes-other i var differ = rw (listed-other i var [] differ) refl
+pub changes-no : (flips : List ℕ) (i : ℕ) → is_listed flips i ≡ false → changes_in (flips ∷ []) i ≡ 0
+changes-no flips i out = changes-more flips [] i ∙ rw out refl
 
 pub begin-tried : (net : List Driver) (input start : List Bool) (counts : List ℕ) → ((i : ℕ) → i < length net → get_or counts i 0 ≡ 0) → IsTried net input start [] start counts
 begin-tried net input start counts none = record { run = tt; ends = refl; counted = none }
@@ -48,12 +54,12 @@ flip-tried net input start state steps counts var more inside long counted unsta
           let sum = changes-append steps ((var ∷ []) ∷ []) i in
           elim (cases_eq i var) [
             | inl same ↦
-                let one : changes_in ((var ∷ []) ∷ []) i ≡ 1 = rw same (changes-one var) in
+                let one : changes_in ((var ∷ []) ∷ []) i ≡ 1 = changes-yes (var ∷ []) i (listed-first i var [] same) in
                 let here : get_or (set counts var more) i 0 ≡ more = rw same (get_or-set_same counts var more 0 (omega (arith, inside, counted))) in
                 let was : get_or counts i 0 ≡ get_or counts var 0 = ap (λ (n : ℕ). get_or counts n 0) same in
                 omega (arith, count, one, here, was, so_far, sum)
             | inr differ ↦
-                let none = changes-other i var differ in
+                let none = changes-no (var ∷ []) i (listed-other i var [] differ) in
                 let here : get_or (set counts var more) i 0 ≡ get_or counts i 0 = get_or-set_other counts var i more 0 differ in
                 omega (arith, none, here, so_far, sum)
           ];
