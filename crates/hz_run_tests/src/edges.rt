@@ -158,11 +158,11 @@ fn edges_of_nodes(rt: HostRuntime) -> Result<(), Fail> {
             "runs 1\nstart r=0 s=0 q=0 qb=1\ninput r=0 s=1\nend",
             "00 0..0 steady, 01 1..1 single, 01 1..1 single, 10 1..1 single, ",
         ),
-        // It is set and reset at once.
+        // The pulse may be kept or lost, and kept and lost again.
         (
             HOLDING,
             "runs 1\nstart x=0 p=0 n=1 y=0\ninput x=1\nend",
-            "01 1..1 single, 00 2..2 static, 10 1..1 single, 0X 1..1 unsettled, ",
+            "01 1..1 single, 00 2..2 static, 10 1..1 single, 0X 2.. unsettled, ",
         ),
         (
             ECONOMY,

@@ -1,9 +1,9 @@
 //! The run that serves all variables.
 ghost use Rattle.std.specs.Prelude.{OnOk, IfOk, IsTrue};
-ghost use Rattle.hz_net.specs.Network.{network_of, AreByVariable};
+ghost use Rattle.hz_net.specs.Network.{network_of, AreByVariable, IsInput, IsState};
 ghost use Rattle.hz_cycle.specs.Cycles.{AreResultsOfBoth, IsSettleRun};
 ghost use Rattle.hz_reach.specs.Given.{IsScratchFor};
-ghost use Rattle.hz_witness.specs.Witness.{IsWitness, ShowsNodes};
+ghost use Rattle.hz_witness.specs.Witness.{AreSettled, DoNodesChange, IsWitness, ShowsNodes};
 
 use crate::attempt::try_plan;
 use crate::check::{are_settled, do_nodes_change};
@@ -42,10 +42,32 @@ pub fn witness_run(
     change.net.keeps_shape();
     let moves = what_moves(alloc, results.a)?;
     let parts = components(alloc, change.net, moves.as_slice())?;
-    if attempt(alloc, change, results, parts.as_slice(), counts, run)? {
+    let shown = attempt(alloc, change, results, parts.as_slice(), counts, run)?;
+    if shown {
         return Ok(());
     }
-    if attempt(alloc, change, results, &[], counts, run)? {
+    make_by_rank(alloc, change, results, scratch, run, counts)
+}
+
+// The same without components: by rank alone, or as the settle run.
+fn make_by_rank(
+    alloc: Global,
+    change: &Change,
+    results: &Results,
+    scratch: &mut Scratch,
+    run: &mut Run,
+    counts: &mut [u32],
+) -> Result<(), Memory>
+    requires change { AreResultsOfBoth change.now.net.now change.now.start.now
+        change.now.input.now results.now.a.now results.now.ranks.now results.now.b.now
+        results.now.when.now }
+    requires scratch { IsScratchFor change.now.net.now scratch.old }
+    requires counts { AreByVariable change.now.net.now counts.old }
+    ensures { OnOk result (IsWitness (network_of change.now.net.now) change.now.input.now
+        change.now.start.now results.now.a.now results.now.b.now run.new.steps counts.new) }
+{
+    let shown = attempt(alloc, change, results, &[], counts, run)?;
+    if shown {
         return Ok(());
     }
     settle(change, results, scratch, run)?;
@@ -86,8 +108,26 @@ fn attempt(
     let plan = plan(alloc, moving)?;
     let mut state = vec![in alloc; false; change.net.len() as usize]?;
     try_plan(change, plan.as_slice(), state.as_mut_slice(), counts, run)?;
-    Ok(do_nodes_change(change.net, results.a, counts)
-        && are_settled(change.net, change.input, results.b, state.as_slice()))
+    Ok(is_shown(change, results, counts, state.as_slice()))
+}
+
+// Whether what was tried shows what a witness shows.
+fn is_shown(change: &Change, results: &Results, counts: &[u32], state: &[bool]) -> bool
+    requires a { AreByVariable change.now.net.now results.now.a.now }
+    requires b { AreByVariable change.now.net.now results.now.b.now }
+    requires counts { AreByVariable change.now.net.now counts.now }
+    requires state { IsState change.now.net.now state.now }
+    requires input { IsInput change.now.net.now change.now.input.now }
+    ensures nodes { IsTrue result →
+        DoNodesChange (network_of change.now.net.now) results.now.a.now counts.now }
+    ensures settled { IsTrue result →
+        AreSettled (network_of change.now.net.now) change.now.input.now results.now.b.now
+        state.now }
+{
+    if !do_nodes_change(change.net, results.a, counts) {
+        return false;
+    }
+    are_settled(change.net, change.input, results.b, state)
 }
 
 // The settle run, in which each node that is X in the result of Algorithm A changes.
