@@ -1,6 +1,6 @@
 //! Plans that are tried: what is unstable when its turn comes is flipped, so whatever the plan, it is a run.
-ghost use Rattle.std.specs.Prelude.{◌≡◌, Bool, List, OnOk};
-ghost use Rattle.hz_net.specs.Network.{network_of, AreByVariable, IsInput, IsState, IsVariable};
+ghost use Rattle.std.specs.Prelude.{◌≡◌, ◌+◌, ◌<◌, ◌++◌, Bool, not, List, [], ◌∷◌, length, slice_set, slice_index_or, OnOk};
+ghost use Rattle.hz_net.specs.Network.{bit_at, network_of, AreByVariable, IsInput, IsState, IsVariable};
 ghost use Rattle.hz_witness.specs.Witness.{IsTried};
 
 use hz_core::Memory;
@@ -25,16 +25,29 @@ fn try_flip(
         IsTried (network_of net.now) input.now start run.old.steps state.old counts.old →
         IsTried (network_of net.now) input.now start run.new.steps state.new counts.new) }
 {
-    let place = var as usize;
-    if state[place] != net.excite(input, state, var) {
-        let Some(more) = counts[place].checked_add(1) else {
-            return Err(Memory);
-        };
-        run.reserve(1, 1)?;
-        run.push_step(&[var]);
-        state[place] = !state[place];
-        counts[place] = more;
+    if state[var as usize] == net.excite(input, state, var) {
+        return Ok(());
     }
+    flip(var, state, counts, run)?;
+    Ok(())
+}
+
+// Flips a variable, as a step of its own, and counts the change.
+fn flip(var: u32, state: &mut [bool], counts: &mut [u32], run: &mut Run) -> Result<(), Memory>
+    requires state { var < length state.old }
+    requires counts { var < length counts.old }
+    ensures state { OnOk result (state.new ≡ slice_set state.old var (not (bit_at state.old var))) }
+    ensures counts { OnOk result
+        (counts.new ≡ slice_set counts.old var (slice_index_or counts.old var 0 + 1)) }
+    ensures run { OnOk result (run.new.steps ≡ run.old.steps ++ (var ∷ []) ∷ []) }
+{
+    let Some(more) = counts[var as usize].checked_add(1) else {
+        return Err(Memory);
+    };
+    run.reserve(1, 1)?;
+    run.push_step(&[var]);
+    state[var as usize] = !state[var as usize];
+    counts[var as usize] = more;
     Ok(())
 }
 

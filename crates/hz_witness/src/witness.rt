@@ -42,7 +42,7 @@ pub fn witness_run(
     change.net.keeps_shape();
     let moves = what_moves(alloc, results.a)?;
     let parts = components(alloc, change.net, moves.as_slice())?;
-    let shown = attempt(alloc, change, results, parts.as_slice(), counts, run)?;
+    let shown = try_parts(alloc, change, results, parts.as_slice(), counts, run)?;
     if shown {
         return Ok(());
     }
@@ -66,12 +66,13 @@ fn make_by_rank(
     ensures { OnOk result (IsWitness (network_of change.now.net.now) change.now.input.now
         change.now.start.now results.now.a.now results.now.b.now run.new.steps counts.new) }
 {
-    let shown = attempt(alloc, change, results, &[], counts, run)?;
+    let shown = try_parts(alloc, change, results, &[], counts, run)?;
     if shown {
         return Ok(());
     }
     settle(change, results, scratch, run)?;
-    count_changes(run, counts)
+    count_changes(run, counts)?;
+    Ok(())
 }
 
 // Which variables move.
@@ -84,7 +85,7 @@ fn what_moves(alloc: Global, a: &[Tri]) -> Result<Vec<bool>, Memory> {
 }
 
 // Makes a plan by the parts of the nodes, and tries it. Whether a witness came of it.
-fn attempt(
+fn try_parts(
     alloc: Global,
     change: &Change,
     results: &Results,
@@ -100,6 +101,7 @@ fn attempt(
         IsWitness (network_of change.now.net.now) change.now.input.now change.now.start.now
         results.now.a.now results.now.b.now run.new.steps counts.new) }
 {
+    change.net.keeps_shape();
     let moving = Moving {
         change,
         results,
@@ -107,8 +109,37 @@ fn attempt(
     };
     let plan = plan(alloc, moving)?;
     let mut state = vec![in alloc; false; change.net.len() as usize]?;
-    try_plan(change, plan.as_slice(), state.as_mut_slice(), counts, run)?;
-    Ok(is_shown(change, results, counts, state.as_slice()))
+    attempt(
+        change,
+        results,
+        plan.as_slice(),
+        state.as_mut_slice(),
+        counts,
+        run,
+    )
+}
+
+// Tries a plan. Whether a witness came of it.
+fn attempt(
+    change: &Change,
+    results: &Results,
+    plan: &[u32],
+    state: &mut [bool],
+    counts: &mut [u32],
+    run: &mut Run,
+) -> Result<bool, Memory>
+    requires start { IsState change.now.net.now change.now.start.now }
+    requires input { IsInput change.now.net.now change.now.input.now }
+    requires a { AreByVariable change.now.net.now results.now.a.now }
+    requires b { AreByVariable change.now.net.now results.now.b.now }
+    requires state { IsState change.now.net.now state.old }
+    requires counts { AreByVariable change.now.net.now counts.old }
+    ensures { IfOk result (λ shown. IsTrue shown →
+        IsWitness (network_of change.now.net.now) change.now.input.now change.now.start.now
+        results.now.a.now results.now.b.now run.new.steps counts.new) }
+{
+    try_plan(change, plan, state, counts, run)?;
+    Ok(is_shown(change, results, counts, state))
 }
 
 // Whether what was tried shows what a witness shows.
