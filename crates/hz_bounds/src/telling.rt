@@ -99,12 +99,12 @@ fn fill(telling: &Telling, changes: Count, told: &mut [Word])
     requires told { length told.old ≡ length (network_of telling.now.net.now) }
     ensures { AllHave telling.now changes told.new }
 {
-    for var in 0..told.len() {
+    for var in 0..telling.net.len() {
         let other = Word {
-            first: telling.start[var],
+            first: telling.start[var as usize],
             changes,
         };
-        told[var] = known(telling, var as u32).unwrap_or(other);
+        told[var as usize] = known(telling, var).unwrap_or(other);
     }
 }
 

@@ -76,17 +76,17 @@ module _ (netlist : Netlist) (circuit : IsCircuit netlist) (whole : IsWhole netl
 
 -- The word of a feedback-free variable covers: it is told its word, and every other variable many changes.
 module _ (netlist : Netlist) (circuit : IsCircuit netlist) (whole : IsWhole netlist) (input start : List Bool) (begins : IsStableStart netlist start) (words : List (List Bool)) (are : AreVariableWords (network_of netlist) input start words) (cap : ℕ) where
-  told_with : (free : List Bool) → ℕ → Word
+  abbrev told_with : (free : List Bool) → ℕ → Word
   told_with free i = cond (bit_at free i) (capped_word cap (get_or words i [])) (record { first = bit_at start i; changes = Many })
 
-  told : List Word
+  abbrev told : List Word
   told = map (told_with (marks netlist circuit).0) (range_with_len 0 (length (network_of netlist)))
 
   long : length told ≡ length (network_of netlist)
   long = length-map-range_with_len (told_with (marks netlist circuit).0) 0 (length (network_of netlist))
 
   at : (i : ℕ) → i < length (network_of netlist) → told_at told i ≡ told_with (marks netlist circuit).0 i
-  at i few = get_or-map-range_with_len (told_with (marks netlist circuit).0) 0 (length (network_of netlist)) i i (constant_word false) few refl
+  at i few = get_or-map-range_with_len (told_with (marks netlist circuit).0) 0 (length (network_of netlist)) i i (constant_word false) few (omega arith)
 
   at-free : (i : ℕ) → i < length (network_of netlist) → IsFeedbackFree (network_of netlist) i → told_at told i ≡ capped_word cap (get_or words i [])
   at-free i few free =
