@@ -309,10 +309,7 @@ impl Circuit {
 
 // Adds a name after the others.
 #[inline(always)]
-fn add_name(
-    names: &mut IndexSet<NodeName<'static>, NameHashing>,
-    name: &[u8],
-) -> Result<(), Memory>
+fn add_name(names: &mut IndexSet<NodeName<'static>, NameHashing>, name: &[u8]) -> Result<(), Memory>
     requires { position (bytes_eq name.now) names.old.keys ≡ None }
     ensures ok { OnOk result (names.new.keys ≡ names.old.keys ++ name.now ∷ []) }
     ensures err { OnErr result (names.new.keys ≡ names.old.keys) }

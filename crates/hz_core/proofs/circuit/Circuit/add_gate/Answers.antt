@@ -31,4 +31,4 @@ invariant_of-self-2 c =
 
 pub returns-clause-ok : goal.returns-clause-ok
 returns-clause-ok c =
-        (c.len-number.ensures.len ∙ names_counted c.self.inside c.args.self.now c.self.view_is, view-GateComes _ _ _ _ _ c.self.view_is c.requires.fresh (comes c))
+    (c.len-number.ensures.len ∙ names_counted c.self.inside c.args.self.now c.self.view_is, view-GateComes _ _ _ _ _ c.self.view_is c.requires.fresh (comes c))
