@@ -7,7 +7,7 @@ ghost use Rattle.hz_bounds.specs.Telling.{AreToldSoFar, CanBeTold};
 use crate::telling::{Telling, known, raise};
 use hz_core::Memory;
 use hz_net::VarKind;
-use hz_witness::components;
+use hz_witness::components_of;
 use hz_word::Word;
 use std::alloc::Global;
 
@@ -16,7 +16,7 @@ pub(crate) fn by_component(alloc: Global, telling: &Telling) -> Result<Vec<(u32,
     requires telling { CanBeTold telling.now }
 {
     let moves = unknown(alloc, telling)?;
-    let parts = components(alloc, telling.net, moves.as_slice())?;
+    let parts = components_of(alloc, telling.net, moves.as_slice())?;
     let mut order = Vec::new(alloc);
     for var in 0..telling.net.len() {
         if known(telling, var).is_none() {

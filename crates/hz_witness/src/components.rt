@@ -29,7 +29,7 @@ struct Search<'a> {
 
 /// The number of each node's component among the nodes that move, from 1 on, and 0 for a node that stays. The nodes that a node reads
 /// have lesser numbers than it, or lie on a cycle with it.
-pub fn components(alloc: Global, net: &Net, moves: &[bool]) -> Result<Vec<u32>, Memory> {
+pub fn components_of(alloc: Global, net: &Net, moves: &[bool]) -> Result<Vec<u32>, Memory> {
     let nodes = net.circuit().nodes();
     let mut search = Search {
         net,

@@ -9,7 +9,7 @@
 //! | `counting` | how often a run changes each variable |
 //! | `plan` | the plan of a run in which as many gates as possible are turned back |
 //! | `moving` | what moves in a change, and what turns a gate |
-//! | `components` | [`components`]: the cycles of what moves, in an order in which each comes after what it reads |
+//! | `components` | [`components_of`]: the cycles of what moves, in an order in which each comes after what it reads |
 //! | `tables` | numbers that are read and set without a fault |
 #![tactic(auto)]
 
@@ -22,5 +22,5 @@ mod plan;
 mod tables;
 mod witness;
 
-pub use components::components;
+pub use components::components_of;
 pub use witness::witness_run;

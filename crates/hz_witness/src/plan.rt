@@ -29,7 +29,7 @@ struct Planning<'a> {
 }
 
 /// The plan.
-pub(crate) fn plan(alloc: Global, moving: Moving) -> Result<Vec<u32>, Memory> {
+pub(crate) fn plan_of(alloc: Global, moving: Moving) -> Result<Vec<u32>, Memory> {
     let planning = Planning {
         moving,
         order: order(alloc, &moving)?,

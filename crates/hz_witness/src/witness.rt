@@ -7,10 +7,10 @@ ghost use Rattle.hz_witness.specs.Witness.{AreSettled, DoNodesChange, IsWitness,
 
 use crate::attempt::try_plan;
 use crate::check::{are_settled, do_nodes_change};
-use crate::components::components;
+use crate::components::components_of;
 use crate::counting::count_changes;
 use crate::moving::Moving;
-use crate::plan::plan;
+use crate::plan::plan_of;
 use hz_core::{Memory, Tri};
 use hz_cycle::{Results, settle_from};
 use hz_gmw::Run;
@@ -41,7 +41,7 @@ pub fn witness_run(
 {
     change.net.keeps_shape();
     let moves = what_moves(alloc, results.a)?;
-    let parts = components(alloc, change.net, moves.as_slice())?;
+    let parts = components_of(alloc, change.net, moves.as_slice())?;
     let shown = try_parts(alloc, change, results, parts.as_slice(), counts, run)?;
     if shown {
         return Ok(());
@@ -107,7 +107,7 @@ fn try_parts(
         results,
         parts,
     };
-    let plan = plan(alloc, moving)?;
+    let plan = plan_of(alloc, moving)?;
     let mut state = vec![in alloc; false; change.net.len() as usize]?;
     attempt(
         change,
