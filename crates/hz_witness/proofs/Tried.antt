@@ -68,4 +68,7 @@ flip-tried net input start state steps counts var more inside long counted unsta
 -- the same by equations, as a call gives them
 pub flipped : (net : List Driver) (input start state state' : List Bool) (steps steps' : List (List ℕ)) (counts counts' : List ℕ) (var : ℕ) → var < length net → length state ≡ length net → length counts ≡ length net → IsUnstable net input state var → state' ≡ set state var (not (bit_at state var)) → counts' ≡ set counts var (get_or counts var 0 + 1) → steps' ≡ steps ++ (var ∷ []) ∷ [] → IsTried net input start steps state counts → IsTried net input start steps' state' counts'
 flipped net input start state state' steps steps' counts counts' var inside long counted unstable new_state new_counts new_steps tried =
-    rw (new_state, new_counts, new_steps) (flip-tried net input start state steps counts var (get_or counts var 0 + 1) inside long counted unstable refl tried)
+    subst (λ (list : List (List ℕ)). IsTried net input start list state' counts') (sym new_steps)
+    (subst (λ (list : List ℕ). IsTried net input start (steps ++ (var ∷ []) ∷ []) state' list) (sym new_counts)
+    (subst (λ (bits : List Bool). IsTried net input start (steps ++ (var ∷ []) ∷ []) bits (set counts var (get_or counts var 0 + 1))) (sym new_state)
+    (flip-tried net input start state steps counts var (get_or counts var 0 + 1) inside long counted unstable refl tried)))
