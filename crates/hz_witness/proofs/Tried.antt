@@ -23,7 +23,7 @@ lone-step net input state var inside unstable = record {
 
 -- the changes of steps and of more
 pub changes-append : (steps more : List (List ℕ)) (i : ℕ) → changes_in (steps ++ more) i ≡ changes_in steps i + changes_in more i
-changes-append [] more i = refl
+changes-append [] more i = omega arith
 changes-append (flips ∷ steps) more i =
     let whole = changes-more flips (steps ++ more) i in
     let front = changes-more flips steps i in
