@@ -6,6 +6,7 @@
 use crate::tables::{is_marked, number_at, set_number};
 use hz_core::Memory;
 use hz_net::{Net, VarKind};
+use hz_reach::is_gate;
 use std::alloc::Global;
 
 // The search for components. Nodes are numbered from 1 as they are found.
@@ -143,17 +144,11 @@ impl Search<'_> {
 
 /// The wires of a gate: the first one, and the one behind the last. None for what is no gate.
 pub(crate) fn wires(net: &Net, gate: u32) -> (u32, u32) {
-    if gate >= net.len() {
+    if gate >= net.len() || !is_gate(net, gate) {
         return (0, 0);
     }
-    match net.kind_of(gate) {
-        VarKind::Gate { .. } => {
-            let (first, count) = net.wires_in(gate);
-            (first, first + count)
-        }
-        VarKind::Input { .. } => (0, 0),
-        VarKind::Wire { .. } => (0, 0),
-    }
+    let (first, count) = net.wires_in(gate);
+    (first, first + count)
 }
 
 /// The source of a wire, or 0 for what is none.

@@ -178,6 +178,7 @@ fn settle(
     ensures nodes { OnOk result (ShowsNodes (network_of change.now.net.now) results.now.a.now
         run.new.steps) }
 {
+    change.net.keeps_shape();
     let room = 2 * change.net.len() as usize;
     run.clear();
     run.reserve(room, room)?;
