@@ -11,7 +11,7 @@ use Rattle.hz_core.specs.Netlist.{Netlist, with_data}
 use Rattle.hz_netlist.proofs.Connect.{may_read, names-kept, pins-numbered}
 use Rattle.hz_netlist.proofs.Numbers.{number-below}
 use Rattle.hz_netlist.specs.Build.{AreAdmissibleSteps, BuilderState, MayAddCut, MayAddGate, MayAddInput, MayAddPinFrom, MayAddPins, UsesKnown, with_cut_of, with_gate_of, with_input_of, with_pin_from, with_pin_named, with_pins_of}
-use Rattle.hz_netlist.specs.Circuit.{number_in}
+use Rattle.hz_netlist.specs.Circuit.{gates_of, number_in}
 use Rattle.hz_netlist.specs.Element.{Element, Input, Cut, Gate, Output, cut_names, data_names, gate_names, input_names, output_names}
 use Rattle.hz_netlist.specs.declared.draft.Cut.{Cut as CutEntry}
 use Rattle.hz_netlist.specs.declared.draft.Gate.{Gate as GateEntry}
@@ -33,13 +33,14 @@ pub record HasParts (inputs cuts data : List (List ℕ)) (gates : List Element) 
   pub cuts_are : cut_names elements ≡ cuts
   pub data_are : data_names elements ≡ data
   pub gates_are : gate_names elements ≡ gate_names gates
+  pub gates_made : (names : List (List ℕ)) → gates_of names elements ≡ gates_of names gates
   pub outputs_are : output_names elements ≡ outputs
 
 output-parts : (outputs : List (List ℕ)) → HasParts [] [] [] [] outputs (map Output outputs)
-output-parts [] = record { inputs_are = refl; cuts_are = refl; data_are = refl; gates_are = refl; outputs_are = refl }
+output-parts [] = record { inputs_are = refl; cuts_are = refl; data_are = refl; gates_are = refl; gates_made = λ names. refl; outputs_are = refl }
 output-parts (output ∷ rest) =
     let more = output-parts rest in
-    record { inputs_are = more.inputs_are; cuts_are = more.cuts_are; data_are = more.data_are; gates_are = more.gates_are; outputs_are = ap (λ names. output ∷ names) more.outputs_are }
+    record { inputs_are = more.inputs_are; cuts_are = more.cuts_are; data_are = more.data_are; gates_are = more.gates_are; gates_made = more.gates_made; outputs_are = ap (λ names. output ∷ names) more.outputs_are }
 
 gate-parts : (gates : List Element) (outputs : List (List ℕ)) → AllByRecursion IsGate gates → HasParts [] [] [] gates outputs (gates ++ map Output outputs)
 gate-parts [] outputs all = output-parts outputs
@@ -47,7 +48,8 @@ gate-parts (Input name ∷ rest) outputs all = absurd all.0
 gate-parts (Cut name source ∷ rest) outputs all = absurd all.0
 gate-parts (Gate name kind sources ∷ rest) outputs all =
     let more = gate-parts rest outputs all.1 in
-    record { inputs_are = more.inputs_are; cuts_are = more.cuts_are; data_are = more.data_are; gates_are = ap (λ names. name ∷ names) more.gates_are; outputs_are = more.outputs_are }
+    record { inputs_are = more.inputs_are; cuts_are = more.cuts_are; data_are = more.data_are; gates_are = ap (λ names. name ∷ names) more.gates_are;
+      gates_made = λ names. ap (λ made. record { kind = kind; sources = map (number_in names) sources } ∷ made) (more.gates_made names); outputs_are = more.outputs_are }
 gate-parts (Output name ∷ rest) outputs all = absurd all.0
 
 cut-parts : (name : ℕ → List ℕ) (cuts : List CutEntry) (gates : List Element) (outputs : List (List ℕ)) → AllByRecursion IsGate gates
@@ -60,6 +62,7 @@ cut-parts name (cut ∷ rest) gates outputs all =
       cuts_are = ap (λ names. cut_name name cut ∷ names) more.cuts_are;
       data_are = ap (λ names. cut_data name cut ∷ names) more.data_are;
       gates_are = more.gates_are;
+      gates_made = more.gates_made;
       outputs_are = more.outputs_are;
     }
 
@@ -68,7 +71,7 @@ pub parts : (name : ℕ → List ℕ) (inputs : List (List ℕ)) (cuts : List Cu
 parts name [] cuts gates outputs all = cut-parts name cuts gates outputs all
 parts name (input ∷ rest) cuts gates outputs all =
     let more = parts name rest cuts gates outputs all in
-    record { inputs_are = ap (λ names. input ∷ names) more.inputs_are; cuts_are = more.cuts_are; data_are = more.data_are; gates_are = more.gates_are; outputs_are = more.outputs_are }
+    record { inputs_are = ap (λ names. input ∷ names) more.inputs_are; cuts_are = more.cuts_are; data_are = more.data_are; gates_are = more.gates_are; gates_made = more.gates_made; outputs_are = more.outputs_are }
 
 -- steps over a list, and over another behind it
 pub fold-append : {A B : Type 0} (step : A → B → A) (now : A) (front back : List B) → fold step now (front ++ back) ≡ fold step (fold step now front) back

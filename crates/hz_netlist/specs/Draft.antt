@@ -12,7 +12,7 @@ use Rattle.hz_netlist.specs.declared.draft.Role.TheVariants as role
 use Rattle.hz_netlist.specs.declared.draft.Source.{Source}
 use Rattle.hz_netlist.specs.declared.draft.Source.TheVariants as source
 use Rattle.hz_netlist.specs.Build.{AreAdmissibleSteps, AreWired, MayAddCut, MayAddInput, MayAddNode, MayAddPinFrom, with_pin_from}
-use Rattle.hz_netlist.specs.Element.{Element, Input, Cut, Gate, Output}
+use Rattle.hz_netlist.specs.Element.{Element, Input, Cut, Gate, Output, cuts_among, gates_among, input_names, output_names}
 use Rattle.hz_netlist.specs.Names.{Names, AreNumbers, name_at, names_at, node_of, seen_names}
 
 -- the name of the inverter of a pin
@@ -97,6 +97,13 @@ elements_of_draft draft =
     ++ (map (cut_element (name_at draft.names)) draft.cuts
     ++ (gate_elements (name_at draft.names) draft.gates draft.sources
     ++ map Output (names_at draft.names draft.outputs)))
+
+-- a draft has these elements, each kind of them in order
+pub record HasElements (elements : List Element) (draft : Drafted) : Type 0 where
+  pub inputs : names_at draft.names draft.inputs ≡ input_names elements
+  pub cuts : map (cut_element (name_at draft.names)) draft.cuts ≡ cuts_among elements
+  pub gates : gate_elements (name_at draft.names) draft.gates draft.sources ≡ gates_among elements
+  pub outputs : names_at draft.names draft.outputs ≡ output_names elements
 
 -- a gate has a name of the text, or one that the text has not
 abbrev pub HasOwnName : Names → Role → List ℕ → Type 0
