@@ -10,16 +10,14 @@ use Rattle.std.proofs.lemmas.List.Folds.{list_any-append}
 use Rattle.std.proofs.lemmas.Slice.Eq.{bytes_eq-Decides}
 use Rattle.hz_netlist.proofs.NameTableLemmas.{same-number}
 use Rattle.hz_netlist.proofs.Numbers.{number-at, number-placed}
-use Rattle.hz_netlist.specs.Build.{UsesKnown}
 use Rattle.hz_netlist.specs.Circuit.{number_in}
 use Rattle.hz_netlist.specs.Names.{Names, seen_names, node_of, AreNumbers, names_at, name_at}
-use Rattle.hz_netlist.specs.declared.draft.Cut.{Cut as CutEntry}
 use Rattle.hz_netlist.specs.declared.draft.Gate.{Gate as GateEntry}
 use Rattle.hz_netlist.specs.declared.draft.Role.{Role}
 use Rattle.hz_netlist.specs.declared.draft.Role.TheVariants as role
 use Rattle.hz_netlist.specs.declared.draft.Source.{Source}
 use Rattle.hz_netlist.specs.declared.draft.Source.TheVariants as source
-use Rattle.hz_netlist.specs.Draft.{HasOwnName, ReadsGateBelow, ReadsNameBelow, cut_data, cut_element, cut_name, gate_name, inverter_name, role_name, row_name, source_name, source_node, with_cut_nodes, with_gate_nodes, with_input_nodes, with_role_node}
+use Rattle.hz_netlist.specs.Draft.{HasOwnName, ReadsGateBelow, ReadsNameBelow, gate_name, inverter_name, role_name, row_name, source_name, source_node, with_gate_nodes, with_nodes_from, with_role_node}
 
 -- the names of the table that are among the first nodes have their numbers
 abbrev pub AreNodesOf : Names → List (List ℕ) → List (List ℕ) → List ℕ → Type 0
@@ -60,43 +58,23 @@ module _ (names : Names) (all : List (List ℕ)) (distinct : IsDistinct bytes_eq
       → AreNodesOf names all front nodes → AreNodesOf names all (front ++ name ∷ []) nodes
   other-node front nodes name differ are other few among = are other few (among-front (name_at names other) name front (differ other few) among)
 
-  pub nodes-inputs : (front after : List (List ℕ)) (nodes numbers : List ℕ) → all ≡ front ++ (names_at names numbers ++ after) → AreNumbers names numbers → length nodes ≡ length names
+  pub nodes-named : (front after : List (List ℕ)) (nodes numbers : List ℕ) → all ≡ front ++ (names_at names numbers ++ after) → AreNumbers names numbers → length nodes ≡ length names
       → AreNodesOf names all front nodes
-      → AreNodesOf names all (front ++ names_at names numbers) (with_input_nodes (length front) nodes numbers) × (length (with_input_nodes (length front) nodes numbers) ≡ length names)
-  nodes-inputs front after nodes [] is few long are = (subst (λ front. AreNodesOf names all front nodes) (sym (nothing-more front)) are, long)
-  nodes-inputs front after nodes (number ∷ rest) is few long are =
+      → AreNodesOf names all (front ++ names_at names numbers) (with_nodes_from (length front) nodes numbers) × (length (with_nodes_from (length front) nodes numbers) ≡ length names)
+  nodes-named front after nodes [] is few long are = (subst (λ front. AreNodesOf names all front nodes) (sym (nothing-more front)) are, long)
+  nodes-named front after nodes (number ∷ rest) is few long are =
       let name = name_at names number in
       let here = All-head (λ number. number < length names) number rest few in
       let moved = append_assoc front (name ∷ []) (names_at names rest) in
       let next : length (front ++ name ∷ []) ≡ suc (length front) = omega (arith, length-append front (name ∷ [])) in
-      let more = nodes-inputs (front ++ name ∷ []) after (set nodes number (length front)) rest
+      let more = nodes-named (front ++ name ∷ []) after (set nodes number (length front)) rest
       (is ∙ sym (append_assoc front (name ∷ []) (names_at names rest ++ after)))
       (All-tail (λ number. number < length names) number rest few)
       (length-set nodes number (length front) ∙ long)
       (one-node front (names_at names rest ++ after) nodes number here is long are) in
-      subst (λ (node : ℕ). AreNodesOf names all (front ++ names_at names (number ∷ rest)) (with_input_nodes node (set nodes number (length front)) rest)
-      × (length (with_input_nodes node (set nodes number (length front)) rest) ≡ length names)) next
-      (subst (λ front'. AreNodesOf names all front' (with_input_nodes (length (front ++ name ∷ [])) (set nodes number (length front)) rest)) moved more.0, more.1)
-
-  pub nodes-cuts : (front after : List (List ℕ)) (nodes : List ℕ) (cuts : List CutEntry) → all ≡ front ++ (map (cut_name (name_at names)) cuts ++ after) → All (λ (cut : CutEntry). cut.name < length names) cuts → length nodes ≡ length names
-      → AreNodesOf names all front nodes
-      → AreNodesOf names all (front ++ map (cut_name (name_at names)) cuts) (with_cut_nodes (length front) nodes cuts) × (length (with_cut_nodes (length front) nodes cuts) ≡ length names)
-  nodes-cuts front after nodes [] is few long are = (subst (λ front. AreNodesOf names all front nodes) (sym (nothing-more front)) are, long)
-  nodes-cuts front after nodes (cut ∷ rest) is few long are =
-      let number = cut.name in
-      let name = name_at names number in
-      let more_names = map (cut_name (name_at names)) rest in
-      let here = All-head (λ (cut : CutEntry). cut.name < length names) cut rest few in
-      let moved = append_assoc front (name ∷ []) more_names in
-      let next : length (front ++ name ∷ []) ≡ suc (length front) = omega (arith, length-append front (name ∷ [])) in
-      let more = nodes-cuts (front ++ name ∷ []) after (set nodes number (length front)) rest
-      (is ∙ sym (append_assoc front (name ∷ []) (more_names ++ after)))
-      (All-tail (λ (cut : CutEntry). cut.name < length names) cut rest few)
-      (length-set nodes number (length front) ∙ long)
-      (one-node front (more_names ++ after) nodes number here is long are) in
-      subst (λ (node : ℕ). AreNodesOf names all (front ++ name ∷ more_names) (with_cut_nodes node (set nodes number (length front)) rest)
-      × (length (with_cut_nodes node (set nodes number (length front)) rest) ≡ length names)) next
-      (subst (λ front'. AreNodesOf names all front' (with_cut_nodes (length (front ++ name ∷ [])) (set nodes number (length front)) rest)) moved more.0, more.1)
+      subst (λ (node : ℕ). AreNodesOf names all (front ++ names_at names (number ∷ rest)) (with_nodes_from node (set nodes number (length front)) rest)
+      × (length (with_nodes_from node (set nodes number (length front)) rest) ≡ length names)) next
+      (subst (λ front'. AreNodesOf names all front' (with_nodes_from (length (front ++ name ∷ [])) (set nodes number (length front)) rest)) moved more.0, more.1)
 
   -- the node of one gate more
   gate-node : (front after : List (List ℕ)) (nodes : List ℕ) (of : Role) (output : ℕ) → output < length names → HasOwnName names of (name_at names output) → all ≡ front ++ role_name of (name_at names output) ∷ after → length nodes ≡ length names
@@ -123,7 +101,7 @@ module _ (names : Names) (all : List (List ℕ)) (distinct : IsDistinct bytes_eq
       (All-tail (λ (gate : GateEntry). HasOwnName names gate.role (name_at names gate.output)) gate rest own) made.1 made.0 in
       subst (λ (node : ℕ). AreNodesOf names all all (with_gate_nodes node nodes' rest) × (length (with_gate_nodes node nodes' rest) ≡ length names)) next more
 
--- what the pins read, by the names of nodes
+-- what pins and cuts read, by the names of nodes
 pub sources-numbered : (names : Names) (inputs made : List (List ℕ)) (nodes : List ℕ) (sources : List Source) → IsDistinct bytes_eq (inputs ++ made) → AreNodesOf names (inputs ++ made) (inputs ++ made) nodes
     → All (ReadsNameBelow (length names)) sources → All (ReadsGateBelow (length made)) sources
     → AllByRecursion (λ source. list_any (bytes_eq (source_name (name_at names) made source)) (inputs ++ made) ≡ true) sources
@@ -147,12 +125,3 @@ outputs-numbers names all nodes (number ∷ rest) are few known =
     let here = are number (All-head (λ number. number < length names) number rest few) known.0 in
     let more = outputs-numbers names all nodes rest are (All-tail (λ number. number < length names) number rest few) known.1 in
     ap (λ node. node ∷ map (node_of nodes) rest) here ∙ ap (λ nodes. number_in all (name_at names number) ∷ nodes) more
-
--- what the cuts read
-pub data-numbered : (names : Names) (all : List (List ℕ)) (nodes : List ℕ) (cuts : List CutEntry) → AreNodesOf names all all nodes → All (λ (cut : CutEntry). cut.data < length names) cuts
-    → AllByRecursion (UsesKnown all) (map (cut_element (name_at names)) cuts) → AllByRecursion (λ (cut : CutEntry). node_of nodes cut.data ≡ number_in all (cut_data (name_at names) cut)) cuts
-data-numbered names all nodes [] are few known = tt
-data-numbered names all nodes (cut ∷ rest) are few known = (
-  are cut.data (All-head (λ (cut : CutEntry). cut.data < length names) cut rest few) known.0,
-  data-numbered names all nodes rest are (All-tail (λ (cut : CutEntry). cut.data < length names) cut rest few) known.1,
-)

@@ -13,11 +13,9 @@ use Rattle.hz_netlist.proofs.Numbers.{number-below}
 use Rattle.hz_netlist.specs.Build.{AreAdmissibleSteps, BuilderState, MayAddCut, MayAddGate, MayAddInput, MayAddPinFrom, MayAddPins, UsesKnown, with_cut_of, with_gate_of, with_input_of, with_pin_from, with_pin_named, with_pins_of}
 use Rattle.hz_netlist.specs.Circuit.{gates_of, number_in}
 use Rattle.hz_netlist.specs.Element.{Element, Input, Cut, Gate, Output, cut_names, data_names, gate_names, input_names, output_names}
-use Rattle.hz_netlist.specs.declared.draft.Cut.{Cut as CutEntry}
 use Rattle.hz_netlist.specs.declared.draft.Gate.{Gate as GateEntry}
 use Rattle.hz_netlist.specs.declared.draft.Source.{Source}
-use Rattle.hz_netlist.specs.Draft.{MayAddCutEntry, MayAddGateEntry, MayAddInputNumbered, MayAddPinsBy, MaySetDataBy, cut_data, cut_element, cut_name, elements_from, gate_name, source_name, with_cut_entry, with_data_by, with_gate_entry, with_input_numbered, with_pins_by}
-use Rattle.hz_netlist.specs.Names.{node_of}
+use Rattle.hz_netlist.specs.Draft.{MayAddCutNumbered, MayAddGateEntry, MayAddInputNumbered, MayAddPinsBy, MaySetDataBy, cut_elements, elements_from, gate_name, source_name, with_cut_numbered, with_data_by, with_gate_entry, with_input_numbered, with_pins_by}
 use Rattle.hz_netlist.proofs.Lists.{all-append}
 
 -- an element is a gate
@@ -52,25 +50,27 @@ gate-parts (Gate name kind sources ∷ rest) outputs all =
       gates_made = λ names. ap (λ made. record { kind = kind; sources = map (number_in names) sources } ∷ made) (more.gates_made names); outputs_are = more.outputs_are }
 gate-parts (Output name ∷ rest) outputs all = absurd all.0
 
-cut-parts : (name : ℕ → List ℕ) (cuts : List CutEntry) (gates : List Element) (outputs : List (List ℕ)) → AllByRecursion IsGate gates
-    → HasParts [] (map (cut_name name) cuts) (map (cut_data name) cuts) gates outputs (map (cut_element name) cuts ++ (gates ++ map Output outputs))
-cut-parts name [] gates outputs all = gate-parts gates outputs all
-cut-parts name (cut ∷ rest) gates outputs all =
-    let more = cut-parts name rest gates outputs all in
+cut-parts : (name : ℕ → List ℕ) (made : List (List ℕ)) (cuts : List ℕ) (data : List Source) (gates : List Element) (outputs : List (List ℕ)) → length data ≡ length cuts → AllByRecursion IsGate gates
+    → HasParts [] (map name cuts) (map (source_name name made) data) gates outputs (cut_elements name made cuts data ++ (gates ++ map Output outputs))
+cut-parts name made [] [] gates outputs each all = gate-parts gates outputs all
+cut-parts name made [] (source ∷ data) gates outputs each all = absurd (omega (arith, each))
+cut-parts name made (cut ∷ rest) [] gates outputs each all = absurd (omega (arith, each))
+cut-parts name made (cut ∷ rest) (source ∷ data) gates outputs each all =
+    let more = cut-parts name made rest data gates outputs (omega (arith, each)) all in
     record {
       inputs_are = more.inputs_are;
-      cuts_are = ap (λ names. cut_name name cut ∷ names) more.cuts_are;
-      data_are = ap (λ names. cut_data name cut ∷ names) more.data_are;
+      cuts_are = ap (λ names. name cut ∷ names) more.cuts_are;
+      data_are = ap (λ names. source_name name made source ∷ names) more.data_are;
       gates_are = more.gates_are;
       gates_made = more.gates_made;
       outputs_are = more.outputs_are;
     }
 
-pub parts : (name : ℕ → List ℕ) (inputs : List (List ℕ)) (cuts : List CutEntry) (gates : List Element) (outputs : List (List ℕ)) → AllByRecursion IsGate gates
-    → HasParts inputs (map (cut_name name) cuts) (map (cut_data name) cuts) gates outputs (map Input inputs ++ (map (cut_element name) cuts ++ (gates ++ map Output outputs)))
-parts name [] cuts gates outputs all = cut-parts name cuts gates outputs all
-parts name (input ∷ rest) cuts gates outputs all =
-    let more = parts name rest cuts gates outputs all in
+pub parts : (name : ℕ → List ℕ) (made : List (List ℕ)) (inputs : List (List ℕ)) (cuts : List ℕ) (data : List Source) (gates : List Element) (outputs : List (List ℕ)) → length data ≡ length cuts → AllByRecursion IsGate gates
+    → HasParts inputs (map name cuts) (map (source_name name made) data) gates outputs (map Input inputs ++ (cut_elements name made cuts data ++ (gates ++ map Output outputs)))
+parts name made [] cuts data gates outputs each all = cut-parts name made cuts data gates outputs each all
+parts name made (input ∷ rest) cuts data gates outputs each all =
+    let more = parts name made rest cuts data gates outputs each all in
     record { inputs_are = ap (λ names. input ∷ names) more.inputs_are; cuts_are = more.cuts_are; data_are = more.data_are; gates_are = more.gates_are; gates_made = more.gates_made; outputs_are = more.outputs_are }
 
 -- steps over a list, and over another behind it
@@ -97,9 +97,12 @@ pub outputs-idle : {A : Type 0} (step : A → Element → A) → ((name : List �
 outputs-idle step idle [] now = refl
 outputs-idle step idle (name ∷ names) now = ap (λ now. fold step now (map Output names)) (idle name now) ∙ outputs-idle step idle names now
 
-pub cuts-idle : {A : Type 0} (step : A → Element → A) → ((name source : List ℕ) (now : A) → step now (Cut name source) ≡ now) → (name : ℕ → List ℕ) (cuts : List CutEntry) (now : A) → fold step now (map (cut_element name) cuts) ≡ now
-cuts-idle step idle name [] now = refl
-cuts-idle step idle name (cut ∷ rest) now = ap (λ now. fold step now (map (cut_element name) rest)) (idle (cut_name name cut) (cut_data name cut) now) ∙ cuts-idle step idle name rest now
+pub cuts-idle : {A : Type 0} (step : A → Element → A) → ((name source : List ℕ) (now : A) → step now (Cut name source) ≡ now) → (name : ℕ → List ℕ) (made : List (List ℕ)) (cuts : List ℕ) (data : List Source) (now : A)
+    → fold step now (cut_elements name made cuts data) ≡ now
+cuts-idle step idle name made [] data now = refl
+cuts-idle step idle name made (cut ∷ rest) [] now = refl
+cuts-idle step idle name made (cut ∷ rest) (source ∷ data) now =
+    ap (λ now. fold step now (cut_elements name made rest data)) (idle (name cut) (source_name name made source) now) ∙ cuts-idle step idle name made rest data now
 
 pub gates-idle : {A : Type 0} (step : A → Element → A) → ((name : List ℕ) (kind : Kind) (sources : List (List ℕ)) (now : A) → step now (Gate name kind sources) ≡ now) → (gates : List Element) → AllByRecursion IsGate gates
     → (now : A) → fold step now gates ≡ now
@@ -115,32 +118,41 @@ pub inputs-numbered : (name : ℕ → List ℕ) (netlist : Netlist) (numbers : L
 inputs-numbered name netlist [] may = (tt, refl)
 inputs-numbered name netlist (number ∷ rest) may = let more = inputs-numbered name (with_input_numbered name netlist number) rest may.1 in ((may.0, more.0), more.1)
 
--- cuts by their entries
-pub cuts-numbered : (name : ℕ → List ℕ) (netlist : Netlist) (cuts : List CutEntry) → AreAdmissibleSteps MayAddCut with_cut_of netlist (map (cut_element name) cuts)
-    → AreAdmissibleSteps (MayAddCutEntry name) (with_cut_entry name) netlist cuts × (fold (with_cut_entry name) netlist cuts ≡ fold with_cut_of netlist (map (cut_element name) cuts))
-cuts-numbered name netlist [] may = (tt, refl)
-cuts-numbered name netlist (cut ∷ rest) may = let more = cuts-numbered name (with_cut_entry name netlist cut) rest may.1 in ((may.0, more.0), more.1)
+-- cuts by the numbers of their names
+pub cuts-numbered : (name : ℕ → List ℕ) (made : List (List ℕ)) (netlist : Netlist) (cuts : List ℕ) (data : List Source) → length data ≡ length cuts → AreAdmissibleSteps MayAddCut with_cut_of netlist (cut_elements name made cuts data)
+    → AreAdmissibleSteps (MayAddCutNumbered name) (with_cut_numbered name) netlist cuts × (fold (with_cut_numbered name) netlist cuts ≡ fold with_cut_of netlist (cut_elements name made cuts data))
+cuts-numbered name made netlist [] data each may = (tt, refl)
+cuts-numbered name made netlist (cut ∷ rest) [] each may = absurd (omega (arith, each))
+cuts-numbered name made netlist (cut ∷ rest) (source ∷ data) each may =
+    let more = cuts-numbered name made (with_cut_numbered name netlist cut) rest data (omega (arith, each)) may.1 in
+    ((may.0, more.0), more.1)
 
--- their data nodes, by the table that has the node of each name
-pub data-entered : (name : ℕ → List ℕ) (now : BuilderState) (cuts : List CutEntry) (nodes : List ℕ) → AllByRecursion (λ (cut : CutEntry). node_of nodes cut.data ≡ number_in now.netlist.names (cut_data name cut)) cuts
-    → AreAdmissibleSteps MayAddPins with_pins_of now (map (cut_element name) cuts)
-    → MaySetDataBy now.netlist now.cut cuts nodes
-    × ((cut : ℕ) × (fold with_pins_of now (map (cut_element name) cuts) ≡ record now { netlist = with_data_by now.netlist now.cut cuts nodes; cut = cut }))
-data-entered name now [] nodes are may = (tt, (now.cut, refl))
-data-entered name now (cut ∷ rest) nodes are may =
-    let node = node_of nodes cut.data in
+-- and their data nodes
+pub data-entered : (name : ℕ → List ℕ) (made : List (List ℕ)) (now : BuilderState) (cuts : List ℕ) (data : List Source) (nodes : List ℕ) → length data ≡ length cuts
+    → nodes ≡ map (λ source. number_in now.netlist.names (source_name name made source)) data
+    → AreAdmissibleSteps MayAddPins with_pins_of now (cut_elements name made cuts data)
+    → MaySetDataBy now.netlist now.cut nodes
+    × ((cut : ℕ) × (fold with_pins_of now (cut_elements name made cuts data) ≡ record now { netlist = with_data_by now.netlist now.cut nodes; cut = cut }))
+data-entered name made now [] [] nodes each are may =
+    subst (λ nodes. MaySetDataBy now.netlist now.cut nodes × ((cut : ℕ) × (now ≡ record now { netlist = with_data_by now.netlist now.cut nodes; cut = cut }))) (sym are) (tt, (now.cut, refl))
+data-entered name made now [] (source ∷ data) nodes each are may = absurd (omega (arith, each))
+data-entered name made now (cut ∷ rest) [] nodes each are may = absurd (omega (arith, each))
+data-entered name made now (cut ∷ rest) (source ∷ data) nodes each are may =
+    let read = source_name name made source in
+    let node = number_in now.netlist.names read in
+    let others = map (λ source. number_in now.netlist.names (source_name name made source)) data in
     let later : BuilderState = record now { netlist = with_data now.netlist now.cut node; cut = suc now.cut } in
-    let same : with_pins_of now (cut_element name cut) ≡ later = ap (λ (number : ℕ). record now { netlist = with_data now.netlist now.cut number; cut = suc now.cut }) (sym are.0) in
-    let more = data-entered name later rest nodes are.1 (subst (λ (state : BuilderState). AreAdmissibleSteps MayAddPins with_pins_of state (map (cut_element name) rest)) same may.1) in
-    let below : node < length now.netlist.names = subst (λ (number : ℕ). number < length now.netlist.names) (sym are.0) (number-below now.netlist.names (cut_data name cut) may.0.1.source_is) in (
-      (record { room = may.0.0; cut_is = may.0.1.cut_is; node_is = below }, more.0),
-      (more.1.0, ap (λ (state : BuilderState). fold with_pins_of state (map (cut_element name) rest)) same ∙ more.1.1),
+    let more = data-entered name made later rest data others (omega (arith, each)) refl may.1 in
+    subst (λ nodes. MaySetDataBy now.netlist now.cut nodes
+    × ((cut' : ℕ) × (fold with_pins_of later (cut_elements name made rest data) ≡ record now { netlist = with_data_by now.netlist now.cut nodes; cut = cut' }))) (sym are) (
+      (record { room = may.0.0; cut_is = may.0.1.cut_is; node_is = number-below now.netlist.names read may.0.1.source_is }, more.0),
+      more.1,
     )
 
--- data nodes leave names and inputs
-pub data-kept : (netlist : Netlist) (number : ℕ) (cuts : List CutEntry) (nodes : List ℕ) → (with_data_by netlist number cuts nodes).names ≡ netlist.names
-data-kept netlist number [] nodes = refl
-data-kept netlist number (cut ∷ rest) nodes = data-kept (with_data netlist number (node_of nodes cut.data)) (suc number) rest nodes
+-- data nodes leave the names
+pub data-kept : (netlist : Netlist) (number : ℕ) (nodes : List ℕ) → (with_data_by netlist number nodes).names ≡ netlist.names
+data-kept netlist number [] = refl
+data-kept netlist number (node ∷ rest) = data-kept (with_data netlist number node) (suc number) rest
 
 module _ (name : ℕ → List ℕ) (made : List (List ℕ)) where
   pub entries-gates : (gates : List GateEntry) (sources : List Source) → AllByRecursion IsGate (elements_from name made gates sources)

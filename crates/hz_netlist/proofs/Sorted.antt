@@ -5,10 +5,10 @@ use Rattle.std.proofs.lemmas.List.Sums.{sum_by-append, sum_by-cons}
 use Rattle.hz_core.specs.Limits.{most_variables}
 use Rattle.hz_netlist.proofs.DraftSteps.{HasParts, entries-gates, parts}
 use Rattle.hz_netlist.proofs.Lists.{all-append}
-use Rattle.hz_netlist.specs.declared.draft.Cut.{Cut as CutEntry}
+use Rattle.hz_netlist.specs.declared.draft.Source.{Source}
 use Rattle.hz_netlist.specs.Build.{Apart, AreWired, HasNodeName, HasRightPins, UsesKnown}
 use Rattle.hz_netlist.specs.Circuit.{all_inputs, circuit_of_elements, data_nodes, each_once, gates_of, node_names, number_in}
-use Rattle.hz_netlist.specs.Draft.{Drafted, HasElements, cut_data, cut_element, cut_name, elements_of_draft, gate_elements, gate_name}
+use Rattle.hz_netlist.specs.Draft.{Drafted, HasElements, cut_elements, elements_of_draft, gate_elements, gate_name, source_name}
 use Rattle.hz_netlist.specs.Element.{Element, Input, Cut, Gate, Output, cut_names, cuts_among, data_names, element_variables, gate_names, gates_among, input_names, output_names, variable_total}
 use Rattle.hz_netlist.specs.Names.{name_at, names_at}
 
@@ -44,13 +44,14 @@ gates-made names (Cut name source ∷ rest) = gates-made names rest
 gates-made names (Gate name kind sources ∷ rest) = ap (λ made. record { kind = kind; sources = map (number_in names) sources } ∷ made) (gates-made names rest)
 gates-made names (Output name ∷ rest) = gates-made names rest
 
-entries-cut : (name : ℕ → List ℕ) (cuts : List CutEntry) → cut_names (map (cut_element name) cuts) ≡ map (cut_name name) cuts
-entries-cut name [] = refl
-entries-cut name (cut ∷ rest) = ap (λ names. cut_name name cut ∷ names) (entries-cut name rest)
-
-entries-data : (name : ℕ → List ℕ) (cuts : List CutEntry) → data_names (map (cut_element name) cuts) ≡ map (cut_data name) cuts
-entries-data name [] = refl
-entries-data name (cut ∷ rest) = ap (λ names. cut_data name cut ∷ names) (entries-data name rest)
+entries-cut : (name : ℕ → List ℕ) (made : List (List ℕ)) (cuts : List ℕ) (data : List Source) → length data ≡ length cuts
+    → (cut_names (cut_elements name made cuts data) ≡ map name cuts) × (data_names (cut_elements name made cuts data) ≡ map (source_name name made) data)
+entries-cut name made [] [] each = (refl, refl)
+entries-cut name made [] (source ∷ data) each = absurd (omega (arith, each))
+entries-cut name made (cut ∷ rest) [] each = absurd (omega (arith, each))
+entries-cut name made (cut ∷ rest) (source ∷ data) each =
+    let more = entries-cut name made rest data (omega (arith, each)) in
+    (ap (λ names. name cut ∷ names) more.0, ap (λ names. source_name name made source ∷ names) more.1)
 
 -- what holds of each element holds of each that is sorted
 inputs-all : (P : Element → Type 0) (elements : List Element) → AllByRecursion P elements → AllByRecursion P (map Input (input_names elements))
@@ -108,9 +109,12 @@ total-sorted elements =
     let outputs = map Output (output_names elements) in
     omega (arith, totals elements, sum_by-append element_variables inputs (cuts ++ (gates ++ outputs)), sum_by-append element_variables cuts (gates ++ outputs), sum_by-append element_variables gates outputs)
 
-module _ (elements : List Element) (draft : Drafted) (has : HasElements elements draft) where
+module _ (elements : List Element) (draft : Drafted) (each : length draft.data ≡ length draft.cuts) (has : HasElements elements draft) where
   abbrev name : ℕ → List ℕ
   name = name_at draft.names
+
+  abbrev made : List (List ℕ)
+  made = map (gate_name (name_at draft.names)) draft.gates
 
   abbrev gates : List Element
   gates = gate_elements (name_at draft.names) draft.gates draft.sources
@@ -120,7 +124,7 @@ module _ (elements : List Element) (draft : Drafted) (has : HasElements elements
 
   drawn-sorted : drawn ≡ sorted elements
   drawn-sorted =
-      let cuts = map (cut_element name) draft.cuts in
+      let cuts = cut_elements name made draft.cuts draft.data in
       let outputs = map Output (names_at draft.names draft.outputs) in
       let inputs = map Input (input_names elements) in
       ap (λ names. map Input names ++ (cuts ++ (gates ++ outputs))) has.inputs
@@ -128,17 +132,17 @@ module _ (elements : List Element) (draft : Drafted) (has : HasElements elements
       ∙ (ap (λ (gates : List Element). inputs ++ (cuts_among elements ++ (gates ++ outputs))) has.gates
       ∙ ap (λ names. inputs ++ (cuts_among elements ++ (gates_among elements ++ map Output names))) has.outputs))
 
-  parts_are : HasParts (names_at draft.names draft.inputs) (map (cut_name name) draft.cuts) (map (cut_data name) draft.cuts) gates (names_at draft.names draft.outputs) drawn
-  parts_are = parts name (names_at draft.names draft.inputs) draft.cuts gates (names_at draft.names draft.outputs) (entries-gates name (map (gate_name name) draft.gates) draft.gates draft.sources)
+  parts_are : HasParts (names_at draft.names draft.inputs) (map name draft.cuts) (map (source_name name made) draft.data) gates (names_at draft.names draft.outputs) drawn
+  parts_are = parts name made (names_at draft.names draft.inputs) draft.cuts draft.data gates (names_at draft.names draft.outputs) each (entries-gates name (map (gate_name name) draft.gates) draft.gates draft.sources)
 
   inputs_same : input_names drawn ≡ input_names elements
   inputs_same = parts_are.inputs_are ∙ has.inputs
 
   cuts_same : cut_names drawn ≡ cut_names elements
-  cuts_same = parts_are.cuts_are ∙ (sym (entries-cut name draft.cuts) ∙ (ap cut_names has.cuts ∙ cuts-named elements))
+  cuts_same = parts_are.cuts_are ∙ (sym (entries-cut name made draft.cuts draft.data each).0 ∙ (ap cut_names has.cuts ∙ cuts-named elements))
 
   data_same : data_names drawn ≡ data_names elements
-  data_same = parts_are.data_are ∙ (sym (entries-data name draft.cuts) ∙ (ap data_names has.cuts ∙ data-named elements))
+  data_same = parts_are.data_are ∙ (sym (entries-cut name made draft.cuts draft.data each).1 ∙ (ap data_names has.cuts ∙ data-named elements))
 
   gates_same : gate_names drawn ≡ gate_names elements
   gates_same = parts_are.gates_are ∙ (ap gate_names has.gates ∙ gates-named elements)

@@ -4,7 +4,6 @@ use Rattle.std.specs.List.{IsDistinct, sum_by}
 use Rattle.std.specs.Str.{bytes_eq}
 use Rattle.hz_core.specs.Limits.{most_variables}
 use Rattle.hz_core.specs.Netlist.{Netlist, IsCutNumber, with_cut, with_data, with_gate, with_input}
-use Rattle.hz_netlist.specs.declared.draft.Cut.{Cut as CutEntry}
 use Rattle.hz_netlist.specs.declared.draft.Draft.{Draft}
 use Rattle.hz_netlist.specs.declared.draft.Gate.{Gate as GateEntry}
 use Rattle.hz_netlist.specs.declared.draft.Role.{Role}
@@ -46,16 +45,12 @@ elements_from name made (gate ∷ gates) sources =
     Gate (gate_name name gate) gate.kind (map (source_name name made) (take gate.pins sources))
     ∷ elements_from name made gates (drop gate.pins sources)
 
--- the names of a cut
-abbrev pub cut_name : (ℕ → List ℕ) → CutEntry → List ℕ
-cut_name name cut = name cut.name
-
-abbrev pub cut_data : (ℕ → List ℕ) → CutEntry → List ℕ
-cut_data name cut = name cut.data
-
--- the element that a cut is
-abbrev pub cut_element : (ℕ → List ℕ) → CutEntry → Element
-cut_element name cut = Cut (cut_name name cut) (cut_data name cut)
+-- the elements of cuts that read these sources, one each
+abbrev pub cut_elements : (ℕ → List ℕ) → List (List ℕ) → List ℕ → List Source → List Element
+cut_elements name made [] data = []
+cut_elements name made (cut ∷ cuts) [] = []
+cut_elements name made (cut ∷ cuts) (source ∷ data) =
+    Cut (name cut) (source_name name made source) ∷ cut_elements name made cuts data
 
 -- a source is a name of the text, or one of so many gates
 abbrev pub ReadsGateBelow : ℕ → Source → Type 0
@@ -71,7 +66,8 @@ ReadsNameBelow names (source.Gate number) = Unit {0}
 pub record Drafted : Type 0 where
   pub names : Names
   pub inputs : List ℕ
-  pub cuts : List CutEntry
+  pub cuts : List ℕ
+  pub data : List Source
   pub gates : List GateEntry
   pub sources : List Source
   pub outputs : List ℕ
@@ -82,10 +78,15 @@ drafted draft =
       names = draft.names.now;
       inputs = draft.inputs.now;
       cuts = draft.cuts.now;
+      data = draft.data.now;
       gates = draft.gates.now;
       sources = draft.sources.now;
       outputs = draft.outputs.now;
     }
+
+-- the names of its gates
+abbrev pub made_names : Drafted → List (List ℕ)
+made_names draft = map (gate_name (name_at draft.names)) draft.gates
 
 -- the elements of a draft: inputs, cuts, gates, outputs
 abbrev pub gate_elements : (ℕ → List ℕ) → List GateEntry → List Source → List Element
@@ -94,14 +95,15 @@ gate_elements name gates sources = elements_from name (map (gate_name name) gate
 abbrev pub elements_of_draft : Drafted → List Element
 elements_of_draft draft =
     map Input (names_at draft.names draft.inputs)
-    ++ (map (cut_element (name_at draft.names)) draft.cuts
+    ++ (cut_elements (name_at draft.names) (made_names draft) draft.cuts draft.data
     ++ (gate_elements (name_at draft.names) draft.gates draft.sources
     ++ map Output (names_at draft.names draft.outputs)))
 
 -- a draft has these elements, each kind of them in order
 pub record HasElements (elements : List Element) (draft : Drafted) : Type 0 where
   pub inputs : names_at draft.names draft.inputs ≡ input_names elements
-  pub cuts : map (cut_element (name_at draft.names)) draft.cuts ≡ cuts_among elements
+  pub cuts : cut_elements (name_at draft.names) (made_names draft) draft.cuts draft.data
+      ≡ cuts_among elements
   pub gates : gate_elements (name_at draft.names) draft.gates draft.sources ≡ gates_among elements
   pub outputs : names_at draft.names draft.outputs ≡ output_names elements
 
@@ -118,8 +120,10 @@ pub record IsBuildable (draft : Drafted) : Type 0 where
   pub wired : AreWired (elements_of_draft draft)
   pub distinct : IsDistinct bytes_eq (seen_names draft.names)
   pub input_numbers : AreNumbers draft.names draft.inputs
-  pub cut_numbers : All (λ cut. cut.name < length draft.names) draft.cuts
-  pub data_numbers : All (λ cut. cut.data < length draft.names) draft.cuts
+  pub cut_numbers : AreNumbers draft.names draft.cuts
+  pub each : length draft.data ≡ length draft.cuts
+  pub data_numbers : All (ReadsNameBelow (length draft.names)) draft.data
+  pub data_gates : All (ReadsGateBelow (length draft.gates)) draft.data
   pub gate_numbers : All (λ gate. gate.output < length draft.names) draft.gates
   pub gate_names : All (λ gate. HasOwnName draft.names gate.role (name_at draft.names gate.output))
       draft.gates
@@ -137,12 +141,12 @@ abbrev pub MayAddInputNumbered : (ℕ → List ℕ) → Netlist → ℕ → Type
 MayAddInputNumbered name netlist number = MayAddInput netlist (Input (name number))
 
 -- the circuit with a cut, without its data node
-abbrev pub with_cut_entry : (ℕ → List ℕ) → Netlist → CutEntry → Netlist
-with_cut_entry name netlist cut = with_cut netlist (cut_name name cut)
+abbrev pub with_cut_numbered : (ℕ → List ℕ) → Netlist → ℕ → Netlist
+with_cut_numbered name netlist number = with_cut netlist (name number)
 
 -- such a cut may be added
-abbrev pub MayAddCutEntry : (ℕ → List ℕ) → Netlist → CutEntry → Type 0
-MayAddCutEntry name netlist cut = MayAddCut netlist (cut_element name cut)
+abbrev pub MayAddCutNumbered : (ℕ → List ℕ) → Netlist → ℕ → Type 0
+MayAddCutNumbered name netlist number = MayAddCut netlist (Cut (name number) [])
 
 -- the circuit with a gate, without pins, if the names of the text are these by their numbers
 abbrev pub with_gate_entry : (ℕ → List ℕ) → Netlist → GateEntry → Netlist
@@ -152,11 +156,11 @@ with_gate_entry name netlist gate = with_gate netlist (gate_name name gate) gate
 abbrev pub MayAddGateEntry : (ℕ → List ℕ) → Netlist → GateEntry → Type 0
 MayAddGateEntry name netlist gate = MayAddNode netlist (gate_name name gate)
 
--- the circuit with the data nodes of cuts, the first of which has this number, if names have these nodes
-abbrev pub with_data_by : Netlist → ℕ → List CutEntry → List ℕ → Netlist
-with_data_by netlist number [] nodes = netlist
-with_data_by netlist number (cut ∷ cuts) nodes =
-    with_data_by (with_data netlist number (node_of nodes cut.data)) (suc number) cuts nodes
+-- the circuit with these data nodes of cuts, the first of which has this number
+abbrev pub with_data_by : Netlist → ℕ → List ℕ → Netlist
+with_data_by netlist number [] = netlist
+with_data_by netlist number (node ∷ nodes) =
+    with_data_by (with_data netlist number node) (suc number) nodes
 
 -- the cut may have this data node
 pub record MayHaveData (netlist : Netlist) (number node : ℕ) : Type 0 where
@@ -165,11 +169,11 @@ pub record MayHaveData (netlist : Netlist) (number node : ℕ) : Type 0 where
   pub node_is : node < length netlist.names
 
 -- such data nodes may be set
-abbrev pub MaySetDataBy : Netlist → ℕ → List CutEntry → List ℕ → Type 0
-MaySetDataBy netlist number [] nodes = Unit {0}
-MaySetDataBy netlist number (cut ∷ cuts) nodes =
-    MayHaveData netlist number (node_of nodes cut.data)
-    × MaySetDataBy (with_data netlist number (node_of nodes cut.data)) (suc number) cuts nodes
+abbrev pub MaySetDataBy : Netlist → ℕ → List ℕ → Type 0
+MaySetDataBy netlist number [] = Unit {0}
+MaySetDataBy netlist number (node ∷ nodes) =
+    MayHaveData netlist number node
+    × MaySetDataBy (with_data netlist number node) (suc number) nodes
 
 -- the circuit with the pins of gates, the first of which has this number; they read these nodes, gate after gate
 abbrev pub with_pins_by : Netlist → ℕ → List GateEntry → List ℕ → Netlist
@@ -195,16 +199,10 @@ MayAddPinsBy netlist number (gate ∷ gates) nodes =
     (drop gate.pins nodes)
 
 -- the nodes of names by their numbers, if these names are the nodes from this one on
-abbrev pub with_input_nodes : ℕ → List ℕ → List ℕ → List ℕ
-with_input_nodes node nodes [] = nodes
-with_input_nodes node nodes (number ∷ rest) =
-    with_input_nodes (suc node) (slice_set nodes number node) rest
-
--- the same for cuts
-abbrev pub with_cut_nodes : ℕ → List ℕ → List CutEntry → List ℕ
-with_cut_nodes node nodes [] = nodes
-with_cut_nodes node nodes (cut ∷ rest) =
-    with_cut_nodes (suc node) (slice_set nodes cut.name node) rest
+abbrev pub with_nodes_from : ℕ → List ℕ → List ℕ → List ℕ
+with_nodes_from node nodes [] = nodes
+with_nodes_from node nodes (number ∷ rest) =
+    with_nodes_from (suc node) (slice_set nodes number node) rest
 
 -- the node of a gate that has a name of the text
 abbrev pub with_role_node : Role → ℕ → List ℕ → ℕ → List ℕ
@@ -229,5 +227,5 @@ AreNodesBy draft nodes =
     (start : List ℕ) × (length start ≡ length draft.names)
     × (nodes
     ≡ with_gate_nodes (length draft.inputs + length draft.cuts)
-    (with_cut_nodes (length draft.inputs) (with_input_nodes 0 start draft.inputs) draft.cuts)
+    (with_nodes_from (length draft.inputs) (with_nodes_from 0 start draft.inputs) draft.cuts)
     draft.gates)

@@ -12,7 +12,7 @@ ghost use Rattle.hz_core.specs.Limits.{most_variables};
 ghost use Rattle.hz_core.specs.Netlist.{primary_inputs};
 ghost use Rattle.hz_netlist.specs.Build.{AreAdmissibleSteps};
 ghost use Rattle.hz_netlist.specs.Circuit.{circuit_of_elements};
-ghost use Rattle.hz_netlist.specs.Draft.{AreNodesBy, IsBuildable, MayAddCutEntry, MayAddGateEntry, MayAddInputNumbered, MayAddPinsBy, MaySetDataBy, ReadsGateBelow, ReadsNameBelow, drafted, elements_of_draft, role_name, source_node, with_cut_entry, with_cut_nodes, with_data_by, with_gate_entry, with_gate_nodes, with_input_nodes, with_input_numbered, with_pins_by, with_role_node};
+ghost use Rattle.hz_netlist.specs.Draft.{AreNodesBy, IsBuildable, MayAddCutNumbered, MayAddGateEntry, MayAddInputNumbered, MayAddPinsBy, MaySetDataBy, ReadsGateBelow, ReadsNameBelow, drafted, elements_of_draft, role_name, source_node, with_cut_numbered, with_data_by, with_gate_entry, with_gate_nodes, with_nodes_from, with_input_numbered, with_pins_by, with_role_node};
 ghost use Rattle.hz_netlist.specs.Names.{AreNumbers, name_at};
 
 use crate::build::{add_outputs_and_data, connect_gate, resolve};
@@ -43,14 +43,7 @@ pub struct Gate {
     pub pins: usize,
 }
 
-/// A flip-flop, which is cut: the numbers of its name and of the name that it reads.
-#[derive(Clone, Copy)]
-pub struct Cut {
-    pub name: u32,
-    pub data: u32,
-}
-
-/// What a pin reads.
+/// What a pin or a flip-flop reads.
 #[derive(Clone, Copy)]
 pub enum Source {
     /// The node with a name of the text, by the name's number.
@@ -65,7 +58,10 @@ pub struct Draft<'d, 't> {
     pub names: &'d NameTable<'t>,
     /// The inputs, by the numbers of their names.
     pub inputs: &'d [u32],
-    pub cuts: &'d [Cut],
+    /// The flip-flops, which are cut, by the numbers of their names.
+    pub cuts: &'d [u32],
+    /// What these read.
+    pub data: &'d [Source],
     pub gates: &'d [Gate],
     /// What the pins of the gates read, gate after gate.
     pub sources: &'d [Source],
@@ -87,8 +83,9 @@ pub fn build_draft(alloc: Global, draft: &Draft) -> Result<Circuit, Memory>
     add_gates(alloc, &mut circuit, draft.names, draft.gates)?;
     let nodes = number_nodes(alloc, draft)?;
     let first = circuit.inputs();
-    set_data(&mut circuit, draft.cuts, nodes.as_slice());
-    let pins = resolve_pins(alloc, draft.sources, nodes.as_slice(), inputs)?;
+    let data = resolve_sources(alloc, draft.data, nodes.as_slice(), inputs)?;
+    set_data(&mut circuit, data.as_slice());
+    let pins = resolve_sources(alloc, draft.sources, nodes.as_slice(), inputs)?;
     connect_gates(&mut circuit, first, draft.gates, pins.as_slice())?;
     let outputs = resolve(alloc, draft.outputs, nodes.as_slice())?;
     add_outputs_and_data(alloc, &mut circuit, outputs.as_slice())?;
@@ -99,7 +96,7 @@ pub fn build_draft(alloc: Global, draft: &Draft) -> Result<Circuit, Memory>
 // defines has none, and 0 stands in.
 fn number_nodes(alloc: Global, draft: &Draft) -> Result<Vec<u32>, Memory>
     requires inputs { AreNumbers draft.now.names.now draft.now.inputs.now }
-    requires cuts { All (λ cut. cut.name < length draft.now.names.now) draft.now.cuts.now }
+    requires cuts { AreNumbers draft.now.names.now draft.now.cuts.now }
     requires gates { All (λ gate. gate.output < length draft.now.names.now) draft.now.gates.now }
     requires few { length draft.now.inputs.now + length draft.now.cuts.now
         + length draft.now.gates.now ≤ most_variables }
@@ -110,36 +107,22 @@ fn number_nodes(alloc: Global, draft: &Draft) -> Result<Vec<u32>, Memory>
     };
     let cuts = draft.inputs.len();
     let gates = cuts + draft.cuts.len();
-    number_inputs(&mut nodes, draft.inputs);
-    number_cuts(&mut nodes, draft.cuts, cuts as u32);
+    number_names(&mut nodes, draft.inputs, 0);
+    number_names(&mut nodes, draft.cuts, cuts as u32);
     number_gates(&mut nodes, draft.gates, gates as u32);
     Ok(nodes)
 }
 
-// The nodes of inputs: the first is node 0.
-fn number_inputs(nodes: &mut Vec<u32>, inputs: &[u32])
-    requires inputs { All (λ number. number < length nodes.old.items) inputs.now }
-    requires few { length inputs.now ≤ most_variables }
-    ensures nodes { nodes.new.items ≡ with_input_nodes 0 nodes.old.items inputs.now }
-    ensures length { length nodes.new.items ≡ length nodes.old.items }
-{
-    let mut node = 0;
-    for number in inputs {
-        nodes[*number as usize] = node;
-        node += 1;
-    }
-}
-
-// The nodes of cuts: the first is this node.
-fn number_cuts(nodes: &mut Vec<u32>, cuts: &[Cut], first: u32)
-    requires names { All (λ cut. cut.name < length nodes.old.items) cuts.now }
-    requires few { first + length cuts.now ≤ most_variables }
-    ensures nodes { nodes.new.items ≡ with_cut_nodes first nodes.old.items cuts.now }
+// The nodes of names with these numbers: the first is this node.
+fn number_names(nodes: &mut Vec<u32>, names: &[u32], first: u32)
+    requires names { All (λ number. number < length nodes.old.items) names.now }
+    requires few { first + length names.now ≤ most_variables }
+    ensures nodes { nodes.new.items ≡ with_nodes_from first nodes.old.items names.now }
     ensures length { length nodes.new.items ≡ length nodes.old.items }
 {
     let mut node = first;
-    for cut in cuts {
-        nodes[cut.name as usize] = node;
+    for number in names {
+        nodes[*number as usize] = node;
         node += 1;
     }
 }
@@ -171,8 +154,8 @@ fn number_gate(nodes: &mut Vec<u32>, gate: &Gate, node: u32)
     }
 }
 
-// The nodes that the pins read, if so many inputs and cuts come before the gates.
-fn resolve_pins(
+// The nodes that pins or cuts read, if so many inputs and cuts come before the gates.
+fn resolve_sources(
     alloc: Global,
     sources: &[Source],
     nodes: &[u32],
@@ -216,15 +199,15 @@ fn add_inputs(circuit: &mut Circuit, names: &NameTable, inputs: &[u32]) -> Resul
 }
 
 // Adds the cuts, without data nodes.
-fn add_cuts(circuit: &mut Circuit, names: &NameTable, cuts: &[Cut]) -> Result<(), Memory>
-    requires numbers { All (λ cut. cut.name < length names.now) cuts.now }
-    requires may { AreAdmissibleSteps (MayAddCutEntry (name_at names.now))
-        (with_cut_entry (name_at names.now)) circuit.old cuts.now }
+fn add_cuts(circuit: &mut Circuit, names: &NameTable, cuts: &[u32]) -> Result<(), Memory>
+    requires numbers { AreNumbers names.now cuts.now }
+    requires may { AreAdmissibleSteps (MayAddCutNumbered (name_at names.now))
+        (with_cut_numbered (name_at names.now)) circuit.old cuts.now }
     ensures { OnOk result (circuit.new
-        ≡ fold (with_cut_entry (name_at names.now)) circuit.old cuts.now) }
+        ≡ fold (with_cut_numbered (name_at names.now)) circuit.old cuts.now) }
 {
     for cut in cuts {
-        match circuit.add_cut(names.name(cut.name)) {
+        match circuit.add_cut(names.name(*cut)) {
             Ok(_) => {}
             Err(Memory) => return Err(Memory),
         }
@@ -307,16 +290,14 @@ fn extend(buffer: &mut Vec<u8>, bytes: &[u8]) -> Result<(), Memory>
     }
 }
 
-// Gives the cuts their data nodes, by the table that has the node of each name.
-fn set_data(circuit: &mut Circuit, cuts: &[Cut], nodes: &[u32])
-    requires data { All (λ cut. cut.data < length nodes.now) cuts.now }
-    requires may { MaySetDataBy circuit.old (primary_inputs circuit.old) cuts.now nodes.now }
-    ensures { circuit.new
-        ≡ with_data_by circuit.old (primary_inputs circuit.old) cuts.now nodes.now }
+// Gives the cuts these data nodes, one after the other.
+fn set_data(circuit: &mut Circuit, nodes: &[u32])
+    requires { MaySetDataBy circuit.old (primary_inputs circuit.old) nodes.now }
+    ensures { circuit.new ≡ with_data_by circuit.old (primary_inputs circuit.old) nodes.now }
 {
     let mut number = circuit.primary_inputs();
-    for cut in cuts {
-        circuit.set_data(number, nodes[cut.data as usize]);
+    for node in nodes {
+        circuit.set_data(number, *node);
         number += 1;
     }
 }

@@ -17,5 +17,5 @@ mod draft;
 mod names;
 
 pub use build::{add_outputs, add_outputs_and_data, connect_gate, resolve};
-pub use draft::{Cut, Draft, Gate, Role, Source, build_draft};
+pub use draft::{Draft, Gate, Role, Source, build_draft};
 pub use names::{Definition, NameTable};

@@ -6,11 +6,11 @@ use Rattle.hz_netlist.proofs.DraftLaws.{build-circuit, build-cuts, build-data, b
 use Rattle.hz_netlist.specs.Names.{node_of}
 use Rattle.hz_netlist.proofs.draft.build_draft.Goals as goal
 
-pub add_cuts-requires-clause-may : goal.add_cuts-requires-clause-may
-add_cuts-requires-clause-may c = rw (c.in_ok-add_inputs.ensures, c.in_ok-circuit.ensures) (build-cuts (drafted c.args.draft.now) c.requires)
-
 pub add_inputs-requires-clause-may : goal.add_inputs-requires-clause-may
 add_inputs-requires-clause-may c = rw (c.in_ok-circuit.ensures) (build-inputs (drafted c.args.draft.now) c.requires)
+
+pub add_cuts-requires-clause-may : goal.add_cuts-requires-clause-may
+add_cuts-requires-clause-may c = rw (c.in_ok-add_inputs.ensures, c.in_ok-circuit.ensures) (build-cuts (drafted c.args.draft.now) c.requires)
 
 pub add_gates-requires-clause-may : goal.add_gates-requires-clause-may
 add_gates-requires-clause-may c = rw (c.in_ok-add_cuts.ensures, c.in_ok-add_inputs.ensures, c.in_ok-circuit.ensures) (build-gates (drafted c.args.draft.now) c.requires)

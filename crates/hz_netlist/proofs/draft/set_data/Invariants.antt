@@ -3,8 +3,8 @@ use Rattle.hz_core.specs.Netlist.{primary_inputs}
 use Rattle.hz_netlist.specs.Draft.{MaySetDataBy, with_data_by}
 use Rattle.hz_netlist.proofs.draft.set_data.Given as goal
 
-abbrev pub invariant-loop-cut : goal.invariant-loop-cut
-invariant-loop-cut l = record {
-  rest : with_data_by l.circuit l.number (drop l.cut-index l.cuts) l.nodes ≡ with_data_by l.fn.circuit (primary_inputs l.fn.circuit) l.cuts l.nodes;
-  may : MaySetDataBy l.circuit l.number (drop l.cut-index l.cuts) l.nodes;
+abbrev pub invariant-loop-node : goal.invariant-loop-node
+invariant-loop-node l = record {
+  rest : with_data_by l.circuit l.number (drop l.node-index l.nodes) ≡ with_data_by l.fn.circuit (primary_inputs l.fn.circuit) l.nodes;
+  may : MaySetDataBy l.circuit l.number (drop l.node-index l.nodes);
 }
