@@ -1,14 +1,13 @@
 -- A draft that can be built is one that every format builds: no gate of a cover has a name of the text.
-use Rattle.std.proofs.Common.{ℕ, zero, suc, ◌<◌, ◌∙◌, ◌∷◌, List, [], append_assoc, decimal, length, arith}
+use Rattle.std.proofs.Common.{ℕ, zero, suc, ◌<◌, ◌∙◌, ◌∷◌, List, [], refl, append_assoc, decimal, length, arith}
 use Rattle.std.specs.Prelude.{All}
 use Rattle.std.specs.List.{AllByRecursion}
 use Rattle.std.proofs.lemmas.List.Elements.{All-cons, All-nil}
-use Rattle.hz_netlist.specs.declared.draft.Cut.{Cut as CutEntry}
 use Rattle.hz_netlist.specs.declared.draft.Gate.{Gate as GateEntry}
 use Rattle.hz_netlist.specs.declared.draft.Role.{Role}
 use Rattle.hz_netlist.specs.declared.draft.Role.TheVariants as role
 use Rattle.hz_netlist.specs.Draft as netlist
-use Rattle.hz_netlist.specs.Draft.{HasOwnName}
+use Rattle.hz_netlist.specs.Draft.{HasOwnName, ReadsGateBelow, ReadsNameBelow}
 use Rattle.hz_netlist.specs.Names.{Names, name_at, seen_names}
 use Rattle.hz_blif.specs.declared.draft.Draft.{Draft}
 use Rattle.hz_blif.specs.Built.{IsBuildable, drafted_of}
@@ -37,8 +36,10 @@ drafted-buildable draft can plain = record {
   wired = can.wired;
   distinct = can.distinct;
   input_numbers = can.input_numbers;
-  cut_numbers = All-nil (λ (cut : CutEntry). cut.name < length draft.names);
-  data_numbers = All-nil (λ (cut : CutEntry). cut.data < length draft.names);
+  cut_numbers = All-nil (λ (number : ℕ). number < length draft.names);
+  each = refl;
+  data_numbers = All-nil (ReadsNameBelow (length draft.names));
+  data_gates = All-nil (ReadsGateBelow (length draft.gates.gates.items));
   gate_numbers = can.gate_numbers.outputs;
   gate_names = own-names draft.names plain draft.gates.gates.items;
   sized = can.holds.sized;

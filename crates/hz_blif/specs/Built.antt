@@ -17,6 +17,7 @@ drafted_of draft =
       names = draft.names;
       inputs = draft.inputs.items;
       cuts = [];
+      data = [];
       gates = draft.gates.gates.items;
       sources = draft.gates.sources.items;
       outputs = draft.outputs.items;

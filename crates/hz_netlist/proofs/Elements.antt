@@ -4,7 +4,7 @@ use Rattle.std.proofs.lemmas.List.{append-nil}
 use Rattle.hz_netlist.specs.Element.{Element, Input, Cut, Gate, Output, input_names, cut_names, data_names, gate_names, output_names, source_names}
 
 -- a list that each element adds to is that of the front and then that of the back
-told-append : {B : Type 0} (told : List Element → List B) → told [] ≡ [] → ((first : Element) (rest : List Element) → told (first ∷ rest) ≡ told (first ∷ []) ++ told rest)
+pub told-append : {B : Type 0} (told : List Element → List B) → told [] ≡ [] → ((first : Element) (rest : List Element) → told (first ∷ rest) ≡ told (first ∷ []) ++ told rest)
     → (front back : List Element) → told (front ++ back) ≡ told front ++ told back
 told-append told none next [] back = ap (λ list. list ++ told back) (sym none)
 told-append told none next (first ∷ rest) back =
