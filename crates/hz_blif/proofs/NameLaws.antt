@@ -7,7 +7,8 @@ use Rattle.std.specs.Prelude.{if◌then◌else◌}
 use Rattle.std.specs.List.{flat_map}
 use Rattle.hz_blif.specs.Cover.{Cover, planes_of, column_of}
 use Rattle.std.specs.List.{AllByRecursion}
-use Rattle.hz_blif.proofs.Lists.{all-append, all-as}
+use Rattle.hz_netlist.proofs.Lists.{all-append}
+use Rattle.hz_blif.proofs.Lists.{all-as}
 use Rattle.hz_core.specs.declared.kind.Kind.TheVariants.{And, Nand, Or, Nor, Not, Buff}
 use Rattle.hz_netlist.specs.Element.{Element, Input, Cut, Gate, Output, gate_names}
 use Rattle.hz_netlist.specs.Draft.{inverter_name, row_name}

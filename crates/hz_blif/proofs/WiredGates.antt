@@ -17,7 +17,7 @@ use Rattle.hz_netlist.specs.Element.{Element, Input, Cut, Gate, Output, gate_nam
 use Rattle.hz_line.specs.Statement.{Numbered}
 use Rattle.hz_blif.specs.Cover.{Cover, column_of, plane_of, planes_of}
 use Rattle.hz_blif.specs.Gates.{Literal, cover_gates, gates_of_row, gates_of_rows, has_zero, inverters_from, literal_gate, literal_names, literals_from, literals_of, row_gates_from, terms_from}
-use Rattle.hz_blif.proofs.Lists.{all-append, all-cut}
+use Rattle.hz_netlist.proofs.Lists.{all-append, all-cut}
 use Rattle.hz_blif.proofs.NameLaws.{gate_names-append}
 use Rattle.hz_blif.proofs.TwoLevel.{HaveLiterals, IsSomeList}
 use Rattle.hz_blif.proofs.WiredNames.{IsTextName}

@@ -10,7 +10,8 @@ use Rattle.hz_line.specs.Statement.{Numbered}
 use Rattle.hz_netlist.specs.Build.{HasRightPins}
 use Rattle.hz_netlist.specs.Draft.{inverter_name}
 use Rattle.hz_netlist.specs.Element.{Element, Input, Cut, Gate, Output, variable_total}
-use Rattle.hz_blif.proofs.Lists.{all-append, all-contained, all-kept}
+use Rattle.hz_netlist.proofs.Lists.{all-append}
+use Rattle.hz_blif.proofs.Lists.{all-contained, all-kept}
 use Rattle.hz_blif.specs.declared.fault.BlifFault.TheVariants as fault
 use Rattle.hz_blif.specs.Circuit.{elements_of}
 use Rattle.hz_blif.specs.Cover.{Cover, covers_of, inputs_of, is_skipped, kept_covers, outputs_of, plane_of, planes_of, column_of}

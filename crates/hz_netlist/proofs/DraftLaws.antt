@@ -1,5 +1,5 @@
 -- The circuit of a draft that can be built is that of its elements.
-use Rattle.std.proofs.Common.{◌≡◌, ◌∙◌, refl, sym, ap, subst, ℕ, ◌+◌, ◌<◌, ◌≤◌, ◌×◌, true, List, [], ◌∷◌, ◌++◌, length, map, fold, length-append, append_assoc, false, arith}
+use Rattle.std.proofs.Common.{◌≡◌, ◌∙◌, refl, sym, ap, subst, ℕ, ◌+◌, ◌<◌, ◌≤◌, true, List, [], ◌∷◌, ◌++◌, length, map, fold, length-append, append_assoc, false, arith}
 use Rattle.std.specs.Prelude.{All}
 use Rattle.std.specs.List.{AllByRecursion, IsDistinct, list_any}
 use Rattle.std.specs.Str.{bytes_eq}
@@ -11,13 +11,13 @@ use Rattle.hz_netlist.proofs.BuiltCircuit.{built-circuit_of_elements, connected-
 use Rattle.hz_netlist.proofs.Circuits.{built_circuit}
 use Rattle.hz_netlist.proofs.Connect.{may_name, outputs-numbered}
 use Rattle.hz_netlist.proofs.DraftNodes.{AreNodesOf, nodes-gates, nodes-named, outputs-numbers, sources-numbered}
-use Rattle.hz_netlist.proofs.DraftSteps.{HasParts, cuts-idle, cuts-numbered, data-entered, data-kept, entries-gates, entries-named, fold-append, gates-entered, gates-idle, inputs-idle, inputs-numbered, outputs-idle, parts, pins-entered, sources-known, steps-cut}
+use Rattle.hz_netlist.proofs.DraftSteps.{HasData, HasParts, cuts-idle, cuts-numbered, data-entered, data-kept, entries-gates, entries-named, fold-append, gates-entered, gates-idle, inputs-idle, inputs-numbered, outputs-idle, parts, pins-entered, sources-known, steps-cut}
 use Rattle.hz_netlist.proofs.Lists.{all-cut}
 use Rattle.hz_netlist.specs.declared.draft.Gate.{Gate as GateEntry}
 use Rattle.hz_netlist.specs.declared.draft.Source.{Source}
 use Rattle.hz_netlist.specs.Build.{AreAdmissibleSteps, BuilderState, HasNode, MayAddCut, MayAddGate, MayAddInput, MayAddPins, MayBuild, UsesKnown, connected_netlist, initial_builder, inputs_of, unconnected_netlist, with_cut_of, with_data_outputs, with_gate_of, with_input_of, with_output_of, with_pins_of}
 use Rattle.hz_netlist.specs.Circuit.{all_inputs, circuit_of_elements, node_names, number_in}
-use Rattle.hz_netlist.specs.Draft.{AreNodesBy, Drafted, IsBuildable, MayAddCutNumbered, MayAddGateEntry, MayAddInputNumbered, MayAddPinsBy, MaySetDataBy, ReadsGateBelow, cut_elements, elements_of_draft, gate_elements, gate_name, source_name, source_node, with_cut_numbered, with_data_by, with_gate_entry, with_gate_nodes, with_nodes_from, with_input_numbered, with_pins_by}
+use Rattle.hz_netlist.specs.Draft.{AreNodesBy, Drafted, IsBuildable, MayAddCutNumbered, MayAddGateEntry, MayAddInputNumbered, MayAddPinsBy, MaySetDataBy, ReadsGateBelow, ReadsNameBelow, cut_elements, elements_of_draft, gate_elements, gate_name, source_name, source_node, with_cut_numbered, with_data_by, with_gate_entry, with_gate_nodes, with_nodes_from, with_input_numbered, with_pins_by}
 use Rattle.hz_netlist.specs.Element.{Element, Input, Output, cut_names, gate_names, input_names, output_names}
 use Rattle.hz_netlist.specs.Names.{name_at, names_at, node_of}
 
@@ -236,19 +236,18 @@ module _ (draft : Drafted) (can : IsBuildable draft) where
         data_read ∙ (read-names nodes by draft.data can.data_numbers can.data_gates (known_data draft.cuts draft.data can.each known_cuts)
         ∙ ap (λ names. map (λ source. number_in names (source_name name made source)) draft.data) (sym bare-names))
 
-    entered : MaySetDataBy bare (primary_inputs bare) data
-        × ((cut : ℕ) × (fold with_pins_of start cut_list ≡ record start { netlist = with_data_by bare (primary_inputs bare) data; cut = cut }))
+    entered : HasData start cut_list data
     entered = data-entered name made start draft.cuts draft.data data can.each data_are
         (subst (λ now. AreAdmissibleSteps MayAddPins with_pins_of now cut_list) (inputs-idle with_pins_of (λ name now. refl) inputs start) pins_all.second)
 
     pub build-data : MaySetDataBy bare (primary_inputs bare) data
-    build-data = entered.0
+    build-data = entered.may
 
     abbrev given : Netlist
-    given = with_data_by bare (primary_inputs bare) data
+    given = with_data_by (fold (with_gate_entry (name_at draft.names)) (fold (with_cut_numbered (name_at draft.names)) (fold (with_input_numbered (name_at draft.names)) empty_netlist draft.inputs) draft.cuts) draft.gates) (primary_inputs (fold (with_gate_entry (name_at draft.names)) (fold (with_cut_numbered (name_at draft.names)) (fold (with_input_numbered (name_at draft.names)) empty_netlist draft.inputs) draft.cuts) draft.gates)) data
 
-    begun : fold with_pins_of (fold with_pins_of start input_elements) cut_list ≡ record { netlist = given; cut = entered.1.0; gate = bare.inputs }
-    begun = ap (λ now. fold with_pins_of now cut_list) (inputs-idle with_pins_of (λ name now. refl) inputs start) ∙ entered.1.1
+    begun : fold with_pins_of (fold with_pins_of start input_elements) cut_list ≡ record { netlist = given; cut = entered.cut; gate = bare.inputs }
+    begun = ap (λ now. fold with_pins_of now cut_list) (inputs-idle with_pins_of (λ name now. refl) inputs start) ∙ entered.is
 
     module _ (pins : List ℕ) (read : pins ≡ map (source_node nodes (length draft.inputs + length draft.cuts)) draft.sources) where
       pins_are : pins ≡ map (λ source. number_in given.names (source_name name made source)) draft.sources
@@ -257,8 +256,8 @@ module _ (draft : Drafted) (can : IsBuildable draft) where
           ∙ ap (λ names. map (λ source. number_in names (source_name name made source)) draft.sources) (sym (data-kept bare (primary_inputs bare) data ∙ bare-names)))
 
       pins_entered : MayAddPinsBy given bare.inputs draft.gates pins
-          × (with_pins_by given bare.inputs draft.gates pins ≡ (fold with_pins_of (record { netlist = given; cut = entered.1.0; gate = bare.inputs }) gates).netlist)
-      pins_entered = pins-entered name made (record { netlist = given; cut = entered.1.0; gate = bare.inputs }) draft.gates draft.sources pins pins_are can.sized
+          × (with_pins_by given bare.inputs draft.gates pins ≡ (fold with_pins_of (record { netlist = given; cut = entered.cut; gate = bare.inputs }) gates).netlist)
+      pins_entered = pins-entered name made (record { netlist = given; cut = entered.cut; gate = bare.inputs }) draft.gates draft.sources pins pins_are can.sized
           (subst (λ now. AreAdmissibleSteps MayAddPins with_pins_of now gates) begun pins_all.third)
 
       pub build-pins : MayAddPinsBy given bare.inputs draft.gates pins

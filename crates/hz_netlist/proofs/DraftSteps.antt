@@ -7,7 +7,7 @@ use Rattle.std.proofs.lemmas.List.{at_drop_more, drop-map, length-map, take-appe
 use Rattle.std.proofs.lemmas.List.Sums.{sum_by-cons}
 use Rattle.std.proofs.lemmas.Simd.{map-map}
 use Rattle.hz_core.specs.declared.kind.Kind.{Kind}
-use Rattle.hz_core.specs.Netlist.{Netlist, with_data}
+use Rattle.hz_core.specs.Netlist.{Gate as GateHere, Netlist, with_data}
 use Rattle.hz_netlist.proofs.Connect.{may_read, names-kept, pins-numbered}
 use Rattle.hz_netlist.proofs.Numbers.{number-below}
 use Rattle.hz_netlist.specs.Build.{AreAdmissibleSteps, BuilderState, MayAddCut, MayAddGate, MayAddInput, MayAddPinFrom, MayAddPins, UsesKnown, with_cut_of, with_gate_of, with_input_of, with_pin_from, with_pin_named, with_pins_of}
@@ -15,7 +15,7 @@ use Rattle.hz_netlist.specs.Circuit.{gates_of, number_in}
 use Rattle.hz_netlist.specs.Element.{Element, Input, Cut, Gate, Output, cut_names, data_names, gate_names, input_names, output_names}
 use Rattle.hz_netlist.specs.declared.draft.Gate.{Gate as GateEntry}
 use Rattle.hz_netlist.specs.declared.draft.Source.{Source}
-use Rattle.hz_netlist.specs.Draft.{MayAddCutNumbered, MayAddGateEntry, MayAddInputNumbered, MayAddPinsBy, MaySetDataBy, cut_elements, elements_from, gate_name, source_name, with_cut_numbered, with_data_by, with_gate_entry, with_input_numbered, with_pins_by}
+use Rattle.hz_netlist.specs.Draft.{MayAddCutNumbered, MayAddGateEntry, MayAddInputNumbered, MayAddPinsBy, MayHaveData, MaySetDataBy, cut_elements, elements_from, gate_name, source_name, with_cut_numbered, with_data_by, with_gate_entry, with_input_numbered, with_pins_by}
 use Rattle.hz_netlist.proofs.Lists.{all-append}
 
 -- an element is a gate
@@ -24,6 +24,10 @@ IsGate (Input name) = ⊥
 IsGate (Cut name source) = ⊥
 IsGate (Gate name kind sources) = Unit {0}
 IsGate (Output name) = ⊥
+
+-- a gate of a circuit
+abbrev pub gate_made : Kind → List ℕ → GateHere
+gate_made kind sources = record { kind = kind; sources = sources }
 
 -- the names of elements: inputs, cuts with what they read, gates and outputs
 pub record HasParts (inputs cuts data : List (List ℕ)) (gates : List Element) (outputs : List (List ℕ)) (elements : List Element) : Type 0 where
@@ -47,7 +51,7 @@ gate-parts (Cut name source ∷ rest) outputs all = absurd all.0
 gate-parts (Gate name kind sources ∷ rest) outputs all =
     let more = gate-parts rest outputs all.1 in
     record { inputs_are = more.inputs_are; cuts_are = more.cuts_are; data_are = more.data_are; gates_are = ap (λ names. name ∷ names) more.gates_are;
-      gates_made = λ names. ap (λ made. record { kind = kind; sources = map (number_in names) sources } ∷ made) (more.gates_made names); outputs_are = more.outputs_are }
+      gates_made = λ names. ap (λ made. gate_made kind (map (number_in names) sources) ∷ made) (more.gates_made names); outputs_are = more.outputs_are }
 gate-parts (Output name ∷ rest) outputs all = absurd all.0
 
 cut-parts : (name : ℕ → List ℕ) (made : List (List ℕ)) (cuts : List ℕ) (data : List Source) (gates : List Element) (outputs : List (List ℕ)) → length data ≡ length cuts → AllByRecursion IsGate gates
@@ -128,13 +132,15 @@ cuts-numbered name made netlist (cut ∷ rest) (source ∷ data) each may =
     ((may.0, more.0), more.1)
 
 -- and their data nodes
+pub record HasData (now : BuilderState) (elements : List Element) (nodes : List ℕ) : Type 0 where
+  pub may : MaySetDataBy now.netlist now.cut nodes
+  pub cut : ℕ
+  pub is : fold with_pins_of now elements ≡ record now { netlist = with_data_by now.netlist now.cut nodes; cut = cut }
+
 pub data-entered : (name : ℕ → List ℕ) (made : List (List ℕ)) (now : BuilderState) (cuts : List ℕ) (data : List Source) (nodes : List ℕ) → length data ≡ length cuts
     → nodes ≡ map (λ source. number_in now.netlist.names (source_name name made source)) data
-    → AreAdmissibleSteps MayAddPins with_pins_of now (cut_elements name made cuts data)
-    → MaySetDataBy now.netlist now.cut nodes
-    × ((cut : ℕ) × (fold with_pins_of now (cut_elements name made cuts data) ≡ record now { netlist = with_data_by now.netlist now.cut nodes; cut = cut }))
-data-entered name made now [] [] nodes each are may =
-    subst (λ nodes. MaySetDataBy now.netlist now.cut nodes × ((cut : ℕ) × (now ≡ record now { netlist = with_data_by now.netlist now.cut nodes; cut = cut }))) (sym are) (tt, (now.cut, refl))
+    → AreAdmissibleSteps MayAddPins with_pins_of now (cut_elements name made cuts data) → HasData now (cut_elements name made cuts data) nodes
+data-entered name made now [] [] nodes each are may = subst (HasData now []) (sym are) (record { may = tt; cut = now.cut; is = refl })
 data-entered name made now [] (source ∷ data) nodes each are may = absurd (omega (arith, each))
 data-entered name made now (cut ∷ rest) [] nodes each are may = absurd (omega (arith, each))
 data-entered name made now (cut ∷ rest) (source ∷ data) nodes each are may =
@@ -143,11 +149,8 @@ data-entered name made now (cut ∷ rest) (source ∷ data) nodes each are may =
     let others = map (λ source. number_in now.netlist.names (source_name name made source)) data in
     let later : BuilderState = record now { netlist = with_data now.netlist now.cut node; cut = suc now.cut } in
     let more = data-entered name made later rest data others (omega (arith, each)) refl may.1 in
-    subst (λ nodes. MaySetDataBy now.netlist now.cut nodes
-    × ((cut' : ℕ) × (fold with_pins_of later (cut_elements name made rest data) ≡ record now { netlist = with_data_by now.netlist now.cut nodes; cut = cut' }))) (sym are) (
-      (record { room = may.0.0; cut_is = may.0.1.cut_is; node_is = number-below now.netlist.names read may.0.1.source_is }, more.0),
-      more.1,
-    )
+    let here : MayHaveData now.netlist now.cut node = record { room = may.0.0; cut_is = may.0.1.cut_is; node_is = number-below now.netlist.names read may.0.1.source_is } in
+    subst (HasData now (cut_elements name made (cut ∷ rest) (source ∷ data))) (sym are) (record { may = (here, more.may); cut = more.cut; is = more.is })
 
 -- data nodes leave the names
 pub data-kept : (netlist : Netlist) (number : ℕ) (nodes : List ℕ) → (with_data_by netlist number nodes).names ≡ netlist.names

@@ -3,7 +3,7 @@ use Rattle.std.proofs.Common.{◌≡◌, ◌∙◌, refl, sym, ap, subst, ℕ, �
 use Rattle.std.specs.List.{AllByRecursion}
 use Rattle.std.proofs.lemmas.List.Sums.{sum_by-append, sum_by-cons}
 use Rattle.hz_core.specs.Limits.{most_variables}
-use Rattle.hz_netlist.proofs.DraftSteps.{HasParts, entries-gates, parts}
+use Rattle.hz_netlist.proofs.DraftSteps.{HasParts, entries-gates, gate_made, parts}
 use Rattle.hz_netlist.proofs.Lists.{all-append}
 use Rattle.hz_netlist.specs.declared.draft.Source.{Source}
 use Rattle.hz_netlist.specs.Build.{Apart, AreWired, HasNodeName, HasRightPins, UsesKnown}
@@ -41,7 +41,7 @@ gates-made : (names : List (List ℕ)) (elements : List Element) → gates_of na
 gates-made names [] = refl
 gates-made names (Input name ∷ rest) = gates-made names rest
 gates-made names (Cut name source ∷ rest) = gates-made names rest
-gates-made names (Gate name kind sources ∷ rest) = ap (λ made. record { kind = kind; sources = map (number_in names) sources } ∷ made) (gates-made names rest)
+gates-made names (Gate name kind sources ∷ rest) = ap (λ made. gate_made kind (map (number_in names) sources) ∷ made) (gates-made names rest)
 gates-made names (Output name ∷ rest) = gates-made names rest
 
 entries-cut : (name : ℕ → List ℕ) (made : List (List ℕ)) (cuts : List ℕ) (data : List Source) → length data ≡ length cuts
