@@ -77,22 +77,22 @@ first-same : {A : Type 0} (one other : A) (rest more : List A) → one ∷ rest 
 first-same one other rest more h = (cc h, cc h)
 
 -- cuts by their names and by what they read
-cuts-told : (name : ℕ → List ℕ) (made : List (List ℕ)) (cuts : List ℕ) (data : List Source) (elements : List Element) → map name cuts ≡ cut_names elements → map (source_name name made) data ≡ data_names elements
-    → (cut_elements name made cuts data ≡ cuts_among elements) × (length data ≡ length cuts)
+cuts-told : (name : ℕ → List ℕ) (made : List (List ℕ)) (cuts : List ℕ) (cut_sources : List Source) (elements : List Element) → map name cuts ≡ cut_names elements → map (source_name name made) cut_sources ≡ data_names elements
+    → (cut_elements name made cuts cut_sources ≡ cuts_among elements) × (length cut_sources ≡ length cuts)
 cuts-told name made [] [] [] h read = (refl, refl)
-cuts-told name made [] (source ∷ data) [] h read = cc
-cuts-told name made (cut ∷ cuts) data [] h read = cc
-cuts-told name made cuts data (Input other ∷ rest) h read = cuts-told name made cuts data rest h read
-cuts-told name made cuts data (Gate other kind sources ∷ rest) h read = cuts-told name made cuts data rest h read
-cuts-told name made cuts data (Output other ∷ rest) h read = cuts-told name made cuts data rest h read
-cuts-told name made [] data (Cut other from ∷ rest) h read = cc
+cuts-told name made [] (source ∷ cut_sources) [] h read = cc
+cuts-told name made (cut ∷ cuts) cut_sources [] h read = cc
+cuts-told name made cuts cut_sources (Input other ∷ rest) h read = cuts-told name made cuts cut_sources rest h read
+cuts-told name made cuts cut_sources (Gate other kind sources ∷ rest) h read = cuts-told name made cuts cut_sources rest h read
+cuts-told name made cuts cut_sources (Output other ∷ rest) h read = cuts-told name made cuts cut_sources rest h read
+cuts-told name made [] cut_sources (Cut other from ∷ rest) h read = cc
 cuts-told name made (cut ∷ cuts) [] (Cut other from ∷ rest) h read = cc
-cuts-told name made (cut ∷ cuts) (source ∷ data) (Cut other from ∷ rest) h read =
+cuts-told name made (cut ∷ cuts) (source ∷ cut_sources) (Cut other from ∷ rest) h read =
     let one = first-same (name cut) other (map name cuts) (cut_names rest) h in
-    let two = first-same (source_name name made source) from (map (source_name name made) data) (data_names rest) read in
-    let more = cuts-told name made cuts data rest one.1 two.1 in (
-      ap (λ here. Cut here (source_name name made source) ∷ cut_elements name made cuts data) one.0
-          ∙ (ap (λ from. Cut other from ∷ cut_elements name made cuts data) two.0 ∙ ap (λ later. Cut other from ∷ later) more.0),
+    let two = first-same (source_name name made source) from (map (source_name name made) cut_sources) (data_names rest) read in
+    let more = cuts-told name made cuts cut_sources rest one.1 two.1 in (
+      ap (λ here. Cut here (source_name name made source) ∷ cut_elements name made cuts cut_sources) one.0
+          ∙ (ap (λ from. Cut other from ∷ cut_elements name made cuts cut_sources) two.0 ∙ ap (λ later. Cut other from ∷ later) more.0),
       ap suc more.1,
     )
 
@@ -168,11 +168,11 @@ built text statements parsed none wired =
     let nodes = gathered.nodes (right-pins statements none) (omega (arith, total, few)) in
     let inputs = numbers-told names statements.inputs.items (input_names all) nodes.inputs in
     let cuts = numbers-told names statements.cuts.items (cut_names all) nodes.cuts in
-    let data = sources-told names made (length statements.gates.items) statements.data.items (data_names all) nodes.data_named nodes.data in
+    let cut_sources = sources-told names made (length statements.gates.items) statements.cut_sources.items (data_names all) nodes.data_named nodes.cut_sources in
     let gates = numbers-told names (map (λ (gate : GateEntry). gate.output) statements.gates.items) (gate_names all) nodes.gates in
     let sources = sources-told names made (length statements.gates.items) statements.sources.items (source_names all) nodes.named nodes.sources in
     let outputs = numbers-told names statements.outputs.items (output_names all) gathered.outputs in
-    let drawn_cuts = cuts-told (name_at statements.names) made statements.cuts.items statements.data.items all cuts.1 data.read in
+    let drawn_cuts = cuts-told (name_at statements.names) made statements.cuts.items statements.cut_sources.items all cuts.1 cut_sources.read in
     let drawn = gates-told names made statements.gates.items statements.sources.items all gates.1 nodes.shapes sources.read in
     let has : HasElements all (drafted_of statements) = record { inputs = inputs.1; cuts = drawn_cuts.0; gates = drawn.drawn; outputs = outputs.1 } in (
       record {
@@ -181,8 +181,8 @@ built text statements parsed none wired =
         input_numbers = inputs.0;
         cut_numbers = cuts.0;
         each = drawn_cuts.1;
-        data_numbers = data.below;
-        data_gates = data.among;
+        data_numbers = cut_sources.below;
+        data_gates = cut_sources.among;
         gate_numbers = outputs-below names statements.gates.items gates.0;
         gate_names = drawn.own;
         sized = drawn.sized ∙ (ap length (sym sources.read) ∙ length-map statements.sources.items (source_name (name_at statements.names) made));

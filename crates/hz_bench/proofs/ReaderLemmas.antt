@@ -95,7 +95,7 @@ nodes-more done one old new names was added =
     record {
       inputs = more old.inputs.items new.inputs.items (input_names front) (input_names back) (input_names (elements_of (plain (done ++ one ∷ [])))) names was.inputs added.inputs (ap input_names is ∙ inputs-append front back);
       cuts = more old.cuts.items new.cuts.items (cut_names front) (cut_names back) (cut_names (elements_of (plain (done ++ one ∷ [])))) names was.cuts added.cuts (ap cut_names is ∙ cuts-append front back);
-      data = more (map source_number old.data.items) (map source_number new.data.items) (data_names front) (data_names back) (data_names (elements_of (plain (done ++ one ∷ [])))) names was.data added.data (ap data_names is ∙ data-append front back);
+      cut_sources = more (map source_number old.cut_sources.items) (map source_number new.cut_sources.items) (data_names front) (data_names back) (data_names (elements_of (plain (done ++ one ∷ [])))) names was.cut_sources added.cut_sources (ap data_names is ∙ data-append front back);
       data_named = added.data_named was.data_named;
       gates = more (map (λ (gate : GateEntry). gate.output) old.gates.items) (map (λ (gate : GateEntry). gate.output) new.gates.items) (gate_names front) (gate_names back) (gate_names (elements_of (plain (done ++ one ∷ []))))
           names was.gates added.gates (ap gate_names is ∙ gates-append front back);
@@ -166,8 +166,8 @@ form-added old new form (Input name) pins number words is right read count at ke
     record {
       inputs = told-one new.names old.inputs.items new.inputs.items number name parts.0 (at name refl);
       cuts = told-same old.cuts.items new.cuts.items parts.1.cuts;
-      data = told-same (map source_number old.data.items) (map source_number new.data.items) (ap (map source_number) parts.1.data);
-      data_named = λ named. ap are_names parts.1.data ∙ named;
+      cut_sources = told-same (map source_number old.cut_sources.items) (map source_number new.cut_sources.items) (ap (map source_number) parts.1.cut_sources);
+      data_named = λ named. ap are_names parts.1.cut_sources ∙ named;
       gates = told-same (map (λ (gate : GateEntry). gate.output) old.gates.items) (map (λ (gate : GateEntry). gate.output) new.gates.items) (ap (map (λ (gate : GateEntry). gate.output)) parts.2.gates);
       shapes = ap (map shape_of) parts.2.gates ∙ sym (append-nil (map shape_of old.gates.items));
       sources = told-same (map source_number old.sources.items) (map source_number new.sources.items) (ap (map source_number) parts.2.sources);
@@ -178,7 +178,7 @@ form-added old new form (FlipFlop name sources) pins number words is right read 
     record {
       inputs = told-same old.inputs.items new.inputs.items parts.0;
       cuts = told-one new.names old.cuts.items new.cuts.items number name parts.1 (at name refl);
-      data = parts.2.numbers ∙ ap (λ words. told (map source_number old.data.items) ++ places new.names words) (read ∙ one-name sources right);
+      cut_sources = parts.2.numbers ∙ ap (λ words. told (map source_number old.cut_sources.items) ++ places new.names words) (read ∙ one-name sources right);
       data_named = parts.2.named;
       gates = told-same (map (λ (gate : GateEntry). gate.output) old.gates.items) (map (λ (gate : GateEntry). gate.output) new.gates.items) (ap (map (λ (gate : GateEntry). gate.output)) parts.3.gates);
       shapes = ap (map shape_of) parts.3.gates ∙ sym (append-nil (map shape_of old.gates.items));
@@ -191,8 +191,8 @@ form-added old new form (Gate name kind sources) pins number words is right read
     record {
       inputs = told-same old.inputs.items new.inputs.items parts.0;
       cuts = told-same old.cuts.items new.cuts.items parts.1.cuts;
-      data = told-same (map source_number old.data.items) (map source_number new.data.items) (ap (map source_number) parts.1.data);
-      data_named = λ named. ap are_names parts.1.data ∙ named;
+      cut_sources = told-same (map source_number old.cut_sources.items) (map source_number new.cut_sources.items) (ap (map source_number) parts.1.cut_sources);
+      data_named = λ named. ap are_names parts.1.cut_sources ∙ named;
       gates = told-one new.names (map (λ (gate : GateEntry). gate.output) old.gates.items) (map (λ (gate : GateEntry). gate.output) new.gates.items) number name
           (ap (map (λ (gate : GateEntry). gate.output)) parts.2 ∙ map-append (λ (gate : GateEntry). gate.output) old.gates.items (gate ∷ [])) (at name refl);
       shapes = ap (map shape_of) parts.2 ∙ (map-append shape_of old.gates.items (gate ∷ [])

@@ -26,7 +26,7 @@ pub record IsNothingRead (statements : Statements) : Type 0 where
   pub names : statements.names ≡ []
   pub inputs : statements.inputs.items ≡ []
   pub cuts : statements.cuts.items ≡ []
-  pub data : statements.data.items ≡ []
+  pub cut_sources : statements.cut_sources.items ≡ []
   pub gates : statements.gates.items ≡ []
   pub sources : statements.sources.items ≡ []
   pub outputs : statements.outputs.items ≡ []
@@ -47,7 +47,7 @@ pub record AddsSources (words : List (List ℕ)) (names : Names) (old new : List
 -- the flip-flops stay, and the gates
 pub record KeepsCuts (old new : Statements) : Type 0 where
   pub cuts : new.cuts.items ≡ old.cuts.items
-  pub data : new.data.items ≡ old.data.items
+  pub cut_sources : new.cut_sources.items ≡ old.cut_sources.items
 
 pub record KeepsGates (old new : Statements) : Type 0 where
   pub gates : new.gates.items ≡ old.gates.items
@@ -59,7 +59,7 @@ KeepsForm old form.Input pins words number new =
     (new.inputs.items ≡ old.inputs.items ++ number ∷ []) × KeepsCuts old new × KeepsGates old new
 KeepsForm old form.FlipFlop pins words number new =
     (new.inputs.items ≡ old.inputs.items) × (new.cuts.items ≡ old.cuts.items ++ number ∷ [])
-    × AddsSources words new.names old.data.items new.data.items × KeepsGates old new
+    × AddsSources words new.names old.cut_sources.items new.cut_sources.items × KeepsGates old new
 KeepsForm old (form.Gate kind) pins words number new =
     (new.inputs.items ≡ old.inputs.items) × KeepsCuts old new
     × (new.gates.items
@@ -80,9 +80,9 @@ pub record KeepsNode (old : Statements) (form : Form) (line pins : ℕ) (words :
 pub record HoldsNodes (elements : List Element) (statements : Statements) : Type 0 where
   pub inputs : told statements.inputs.items ≡ places statements.names (input_names elements)
   pub cuts : told statements.cuts.items ≡ places statements.names (cut_names elements)
-  pub data : told (map source_number statements.data.items)
+  pub cut_sources : told (map source_number statements.cut_sources.items)
       ≡ places statements.names (data_names elements)
-  pub data_named : are_names statements.data.items ≡ true
+  pub data_named : are_names statements.cut_sources.items ≡ true
   pub gates : told (map (λ gate. gate.output) statements.gates.items)
       ≡ places statements.names (gate_names elements)
   pub shapes : map shape_of statements.gates.items ≡ shapes_of elements
@@ -95,9 +95,9 @@ pub record AddsNodes (more : List Element) (old new : Statements) : Type 0 where
   pub inputs : told new.inputs.items
       ≡ told old.inputs.items ++ places new.names (input_names more)
   pub cuts : told new.cuts.items ≡ told old.cuts.items ++ places new.names (cut_names more)
-  pub data : told (map source_number new.data.items)
-      ≡ told (map source_number old.data.items) ++ places new.names (data_names more)
-  pub data_named : are_names old.data.items ≡ true → are_names new.data.items ≡ true
+  pub cut_sources : told (map source_number new.cut_sources.items)
+      ≡ told (map source_number old.cut_sources.items) ++ places new.names (data_names more)
+  pub data_named : are_names old.cut_sources.items ≡ true → are_names new.cut_sources.items ≡ true
   pub gates : told (map (λ gate. gate.output) new.gates.items)
       ≡ told (map (λ gate. gate.output) old.gates.items) ++ places new.names (gate_names more)
   pub shapes : map shape_of new.gates.items ≡ map shape_of old.gates.items ++ shapes_of more

@@ -46,7 +46,7 @@ pub struct Statements<'a> {
     pub cuts: Vec<u32>,
     pub gates: Vec<Gate>,
     /// What the flip-flops read, and what the pins of the gates read, one after the other.
-    pub data: Vec<Source>,
+    pub cut_sources: Vec<Source>,
     pub sources: Vec<Source>,
     /// The numbers of the outputs' names, in the order of the text.
     pub outputs: Vec<u32>,
@@ -101,7 +101,7 @@ impl<'a> Statements<'a> {
             inputs: Vec::new(alloc),
             cuts: Vec::new(alloc),
             gates: Vec::new(alloc),
-            data: Vec::new(alloc),
+            cut_sources: Vec::new(alloc),
             sources: Vec::new(alloc),
             outputs: Vec::new(alloc),
             notes: Notes::new(),
@@ -142,7 +142,7 @@ impl<'a> Statements<'a> {
             (words_in entry.now.sources.now) number self.new) }
     {
         if self.notes.variables > MAX_VARIABLES {
-            self.data.clear();
+            self.cut_sources.clear();
             self.sources.clear();
             return use_sources(&mut self.names, entry, words, &mut self.sources);
         }
@@ -150,7 +150,7 @@ impl<'a> Statements<'a> {
             Form::Input => push(&mut self.inputs, number),
             Form::FlipFlop => {
                 push(&mut self.cuts, number)?;
-                use_sources(&mut self.names, entry, words, &mut self.data)
+                use_sources(&mut self.names, entry, words, &mut self.cut_sources)
             }
             Form::Gate(kind) => {
                 let gate = gate_of(kind, number, entry.pins);

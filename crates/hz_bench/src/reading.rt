@@ -66,7 +66,7 @@ fn build(alloc: Global, statements: &Statements) -> Result<Circuit, Memory>
         names: &statements.names,
         inputs: statements.inputs.as_slice(),
         cuts: statements.cuts.as_slice(),
-        data: statements.data.as_slice(),
+        cut_sources: statements.cut_sources.as_slice(),
         gates: statements.gates.as_slice(),
         sources: statements.sources.as_slice(),
         outputs: statements.outputs.as_slice(),

@@ -88,7 +88,7 @@ fn build(alloc: Global, draft: &Draft) -> Result<Circuit, Memory>
         names: draft.names.table(),
         inputs: draft.inputs.as_slice(),
         cuts: &[],
-        data: &[],
+        cut_sources: &[],
         gates: draft.gates.as_slice(),
         sources: draft.gates.sources(),
         outputs: draft.outputs.as_slice(),

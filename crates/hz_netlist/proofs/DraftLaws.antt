@@ -66,7 +66,7 @@ module _ (draft : Drafted) (can : IsBuildable draft) where
   input_elements = map Input (names_at draft.names draft.inputs)
 
   abbrev cut_list : List Element
-  cut_list = cut_elements (name_at draft.names) (map (gate_name (name_at draft.names)) draft.gates) draft.cuts draft.data
+  cut_list = cut_elements (name_at draft.names) (map (gate_name (name_at draft.names)) draft.gates) draft.cuts draft.cut_sources
 
   abbrev gates : List Element
   gates = gate_elements (name_at draft.names) draft.gates draft.sources
@@ -83,8 +83,8 @@ module _ (draft : Drafted) (can : IsBuildable draft) where
   are_gates : AllByRecursion Rattle.hz_netlist.proofs.DraftSteps.IsGate gates
   are_gates = entries-gates name made draft.gates draft.sources
 
-  parts_are : HasParts inputs cuts (map (source_name name made) draft.data) gates outputs elements
-  parts_are = parts name made inputs draft.cuts draft.data gates outputs can.each are_gates
+  parts_are : HasParts inputs cuts (map (source_name name made) draft.cut_sources) gates outputs elements
+  parts_are = parts name made inputs draft.cuts draft.cut_sources gates outputs can.each are_gates
 
   inputs_all : all_inputs elements ≡ front
   inputs_all = ap (λ cuts. input_names elements ++ cuts) parts_are.cuts_are ∙ ap (λ inputs. inputs ++ cuts) parts_are.inputs_are
@@ -123,7 +123,7 @@ module _ (draft : Drafted) (can : IsBuildable draft) where
   only_inputs =
       let made_base = fold with_input_of empty_netlist input_elements in
       four with_input_of empty_netlist input_elements cut_list gates output_elements
-      ∙ ap (λ now. fold with_input_of (fold with_input_of now gates) output_elements) (cuts-idle with_input_of (λ name source now. refl) name made draft.cuts draft.data made_base)
+      ∙ ap (λ now. fold with_input_of (fold with_input_of now gates) output_elements) (cuts-idle with_input_of (λ name source now. refl) name made draft.cuts draft.cut_sources made_base)
       ∙ ap (λ now. fold with_input_of now output_elements) (gates-idle with_input_of (λ name kind sources now. refl) gates are_gates made_base)
       ∙ outputs-idle with_input_of (λ name now. refl) outputs made_base
       ∙ sym inputs_numbered.1
@@ -136,7 +136,7 @@ module _ (draft : Drafted) (can : IsBuildable draft) where
       (subst (λ now. AreAdmissibleSteps MayAddCut with_cut_of now elements) only_inputs may.cuts)).second
 
   pub build-cuts : AreAdmissibleSteps (MayAddCutNumbered name) (with_cut_numbered name) base draft.cuts
-  build-cuts = (cuts-numbered name made base draft.cuts draft.data can.each cuts_may).0
+  build-cuts = (cuts-numbered name made base draft.cuts draft.cut_sources can.each cuts_may).0
 
   abbrev only : Netlist
   only = fold (with_cut_numbered (name_at draft.names)) (fold (with_input_numbered (name_at draft.names)) empty_netlist draft.inputs) draft.cuts
@@ -149,13 +149,13 @@ module _ (draft : Drafted) (can : IsBuildable draft) where
       ∙ ap (λ now. fold with_cut_of (fold with_cut_of (fold with_cut_of now cut_list) gates) output_elements) (inputs-idle with_cut_of (λ name now. refl) inputs base)
       ∙ ap (λ now. fold with_cut_of now output_elements) (gates-idle with_cut_of (λ name kind sources now. refl) gates are_gates made_base)
       ∙ outputs-idle with_cut_of (λ name now. refl) outputs made_base
-      ∙ sym (cuts-numbered name made base draft.cuts draft.data can.each cuts_may).1
+      ∙ sym (cuts-numbered name made base draft.cuts draft.cut_sources can.each cuts_may).1
 
   -- gates
   gates_may : AreAdmissibleSteps MayAddGate with_gate_of only gates
   gates_may =
       subst (λ now. AreAdmissibleSteps MayAddGate with_gate_of now gates)
-      (ap (λ now. fold with_gate_of now cut_list) (inputs-idle with_gate_of (λ name now. refl) inputs only) ∙ cuts-idle with_gate_of (λ name source now. refl) name made draft.cuts draft.data only)
+      (ap (λ now. fold with_gate_of now cut_list) (inputs-idle with_gate_of (λ name now. refl) inputs only) ∙ cuts-idle with_gate_of (λ name source now. refl) name made draft.cuts draft.cut_sources only)
       (may-four MayAddGate with_gate_of only input_elements cut_list gates output_elements
       (subst (λ now. AreAdmissibleSteps MayAddGate with_gate_of now elements) only_nodes may.gates)).third
 
@@ -170,7 +170,7 @@ module _ (draft : Drafted) (can : IsBuildable draft) where
       ap (λ now. fold with_gate_of now elements) only_nodes
       ∙ four with_gate_of only input_elements cut_list gates output_elements
       ∙ ap (λ now. fold with_gate_of (fold with_gate_of (fold with_gate_of now cut_list) gates) output_elements) (inputs-idle with_gate_of (λ name now. refl) inputs only)
-      ∙ ap (λ now. fold with_gate_of (fold with_gate_of now gates) output_elements) (cuts-idle with_gate_of (λ name source now. refl) name made draft.cuts draft.data only)
+      ∙ ap (λ now. fold with_gate_of (fold with_gate_of now gates) output_elements) (cuts-idle with_gate_of (λ name source now. refl) name made draft.cuts draft.cut_sources only)
       ∙ outputs-idle with_gate_of (λ name now. refl) outputs (fold with_gate_of only gates)
       ∙ sym (gates-entered name made only draft.gates draft.sources gates_may).1
 
@@ -208,11 +208,11 @@ module _ (draft : Drafted) (can : IsBuildable draft) where
   known_sources : AllByRecursion (λ source. list_any (bytes_eq (source_name name made source)) all ≡ true) draft.sources
   known_sources = sources-known name made all draft.gates draft.sources can.sized known_rest.0
 
-  known_data : (cuts : List ℕ) (data : List Source) → length data ≡ length cuts → AllByRecursion (UsesKnown all) (cut_elements name made cuts data)
-      → AllByRecursion (λ source. list_any (bytes_eq (source_name name made source)) all ≡ true) data
+  known_data : (cuts : List ℕ) (cut_sources : List Source) → length cut_sources ≡ length cuts → AllByRecursion (UsesKnown all) (cut_elements name made cuts cut_sources)
+      → AllByRecursion (λ source. list_any (bytes_eq (source_name name made source)) all ≡ true) cut_sources
   known_data cuts [] each known = tt
-  known_data [] (source ∷ data) each known = absurd (omega (arith, each))
-  known_data (cut ∷ cuts) (source ∷ data) each known = (known.0, known_data cuts data (omega (arith, each)) known.1)
+  known_data [] (source ∷ cut_sources) each known = absurd (omega (arith, each))
+  known_data (cut ∷ cuts) (source ∷ cut_sources) each known = (known.0, known_data cuts cut_sources (omega (arith, each)) known.1)
 
   read-names : (nodes : List ℕ) → AreNodesBy draft nodes → (sources : List Source) → All (ReadsNameBelow (length draft.names)) sources → All (ReadsGateBelow (length draft.gates)) sources
       → AllByRecursion (λ source. list_any (bytes_eq (source_name name made source)) all ≡ true) sources
@@ -230,21 +230,21 @@ module _ (draft : Drafted) (can : IsBuildable draft) where
   pins_all = may-four MayAddPins with_pins_of start input_elements cut_list gates output_elements
       (subst (λ now. AreAdmissibleSteps MayAddPins with_pins_of (initial_builder now) elements) unconnected may.pins)
 
-  module _ (nodes data : List ℕ) (by : AreNodesBy draft nodes) (data_read : data ≡ map (source_node nodes (length draft.inputs + length draft.cuts)) draft.data) where
-    data_are : data ≡ map (λ source. number_in bare.names (source_name name made source)) draft.data
+  module _ (nodes cut_sources : List ℕ) (by : AreNodesBy draft nodes) (data_read : cut_sources ≡ map (source_node nodes (length draft.inputs + length draft.cuts)) draft.cut_sources) where
+    data_are : cut_sources ≡ map (λ source. number_in bare.names (source_name name made source)) draft.cut_sources
     data_are =
-        data_read ∙ (read-names nodes by draft.data can.data_numbers can.data_gates (known_data draft.cuts draft.data can.each known_cuts)
-        ∙ ap (λ names. map (λ source. number_in names (source_name name made source)) draft.data) (sym bare-names))
+        data_read ∙ (read-names nodes by draft.cut_sources can.data_numbers can.data_gates (known_data draft.cuts draft.cut_sources can.each known_cuts)
+        ∙ ap (λ names. map (λ source. number_in names (source_name name made source)) draft.cut_sources) (sym bare-names))
 
-    entered : HasData start cut_list data
-    entered = data-entered name made start draft.cuts draft.data data can.each data_are
+    entered : HasData start cut_list cut_sources
+    entered = data-entered name made start draft.cuts draft.cut_sources cut_sources can.each data_are
         (subst (λ now. AreAdmissibleSteps MayAddPins with_pins_of now cut_list) (inputs-idle with_pins_of (λ name now. refl) inputs start) pins_all.second)
 
-    pub build-data : MaySetDataBy bare (primary_inputs bare) data
+    pub build-data : MaySetDataBy bare (primary_inputs bare) cut_sources
     build-data = entered.may
 
     abbrev given : Netlist
-    given = with_data_by (fold (with_gate_entry (name_at draft.names)) (fold (with_cut_numbered (name_at draft.names)) (fold (with_input_numbered (name_at draft.names)) empty_netlist draft.inputs) draft.cuts) draft.gates) (primary_inputs (fold (with_gate_entry (name_at draft.names)) (fold (with_cut_numbered (name_at draft.names)) (fold (with_input_numbered (name_at draft.names)) empty_netlist draft.inputs) draft.cuts) draft.gates)) data
+    given = with_data_by (fold (with_gate_entry (name_at draft.names)) (fold (with_cut_numbered (name_at draft.names)) (fold (with_input_numbered (name_at draft.names)) empty_netlist draft.inputs) draft.cuts) draft.gates) (primary_inputs (fold (with_gate_entry (name_at draft.names)) (fold (with_cut_numbered (name_at draft.names)) (fold (with_input_numbered (name_at draft.names)) empty_netlist draft.inputs) draft.cuts) draft.gates)) cut_sources
 
     begun : fold with_pins_of (fold with_pins_of start input_elements) cut_list ≡ record { netlist = given; cut = entered.cut; gate = bare.inputs }
     begun = ap (λ now. fold with_pins_of now cut_list) (inputs-idle with_pins_of (λ name now. refl) inputs start) ∙ entered.is
@@ -253,7 +253,7 @@ module _ (draft : Drafted) (can : IsBuildable draft) where
       pins_are : pins ≡ map (λ source. number_in given.names (source_name name made source)) draft.sources
       pins_are =
           read ∙ (read-names nodes by draft.sources can.source_numbers can.source_gates known_sources
-          ∙ ap (λ names. map (λ source. number_in names (source_name name made source)) draft.sources) (sym (data-kept bare (primary_inputs bare) data ∙ bare-names)))
+          ∙ ap (λ names. map (λ source. number_in names (source_name name made source)) draft.sources) (sym (data-kept bare (primary_inputs bare) cut_sources ∙ bare-names)))
 
       pins_entered : MayAddPinsBy given bare.inputs draft.gates pins
           × (with_pins_by given bare.inputs draft.gates pins ≡ (fold with_pins_of (record { netlist = given; cut = entered.cut; gate = bare.inputs }) gates).netlist)

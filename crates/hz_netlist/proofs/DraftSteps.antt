@@ -30,10 +30,10 @@ abbrev pub gate_made : Kind → List ℕ → GateHere
 gate_made kind sources = record { kind = kind; sources = sources }
 
 -- the names of elements: inputs, cuts with what they read, gates and outputs
-pub record HasParts (inputs cuts data : List (List ℕ)) (gates : List Element) (outputs : List (List ℕ)) (elements : List Element) : Type 0 where
+pub record HasParts (inputs cuts cut_sources : List (List ℕ)) (gates : List Element) (outputs : List (List ℕ)) (elements : List Element) : Type 0 where
   pub inputs_are : input_names elements ≡ inputs
   pub cuts_are : cut_names elements ≡ cuts
-  pub data_are : data_names elements ≡ data
+  pub data_are : data_names elements ≡ cut_sources
   pub gates_are : gate_names elements ≡ gate_names gates
   pub gates_made : (names : List (List ℕ)) → gates_of names elements ≡ gates_of names gates
   pub outputs_are : output_names elements ≡ outputs
@@ -50,17 +50,23 @@ gate-parts (Input name ∷ rest) outputs all = absurd all.0
 gate-parts (Cut name source ∷ rest) outputs all = absurd all.0
 gate-parts (Gate name kind sources ∷ rest) outputs all =
     let more = gate-parts rest outputs all.1 in
-    record { inputs_are = more.inputs_are; cuts_are = more.cuts_are; data_are = more.data_are; gates_are = ap (λ names. name ∷ names) more.gates_are;
-      gates_made = λ names. ap (λ made. gate_made kind (map (number_in names) sources) ∷ made) (more.gates_made names); outputs_are = more.outputs_are }
+    record {
+      inputs_are = more.inputs_are;
+      cuts_are = more.cuts_are;
+      data_are = more.data_are;
+      gates_are = ap (λ names. name ∷ names) more.gates_are;
+      gates_made = λ names. ap (λ made. gate_made kind (map (number_in names) sources) ∷ made) (more.gates_made names);
+      outputs_are = more.outputs_are;
+    }
 gate-parts (Output name ∷ rest) outputs all = absurd all.0
 
-cut-parts : (name : ℕ → List ℕ) (made : List (List ℕ)) (cuts : List ℕ) (data : List Source) (gates : List Element) (outputs : List (List ℕ)) → length data ≡ length cuts → AllByRecursion IsGate gates
-    → HasParts [] (map name cuts) (map (source_name name made) data) gates outputs (cut_elements name made cuts data ++ (gates ++ map Output outputs))
+cut-parts : (name : ℕ → List ℕ) (made : List (List ℕ)) (cuts : List ℕ) (cut_sources : List Source) (gates : List Element) (outputs : List (List ℕ)) → length cut_sources ≡ length cuts → AllByRecursion IsGate gates
+    → HasParts [] (map name cuts) (map (source_name name made) cut_sources) gates outputs (cut_elements name made cuts cut_sources ++ (gates ++ map Output outputs))
 cut-parts name made [] [] gates outputs each all = gate-parts gates outputs all
-cut-parts name made [] (source ∷ data) gates outputs each all = absurd (omega (arith, each))
+cut-parts name made [] (source ∷ cut_sources) gates outputs each all = absurd (omega (arith, each))
 cut-parts name made (cut ∷ rest) [] gates outputs each all = absurd (omega (arith, each))
-cut-parts name made (cut ∷ rest) (source ∷ data) gates outputs each all =
-    let more = cut-parts name made rest data gates outputs (omega (arith, each)) all in
+cut-parts name made (cut ∷ rest) (source ∷ cut_sources) gates outputs each all =
+    let more = cut-parts name made rest cut_sources gates outputs (omega (arith, each)) all in
     record {
       inputs_are = more.inputs_are;
       cuts_are = ap (λ names. name cut ∷ names) more.cuts_are;
@@ -70,11 +76,11 @@ cut-parts name made (cut ∷ rest) (source ∷ data) gates outputs each all =
       outputs_are = more.outputs_are;
     }
 
-pub parts : (name : ℕ → List ℕ) (made : List (List ℕ)) (inputs : List (List ℕ)) (cuts : List ℕ) (data : List Source) (gates : List Element) (outputs : List (List ℕ)) → length data ≡ length cuts → AllByRecursion IsGate gates
-    → HasParts inputs (map name cuts) (map (source_name name made) data) gates outputs (map Input inputs ++ (cut_elements name made cuts data ++ (gates ++ map Output outputs)))
-parts name made [] cuts data gates outputs each all = cut-parts name made cuts data gates outputs each all
-parts name made (input ∷ rest) cuts data gates outputs each all =
-    let more = parts name made rest cuts data gates outputs each all in
+pub parts : (name : ℕ → List ℕ) (made : List (List ℕ)) (inputs : List (List ℕ)) (cuts : List ℕ) (cut_sources : List Source) (gates : List Element) (outputs : List (List ℕ)) → length cut_sources ≡ length cuts → AllByRecursion IsGate gates
+    → HasParts inputs (map name cuts) (map (source_name name made) cut_sources) gates outputs (map Input inputs ++ (cut_elements name made cuts cut_sources ++ (gates ++ map Output outputs)))
+parts name made [] cuts cut_sources gates outputs each all = cut-parts name made cuts cut_sources gates outputs each all
+parts name made (input ∷ rest) cuts cut_sources gates outputs each all =
+    let more = parts name made rest cuts cut_sources gates outputs each all in
     record { inputs_are = ap (λ names. input ∷ names) more.inputs_are; cuts_are = more.cuts_are; data_are = more.data_are; gates_are = more.gates_are; gates_made = more.gates_made; outputs_are = more.outputs_are }
 
 -- steps over a list, and over another behind it
@@ -101,12 +107,12 @@ pub outputs-idle : {A : Type 0} (step : A → Element → A) → ((name : List �
 outputs-idle step idle [] now = refl
 outputs-idle step idle (name ∷ names) now = ap (λ now. fold step now (map Output names)) (idle name now) ∙ outputs-idle step idle names now
 
-pub cuts-idle : {A : Type 0} (step : A → Element → A) → ((name source : List ℕ) (now : A) → step now (Cut name source) ≡ now) → (name : ℕ → List ℕ) (made : List (List ℕ)) (cuts : List ℕ) (data : List Source) (now : A)
-    → fold step now (cut_elements name made cuts data) ≡ now
-cuts-idle step idle name made [] data now = refl
+pub cuts-idle : {A : Type 0} (step : A → Element → A) → ((name source : List ℕ) (now : A) → step now (Cut name source) ≡ now) → (name : ℕ → List ℕ) (made : List (List ℕ)) (cuts : List ℕ) (cut_sources : List Source) (now : A)
+    → fold step now (cut_elements name made cuts cut_sources) ≡ now
+cuts-idle step idle name made [] cut_sources now = refl
 cuts-idle step idle name made (cut ∷ rest) [] now = refl
-cuts-idle step idle name made (cut ∷ rest) (source ∷ data) now =
-    ap (λ now. fold step now (cut_elements name made rest data)) (idle (name cut) (source_name name made source) now) ∙ cuts-idle step idle name made rest data now
+cuts-idle step idle name made (cut ∷ rest) (source ∷ cut_sources) now =
+    ap (λ now. fold step now (cut_elements name made rest cut_sources)) (idle (name cut) (source_name name made source) now) ∙ cuts-idle step idle name made rest cut_sources now
 
 pub gates-idle : {A : Type 0} (step : A → Element → A) → ((name : List ℕ) (kind : Kind) (sources : List (List ℕ)) (now : A) → step now (Gate name kind sources) ≡ now) → (gates : List Element) → AllByRecursion IsGate gates
     → (now : A) → fold step now gates ≡ now
@@ -123,12 +129,12 @@ inputs-numbered name netlist [] may = (tt, refl)
 inputs-numbered name netlist (number ∷ rest) may = let more = inputs-numbered name (with_input_numbered name netlist number) rest may.1 in ((may.0, more.0), more.1)
 
 -- cuts by the numbers of their names
-pub cuts-numbered : (name : ℕ → List ℕ) (made : List (List ℕ)) (netlist : Netlist) (cuts : List ℕ) (data : List Source) → length data ≡ length cuts → AreAdmissibleSteps MayAddCut with_cut_of netlist (cut_elements name made cuts data)
-    → AreAdmissibleSteps (MayAddCutNumbered name) (with_cut_numbered name) netlist cuts × (fold (with_cut_numbered name) netlist cuts ≡ fold with_cut_of netlist (cut_elements name made cuts data))
-cuts-numbered name made netlist [] data each may = (tt, refl)
+pub cuts-numbered : (name : ℕ → List ℕ) (made : List (List ℕ)) (netlist : Netlist) (cuts : List ℕ) (cut_sources : List Source) → length cut_sources ≡ length cuts → AreAdmissibleSteps MayAddCut with_cut_of netlist (cut_elements name made cuts cut_sources)
+    → AreAdmissibleSteps (MayAddCutNumbered name) (with_cut_numbered name) netlist cuts × (fold (with_cut_numbered name) netlist cuts ≡ fold with_cut_of netlist (cut_elements name made cuts cut_sources))
+cuts-numbered name made netlist [] cut_sources each may = (tt, refl)
 cuts-numbered name made netlist (cut ∷ rest) [] each may = absurd (omega (arith, each))
-cuts-numbered name made netlist (cut ∷ rest) (source ∷ data) each may =
-    let more = cuts-numbered name made (with_cut_numbered name netlist cut) rest data (omega (arith, each)) may.1 in
+cuts-numbered name made netlist (cut ∷ rest) (source ∷ cut_sources) each may =
+    let more = cuts-numbered name made (with_cut_numbered name netlist cut) rest cut_sources (omega (arith, each)) may.1 in
     ((may.0, more.0), more.1)
 
 -- and their data nodes
@@ -137,20 +143,20 @@ pub record HasData (now : BuilderState) (elements : List Element) (nodes : List 
   pub cut : ℕ
   pub is : fold with_pins_of now elements ≡ record now { netlist = with_data_by now.netlist now.cut nodes; cut = cut }
 
-pub data-entered : (name : ℕ → List ℕ) (made : List (List ℕ)) (now : BuilderState) (cuts : List ℕ) (data : List Source) (nodes : List ℕ) → length data ≡ length cuts
-    → nodes ≡ map (λ source. number_in now.netlist.names (source_name name made source)) data
-    → AreAdmissibleSteps MayAddPins with_pins_of now (cut_elements name made cuts data) → HasData now (cut_elements name made cuts data) nodes
+pub data-entered : (name : ℕ → List ℕ) (made : List (List ℕ)) (now : BuilderState) (cuts : List ℕ) (cut_sources : List Source) (nodes : List ℕ) → length cut_sources ≡ length cuts
+    → nodes ≡ map (λ source. number_in now.netlist.names (source_name name made source)) cut_sources
+    → AreAdmissibleSteps MayAddPins with_pins_of now (cut_elements name made cuts cut_sources) → HasData now (cut_elements name made cuts cut_sources) nodes
 data-entered name made now [] [] nodes each are may = subst (HasData now []) (sym are) (record { may = tt; cut = now.cut; is = refl })
-data-entered name made now [] (source ∷ data) nodes each are may = absurd (omega (arith, each))
+data-entered name made now [] (source ∷ cut_sources) nodes each are may = absurd (omega (arith, each))
 data-entered name made now (cut ∷ rest) [] nodes each are may = absurd (omega (arith, each))
-data-entered name made now (cut ∷ rest) (source ∷ data) nodes each are may =
+data-entered name made now (cut ∷ rest) (source ∷ cut_sources) nodes each are may =
     let read = source_name name made source in
     let node = number_in now.netlist.names read in
-    let others = map (λ source. number_in now.netlist.names (source_name name made source)) data in
+    let others = map (λ source. number_in now.netlist.names (source_name name made source)) cut_sources in
     let later : BuilderState = record now { netlist = with_data now.netlist now.cut node; cut = suc now.cut } in
-    let more = data-entered name made later rest data others (omega (arith, each)) refl may.1 in
+    let more = data-entered name made later rest cut_sources others (omega (arith, each)) refl may.1 in
     let here : MayHaveData now.netlist now.cut node = record { room = may.0.0; cut_is = may.0.1.cut_is; node_is = number-below now.netlist.names read may.0.1.source_is } in
-    subst (HasData now (cut_elements name made (cut ∷ rest) (source ∷ data))) (sym are) (record { may = (here, more.may); cut = more.cut; is = more.is })
+    subst (HasData now (cut_elements name made (cut ∷ rest) (source ∷ cut_sources))) (sym are) (record { may = (here, more.may); cut = more.cut; is = more.is })
 
 -- data nodes leave the names
 pub data-kept : (netlist : Netlist) (number : ℕ) (nodes : List ℕ) → (with_data_by netlist number nodes).names ≡ netlist.names

@@ -44,13 +44,13 @@ gates-made names (Cut name source ∷ rest) = gates-made names rest
 gates-made names (Gate name kind sources ∷ rest) = ap (λ made. gate_made kind (map (number_in names) sources) ∷ made) (gates-made names rest)
 gates-made names (Output name ∷ rest) = gates-made names rest
 
-entries-cut : (name : ℕ → List ℕ) (made : List (List ℕ)) (cuts : List ℕ) (data : List Source) → length data ≡ length cuts
-    → (cut_names (cut_elements name made cuts data) ≡ map name cuts) × (data_names (cut_elements name made cuts data) ≡ map (source_name name made) data)
+entries-cut : (name : ℕ → List ℕ) (made : List (List ℕ)) (cuts : List ℕ) (cut_sources : List Source) → length cut_sources ≡ length cuts
+    → (cut_names (cut_elements name made cuts cut_sources) ≡ map name cuts) × (data_names (cut_elements name made cuts cut_sources) ≡ map (source_name name made) cut_sources)
 entries-cut name made [] [] each = (refl, refl)
-entries-cut name made [] (source ∷ data) each = absurd (omega (arith, each))
+entries-cut name made [] (source ∷ cut_sources) each = absurd (omega (arith, each))
 entries-cut name made (cut ∷ rest) [] each = absurd (omega (arith, each))
-entries-cut name made (cut ∷ rest) (source ∷ data) each =
-    let more = entries-cut name made rest data (omega (arith, each)) in
+entries-cut name made (cut ∷ rest) (source ∷ cut_sources) each =
+    let more = entries-cut name made rest cut_sources (omega (arith, each)) in
     (ap (λ names. name cut ∷ names) more.0, ap (λ names. source_name name made source ∷ names) more.1)
 
 -- what holds of each element holds of each that is sorted
@@ -109,7 +109,7 @@ total-sorted elements =
     let outputs = map Output (output_names elements) in
     omega (arith, totals elements, sum_by-append element_variables inputs (cuts ++ (gates ++ outputs)), sum_by-append element_variables cuts (gates ++ outputs), sum_by-append element_variables gates outputs)
 
-module _ (elements : List Element) (draft : Drafted) (each : length draft.data ≡ length draft.cuts) (has : HasElements elements draft) where
+module _ (elements : List Element) (draft : Drafted) (each : length draft.cut_sources ≡ length draft.cuts) (has : HasElements elements draft) where
   abbrev name : ℕ → List ℕ
   name = name_at draft.names
 
@@ -124,7 +124,7 @@ module _ (elements : List Element) (draft : Drafted) (each : length draft.data �
 
   drawn-sorted : drawn ≡ sorted elements
   drawn-sorted =
-      let cuts = cut_elements name made draft.cuts draft.data in
+      let cuts = cut_elements name made draft.cuts draft.cut_sources in
       let outputs = map Output (names_at draft.names draft.outputs) in
       let inputs = map Input (input_names elements) in
       ap (λ names. map Input names ++ (cuts ++ (gates ++ outputs))) has.inputs
@@ -132,17 +132,17 @@ module _ (elements : List Element) (draft : Drafted) (each : length draft.data �
       ∙ (ap (λ (gates : List Element). inputs ++ (cuts_among elements ++ (gates ++ outputs))) has.gates
       ∙ ap (λ names. inputs ++ (cuts_among elements ++ (gates_among elements ++ map Output names))) has.outputs))
 
-  parts_are : HasParts (names_at draft.names draft.inputs) (map name draft.cuts) (map (source_name name made) draft.data) gates (names_at draft.names draft.outputs) drawn
-  parts_are = parts name made (names_at draft.names draft.inputs) draft.cuts draft.data gates (names_at draft.names draft.outputs) each (entries-gates name (map (gate_name name) draft.gates) draft.gates draft.sources)
+  parts_are : HasParts (names_at draft.names draft.inputs) (map name draft.cuts) (map (source_name name made) draft.cut_sources) gates (names_at draft.names draft.outputs) drawn
+  parts_are = parts name made (names_at draft.names draft.inputs) draft.cuts draft.cut_sources gates (names_at draft.names draft.outputs) each (entries-gates name (map (gate_name name) draft.gates) draft.gates draft.sources)
 
   inputs_same : input_names drawn ≡ input_names elements
   inputs_same = parts_are.inputs_are ∙ has.inputs
 
   cuts_same : cut_names drawn ≡ cut_names elements
-  cuts_same = parts_are.cuts_are ∙ (sym (entries-cut name made draft.cuts draft.data each).0 ∙ (ap cut_names has.cuts ∙ cuts-named elements))
+  cuts_same = parts_are.cuts_are ∙ (sym (entries-cut name made draft.cuts draft.cut_sources each).0 ∙ (ap cut_names has.cuts ∙ cuts-named elements))
 
   data_same : data_names drawn ≡ data_names elements
-  data_same = parts_are.data_are ∙ (sym (entries-cut name made draft.cuts draft.data each).1 ∙ (ap data_names has.cuts ∙ data-named elements))
+  data_same = parts_are.data_are ∙ (sym (entries-cut name made draft.cuts draft.cut_sources each).1 ∙ (ap data_names has.cuts ∙ data-named elements))
 
   gates_same : gate_names drawn ≡ gate_names elements
   gates_same = parts_are.gates_are ∙ (ap gate_names has.gates ∙ gates-named elements)
@@ -163,7 +163,7 @@ module _ (elements : List Element) (draft : Drafted) (each : length draft.data �
   pub sorted-circuit : circuit_of_elements drawn ≡ circuit_of_elements elements
   sorted-circuit =
       let names = node_names elements in
-      let data : data_nodes (node_names drawn) drawn ≡ data_nodes names elements =
+      let cut_sources : data_nodes (node_names drawn) drawn ≡ data_nodes names elements =
       ap (λ names. data_nodes names drawn) nodes_same ∙ ap (map (number_in names)) data_same in
       let outputs : map (number_in (node_names drawn)) (output_names drawn) ≡ map (number_in names) (output_names elements) =
       ap (λ names. map (number_in names) (output_names drawn)) nodes_same ∙ ap (map (number_in names)) outputs_same in
@@ -171,10 +171,10 @@ module _ (elements : List Element) (draft : Drafted) (each : length draft.data �
       let was = circuit_of_elements drawn in
       ap (λ names. record was { names = names }) nodes_same
       ∙ (ap (λ (inputs : ℕ). record was { names = names; inputs = inputs }) (ap length all_same)
-      ∙ (ap (λ (nodes : List ℕ). record was { names = names; inputs = length (all_inputs elements); cuts = map Some nodes }) data
+      ∙ (ap (λ (nodes : List ℕ). record was { names = names; inputs = length (all_inputs elements); cuts = map Some nodes }) cut_sources
       ∙ (ap (λ gates. record was { names = names; inputs = length (all_inputs elements); cuts = map Some (data_nodes names elements); gates = gates }) made
       ∙ ap (λ (outputs : List ℕ). record (circuit_of_elements elements) { outputs = each_once outputs })
-      (ap (λ (front : List ℕ). front ++ data_nodes (node_names drawn) drawn) outputs ∙ ap (λ (back : List ℕ). map (number_in names) (output_names elements) ++ back) data))))
+      (ap (λ (front : List ℕ). front ++ data_nodes (node_names drawn) drawn) outputs ∙ ap (λ (back : List ℕ). map (number_in names) (output_names elements) ++ back) cut_sources))))
 
   -- and the elements make one if those of the text do
   pub sorted-wired : AreWired elements → AreWired drawn

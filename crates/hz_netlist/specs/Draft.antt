@@ -47,10 +47,10 @@ elements_from name made (gate ∷ gates) sources =
 
 -- the elements of cuts that read these sources, one each
 abbrev pub cut_elements : (ℕ → List ℕ) → List (List ℕ) → List ℕ → List Source → List Element
-cut_elements name made [] data = []
+cut_elements name made [] cut_sources = []
 cut_elements name made (cut ∷ cuts) [] = []
-cut_elements name made (cut ∷ cuts) (source ∷ data) =
-    Cut (name cut) (source_name name made source) ∷ cut_elements name made cuts data
+cut_elements name made (cut ∷ cuts) (source ∷ cut_sources) =
+    Cut (name cut) (source_name name made source) ∷ cut_elements name made cuts cut_sources
 
 -- a source is a name of the text, or one of so many gates
 abbrev pub ReadsGateBelow : ℕ → Source → Type 0
@@ -67,7 +67,7 @@ pub record Drafted : Type 0 where
   pub names : Names
   pub inputs : List ℕ
   pub cuts : List ℕ
-  pub data : List Source
+  pub cut_sources : List Source
   pub gates : List GateEntry
   pub sources : List Source
   pub outputs : List ℕ
@@ -78,7 +78,7 @@ drafted draft =
       names = draft.names.now;
       inputs = draft.inputs.now;
       cuts = draft.cuts.now;
-      data = draft.data.now;
+      cut_sources = draft.cut_sources.now;
       gates = draft.gates.now;
       sources = draft.sources.now;
       outputs = draft.outputs.now;
@@ -95,14 +95,14 @@ gate_elements name gates sources = elements_from name (map (gate_name name) gate
 abbrev pub elements_of_draft : Drafted → List Element
 elements_of_draft draft =
     map Input (names_at draft.names draft.inputs)
-    ++ (cut_elements (name_at draft.names) (made_names draft) draft.cuts draft.data
+    ++ (cut_elements (name_at draft.names) (made_names draft) draft.cuts draft.cut_sources
     ++ (gate_elements (name_at draft.names) draft.gates draft.sources
     ++ map Output (names_at draft.names draft.outputs)))
 
 -- a draft has these elements, each kind of them in order
 pub record HasElements (elements : List Element) (draft : Drafted) : Type 0 where
   pub inputs : names_at draft.names draft.inputs ≡ input_names elements
-  pub cuts : cut_elements (name_at draft.names) (made_names draft) draft.cuts draft.data
+  pub cuts : cut_elements (name_at draft.names) (made_names draft) draft.cuts draft.cut_sources
       ≡ cuts_among elements
   pub gates : gate_elements (name_at draft.names) draft.gates draft.sources ≡ gates_among elements
   pub outputs : names_at draft.names draft.outputs ≡ output_names elements
@@ -121,9 +121,9 @@ pub record IsBuildable (draft : Drafted) : Type 0 where
   pub distinct : IsDistinct bytes_eq (seen_names draft.names)
   pub input_numbers : AreNumbers draft.names draft.inputs
   pub cut_numbers : AreNumbers draft.names draft.cuts
-  pub each : length draft.data ≡ length draft.cuts
-  pub data_numbers : All (ReadsNameBelow (length draft.names)) draft.data
-  pub data_gates : All (ReadsGateBelow (length draft.gates)) draft.data
+  pub each : length draft.cut_sources ≡ length draft.cuts
+  pub data_numbers : All (ReadsNameBelow (length draft.names)) draft.cut_sources
+  pub data_gates : All (ReadsGateBelow (length draft.gates)) draft.cut_sources
   pub gate_numbers : All (λ gate. gate.output < length draft.names) draft.gates
   pub gate_names : All (λ gate. HasOwnName draft.names gate.role (name_at draft.names gate.output))
       draft.gates

@@ -61,7 +61,7 @@ pub struct Draft<'d, 't> {
     /// The flip-flops, which are cut, by the numbers of their names.
     pub cuts: &'d [u32],
     /// What these read.
-    pub data: &'d [Source],
+    pub cut_sources: &'d [Source],
     pub gates: &'d [Gate],
     /// What the pins of the gates read, gate after gate.
     pub sources: &'d [Source],
@@ -83,8 +83,8 @@ pub fn build_draft(alloc: Global, draft: &Draft) -> Result<Circuit, Memory>
     add_gates(alloc, &mut circuit, draft.names, draft.gates)?;
     let nodes = number_nodes(alloc, draft)?;
     let first = circuit.inputs();
-    let data = resolve_sources(alloc, draft.data, nodes.as_slice(), inputs)?;
-    set_data(&mut circuit, data.as_slice());
+    let cut_sources = resolve_sources(alloc, draft.cut_sources, nodes.as_slice(), inputs)?;
+    set_data(&mut circuit, cut_sources.as_slice());
     let pins = resolve_sources(alloc, draft.sources, nodes.as_slice(), inputs)?;
     connect_gates(&mut circuit, first, draft.gates, pins.as_slice())?;
     let outputs = resolve(alloc, draft.outputs, nodes.as_slice())?;
