@@ -1,15 +1,19 @@
 -- The first text: what is refused of it, and the circuit that it stands for. The name of its file tells its format.
-use Rattle.std.specs.Prelude.{◌≡◌, ℕ, ◌-◌, Bool, true, false, List, length, drop, codes}
+use Rattle.std.specs.Prelude.{◌≡◌, ℕ, ◌-◌, ◌⊎◌, Bool, true, false, List, length, drop, codes}
 use Rattle.hz_core.specs.Netlist.{Netlist, IsCircuit, IsWhole}
 use Rattle.hz_line.specs.Keyword.{is_keyword}
 use Rattle.hz_bench.specs.Fault as bench
+use Rattle.hz_bench.specs.declared.fault.BenchFault.TheVariants as bench_fault
 use Rattle.hz_bench.specs.Netlist.{circuit_of_statements}
 use Rattle.hz_bench.specs.Text.{statements_of}
 use Rattle.hz_blif.specs.Fault as blif
+use Rattle.hz_blif.specs.declared.fault.BlifFault.TheVariants as blif_fault
 use Rattle.hz_blif.specs.Circuit.{blif_circuit}
 use Rattle.hz_blif.specs.Law.{KeepsCovers}
 use Rattle.hz_formats.specs.declared.netlist.NetlistFault.{NetlistFault}
 use Rattle.hz_formats.specs.declared.netlist.NetlistFault.TheVariants.{Bench, Blif}
+use Rattle.hz_refusal.specs.declared.status.Status.{Status}
+use Rattle.hz_refusal.specs.Ending.{IsCutShort}
 use Rattle.hz_formats.specs.Refusal.{netlist_fault_line}
 
 -- the text of a file with this name is read as BLIF: the name ends in '.blif', in any letter case
@@ -22,6 +26,23 @@ IsLeastNetlistFault name bytes (Bench fault) =
     (has_blif_name name ≡ false) × bench.IsLeastFault bytes fault
 IsLeastNetlistFault name bytes (Blif fault) =
     (has_blif_name name ≡ true) × blif.IsLeastFault bytes fault
+
+-- the line of the text that a fault names; 0 if it names none
+abbrev pub named_netlist_line : NetlistFault → ℕ
+named_netlist_line (Bench fault) = bench.fault_line_number fault
+named_netlist_line (Blif fault) = blif.fault_line fault
+
+-- The line that is told of a netlist's text: that of its least fault, 0 if it names none. If the call was cut short, none is told.
+abbrev pub IsToldNetlistLine : (name bytes : List ℕ) → (own : Status) → (line : ℕ) → Type 0
+IsToldNetlistLine name bytes own line =
+    ((fault : NetlistFault) × IsLeastNetlistFault name bytes fault
+    × (line ≡ named_netlist_line fault))
+    ⊎ (IsCutShort own × (line ≡ 0))
+
+-- it is no fault of a text, but memory ran out
+abbrev pub IsWantOfMemory : NetlistFault → Type 0
+IsWantOfMemory (Bench fault) = fault ≡ bench_fault.Memory
+IsWantOfMemory (Blif fault) = fault ≡ blif_fault.Memory
 
 -- the first text is refused with this line
 abbrev pub NetlistRefused : (name bytes line : List ℕ) → Type 0

@@ -1,8 +1,10 @@
 //! The first text: a netlist, in the format that the name of its file tells.
 ghost use Rattle.std.specs.Prelude.{◌≡◌, ◌≤◌, IfOk, IfErr, length};
+ghost use Rattle.hz_bench.specs.Fault.{fault_line_number};
+ghost use Rattle.hz_blif.specs.Fault.{fault_line};
 ghost use Rattle.hz_core.specs.Netlist.{IsWhole};
 ghost use Rattle.hz_line.specs.Line.{most_text_bytes};
-ghost use Rattle.hz_formats.specs.Netlists.{has_blif_name, IsNetlistText, IsNetlistRefusal, TextsAreCircuits};
+ghost use Rattle.hz_formats.specs.Netlists.{has_blif_name, IsNetlistText, IsNetlistRefusal, TextsAreCircuits, named_netlist_line};
 
 use hz_bench::BenchFault;
 use hz_blif::BlifFault;
@@ -18,6 +20,50 @@ const BLIF: &[u8] = b".blif";
 pub enum NetlistFault {
     Bench(BenchFault),
     Blif(BlifFault),
+}
+
+impl NetlistFault {
+    /// The line of the text that it names, or 0 if it names none.
+    pub fn line(self) -> u32
+        ensures { result ≡ named_netlist_line self }
+    {
+        match self {
+            NetlistFault::Bench(fault) => bench_line(fault),
+            NetlistFault::Blif(fault) => blif_line(fault),
+        }
+    }
+}
+
+// The line that a fault of a netlist in the .bench format names.
+fn bench_line(fault: BenchFault) -> u32
+    ensures { result ≡ fault_line_number fault }
+{
+    match fault {
+        BenchFault::Form { line }
+        | BenchFault::Name { line }
+        | BenchFault::KindUnknown { line }
+        | BenchFault::Twice { line, .. }
+        | BenchFault::Pins { line, .. }
+        | BenchFault::Undefined { line } => line,
+        BenchFault::TooMany { .. } | BenchFault::Memory => 0,
+    }
+}
+
+// The line that a fault of a netlist in BLIF names.
+fn blif_line(fault: BlifFault) -> u32
+    ensures { result ≡ fault_line fault }
+{
+    match fault {
+        BlifFault::Form { line }
+        | BlifFault::Name { line }
+        | BlifFault::Construct { line }
+        | BlifFault::Twice { line, .. }
+        | BlifFault::Cover { line }
+        | BlifFault::Pins { line, .. }
+        | BlifFault::Constant { line }
+        | BlifFault::Undefined { line } => line,
+        BlifFault::TooMany { .. } | BlifFault::Memory => 0,
+    }
 }
 
 /// Reads a netlist: as BLIF if the name of its file says so, else in the .bench format.

@@ -1,6 +1,8 @@
 //! Refusals of netlists: their lines and their status.
+ghost use Rattle.std.specs.Prelude.{◌≡◌};
 ghost use Rattle.hz_write.specs.Writes.{Wrote};
 ghost use Rattle.hz_refusal.specs.Ends.{Ends};
+ghost use Rattle.hz_formats.specs.Netlists.{IsWantOfMemory};
 ghost use Rattle.hz_formats.specs.Refused.{BenchPrints, BlifPrints, NetlistPrints};
 ghost use Rattle.hz_formats.specs.Refusal.{counted_line, variables_line, bench_fault_line, blif_fault_line};
 
@@ -79,7 +81,8 @@ fn put_blif_fault<K: Sink>(out: &mut K, fault: BlifFault) -> Result<(), PutFault
 
 // Writes why a text is no netlist.
 pub fn refuse_netlist<K: Sink>(out: &mut K, fault: NetlistFault) -> Status
-    ensures { Ends K.output K.faults (NetlistPrints fault) out.old out.new result }
+    ensures ends { Ends K.output K.faults (NetlistPrints fault) out.old out.new result }
+    ensures memory { IsWantOfMemory fault → result ≡ Status.Memory }
 {
     match fault {
         NetlistFault::Bench(fault) => refuse_bench(out, fault),
@@ -89,7 +92,8 @@ pub fn refuse_netlist<K: Sink>(out: &mut K, fault: NetlistFault) -> Status
 
 // Writes why a text is no netlist in the .bench format.
 fn refuse_bench<K: Sink>(out: &mut K, fault: BenchFault) -> Status
-    ensures { Ends K.output K.faults (BenchPrints fault) out.old out.new result }
+    ensures ends { Ends K.output K.faults (BenchPrints fault) out.old out.new result }
+    ensures memory { fault ≡ BenchFault.Memory → result ≡ Status.Memory }
 {
     match fault {
         BenchFault::Memory => Status::Memory,
@@ -99,7 +103,8 @@ fn refuse_bench<K: Sink>(out: &mut K, fault: BenchFault) -> Status
 
 // Writes why a text is no netlist in BLIF.
 fn refuse_blif<K: Sink>(out: &mut K, fault: BlifFault) -> Status
-    ensures { Ends K.output K.faults (BlifPrints fault) out.old out.new result }
+    ensures ends { Ends K.output K.faults (BlifPrints fault) out.old out.new result }
+    ensures memory { fault ≡ BlifFault.Memory → result ≡ Status.Memory }
 {
     match fault {
         BlifFault::Memory => Status::Memory,

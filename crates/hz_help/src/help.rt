@@ -1,10 +1,11 @@
 //! What a person needs next after a refusal, on standard error. No contract speaks of it.
 
-use hz_outside::{FirstLines, Place};
-use hz_words::Job;
+use hz_outside::FirstLines;
+use hz_top::{Answer, Reached, Status};
 use std::alloc::{AllocError, Global};
-use std::fs;
 use std::io::{Read, Seek, SeekFrom};
+use std::process::ExitCode;
+use std::{fs, io};
 
 /// The version of the program.
 const VERSION: &str = "1.0.0";
@@ -20,6 +21,15 @@ const PIECE_SIZE: usize = 240;
 
 /// The most bytes of a file that is read.
 const MOST: usize = 16_777_216;
+
+/// The exit code if memory does not hold the words.
+const MEMORY: u8 = 9;
+
+/// The exit code if the system gives no words that are text.
+const SYSTEM: u8 = 10;
+
+/// What is said if memory runs out.
+const WITHOUT_MEMORY: &str = "hazard: out of memory";
 
 /// The jobs, their files and options, and an example.
 const USAGE: &str = "\
@@ -46,33 +56,31 @@ options:
 example:
   hazard analyse examples/latch.bench examples/latch.txt";
 
-/// What was refused.
-#[derive(Clone, Copy)]
-pub enum Refusal {
-    /// The words name no job.
-    Words,
-    /// The text of the file at a place.
-    Text { place: Place },
-    /// A file that was not read.
-    File,
-    /// A file with too many bytes.
-    TooLong,
-    /// The output.
-    Sink,
-    /// Memory.
-    Memory,
+/// Says on standard error what a person needs next, if anything was refused. `read` are the lines of the second file that were read before
+/// its end was.
+pub fn tell(rt: &HostRuntime, answer: &Answer<'_>, read: FirstLines) {
+    match (answer.status, answer.reached) {
+        (Status::Words, _) => tell_usage(rt),
+        (Status::Netlist | Status::Text, Some(reached)) => tell_line(rt, reached, read),
+        (Status::File, Some(reached)) => tell_unread(rt, reached.name),
+        (Status::TooLong, Some(reached)) => tell_long(rt, reached.name),
+        (Status::Sink, _) => tell_unwritten(rt),
+        (Status::Memory, _) => say(rt, WITHOUT_MEMORY),
+        _ => {}
+    }
 }
 
-/// Says on standard error what a person needs next. `first` is the beginning of what was written, and `read` are the lines of the second
-/// file that were read before its end was.
-pub fn tell(rt: &HostRuntime, words: &[String], first: &[u8], read: FirstLines, refused: Refusal) {
-    match refused {
-        Refusal::Words => tell_usage(rt),
-        Refusal::Text { place } => tell_line(rt, words, first, read, place),
-        Refusal::File => tell_unread(rt, words, first),
-        Refusal::TooLong => tell_long(rt, words, first),
-        Refusal::Sink => tell_unwritten(rt),
-        Refusal::Memory => say(rt, "hazard: out of memory"),
+/// Says on standard error why there are no words, and returns the exit code of that.
+pub fn tell_wordless(rt: &HostRuntime, error: &io::Error) -> ExitCode {
+    match error.kind() {
+        io::ErrorKind::OutOfMemory => {
+            say(rt, WITHOUT_MEMORY);
+            ExitCode::from(MEMORY)
+        }
+        _ => {
+            say(rt, "hazard: a word of the command line is no Unicode text");
+            ExitCode::from(SYSTEM)
+        }
     }
 }
 
@@ -99,28 +107,26 @@ fn tell_usage(rt: &HostRuntime) {
     let _ = eprintln!(rt; "{USAGE}\nhazard {VERSION}; see the manual page hazard(1)");
 }
 
-// The line of the text that has the fault, if it has one.
-fn tell_line(rt: &HostRuntime, words: &[String], first: &[u8], read: FirstLines, place: Place) {
-    let Some(number) = line_number(first) else {
+// The line of the text that a refusal names, if it names one.
+fn tell_line(rt: &HostRuntime, reached: Reached<'_>, read: FirstLines) {
+    let Reached { name, line, .. } = reached;
+    if line == 0 {
         return;
-    };
-    let Some(name) = file_name(rt.alloc(), words, place) else {
-        return;
-    };
+    }
     let Ok(shown) = visible(rt.alloc(), name.as_bytes()) else {
         return;
     };
     if !is_plain(rt, name) {
-        let _ = eprintln!(rt; "{shown}:{number}: (no plain file, so its line can't be shown)");
+        let _ = eprintln!(rt; "{shown}:{line}: (no plain file, so its line can't be shown)");
         return;
     }
-    let Some(line) = read_line(rt, name, number, read) else {
+    let Some(text) = read_line(rt, name, line as usize, read) else {
         return;
     };
-    let Ok(line) = visible(rt.alloc(), shown_of(line.as_slice())) else {
+    let Ok(text) = visible(rt.alloc(), shown_of(text.as_slice())) else {
         return;
     };
-    let _ = eprintln!(rt; "{shown}:{number}: {line}");
+    let _ = eprintln!(rt; "{shown}:{line}: {text}");
 }
 
 // Whether a file can be read once more. A pipe gives its bytes only once, and opening it again may wait for ever.
@@ -129,10 +135,7 @@ fn is_plain(rt: &HostRuntime, name: &str) -> bool {
 }
 
 // The name of the file that was not read, and why.
-fn tell_unread(rt: &HostRuntime, words: &[String], first: &[u8]) {
-    let Some(name) = file_name(rt.alloc(), words, place_in(first)) else {
-        return;
-    };
+fn tell_unread(rt: &HostRuntime, name: &str) {
     if name.is_empty() {
         say(rt, "hazard: the name of a file is empty");
         return;
@@ -146,45 +149,11 @@ fn tell_unread(rt: &HostRuntime, words: &[String], first: &[u8]) {
 }
 
 // The name of the file that has too many bytes.
-fn tell_long(rt: &HostRuntime, words: &[String], first: &[u8]) {
-    let Some(name) = file_name(rt.alloc(), words, place_in(first)) else {
-        return;
-    };
+fn tell_long(rt: &HostRuntime, name: &str) {
     let Ok(shown) = visible(rt.alloc(), name.as_bytes()) else {
         return;
     };
     let _ = eprintln!(rt; "{shown}: more than {MOST} bytes");
-}
-
-// The place of the file that a refusal names.
-fn place_in(first: &[u8]) -> Place {
-    if first.starts_with(b"refused: first") {
-        Place::First
-    } else {
-        Place::Second
-    }
-}
-
-// The name of the file at a place, if the words ask for a job on files.
-fn file_name(alloc: Global, words: &[String], place: Place) -> Option<&str> {
-    match hz_words::read(alloc, words) {
-        Ok(Job::OnFiles { first, second, .. }) => match place {
-            Place::First => Some(first),
-            Place::Second => Some(second),
-        },
-        _ => None,
-    }
-}
-
-// The number of the line that a refusal names. A fault of the whole text has the line 0, which is none.
-fn line_number(first: &[u8]) -> Option<usize> {
-    let text = str::from_utf8(first).ok()?;
-    let (_, rest) = text.split_once(" line ")?;
-    let (number, _) = rest.split_once(':')?;
-    match number.parse() {
-        Ok(0) | Err(_) => None,
-        Ok(number) => Some(number),
-    }
 }
 
 // The first bytes of the line with a number, which is counted from 1. The file is read part by part, since only that line is

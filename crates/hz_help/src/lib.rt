@@ -1,13 +1,13 @@
-//! What is said on standard error after a refusal. No contract speaks of it.
+//! What stands between the system and the top call, and no contract speaks of: the words, and what is said on standard error.
 //!
 //! | Module | What lives in it |
 //! |---|---|
-//! | `heard` | [`Heard`]: a sink that keeps the first bytes of the output |
-//! | `help` | [`tell`]: what a person needs next after a [`Refusal`] |
+//! | `words` | [`read_words`]: the words of the command line |
+//! | `help` | [`tell`]: what a person needs next after a refusal |
 #![tactic(auto)]
 
-mod heard;
 mod help;
+mod words;
 
-pub use heard::Heard;
-pub use help::{Refusal, tell};
+pub use help::{tell, tell_wordless};
+pub use words::read_words;

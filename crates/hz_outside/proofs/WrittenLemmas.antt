@@ -80,6 +80,14 @@ Took-passed {xs} {a} p = record { front = p.front; parts = p.parts ∙ sym (appe
 pub TookPrefix-passed : {xs : List ℕ} {a b : Output} → TookPrefix a xs b → TookPrefix (with_more a xs) [] b
 TookPrefix-passed {xs} {a} p = record { front = p.front; rest = p.rest; parts = p.parts ∙ sym (append-nil (a.waiting ++ xs)); grew = p.grew }
 
+-- what waits apart is kept
+pub Took-kept : {a b : Output} (apart : List ℕ) → Took a [] b → Took (with_more a apart) [] (with_more b apart)
+Took-kept {a} {b} apart p = record {
+  front = p.front;
+  parts = sym (append_assoc p.front b.waiting apart) ∙ ap (λ (xs : List ℕ). xs ++ apart) (p.parts ∙ append-nil a.waiting) ∙ sym (append-nil (a.waiting ++ apart));
+  grew = p.grew;
+}
+
 with_more-nil : (out : Output) (apart : List ℕ) → apart ≡ [] → with_more out apart ≡ out
 with_more-nil out apart none = ap (λ (xs : List ℕ). record out { waiting = xs }) (ap (λ (xs : List ℕ). out.waiting ++ xs) none ∙ append-nil out.waiting)
 
@@ -95,10 +103,18 @@ pub extended_text-told : (text more : List ℕ) → extended_text (Some text) mo
 unfolding extended_text
 extended_text-told text more = refl
 
--- of a sink that is not told any piece was taken
-pub Took-untold : (piece : List ℕ) → Took (settled None) piece (settled None)
-unfolding extended_text
-Took-untold piece = record { front = piece; parts = append-nil piece; grew = refl }
+-- a sink of which nothing ever waits took a piece, or its front
+pub Took-at_once : {was now : Option (List ℕ)} (piece : List ℕ) → now ≡ extended_text was piece → Took (settled was) piece (settled now)
+Took-at_once piece grew = record { front = piece; parts = append-nil piece; grew = grew }
+
+pub TookPrefix-at_once : {was now : Option (List ℕ)} {piece : List ℕ} (front rest : List ℕ) → front ++ rest ≡ piece → now ≡ extended_text was front
+    → TookPrefix (settled was) piece (settled now)
+TookPrefix-at_once front rest whole grew = record {
+  front = front;
+  rest = rest;
+  parts = ap (λ (xs : List ℕ). xs ++ rest) (append-nil front) ∙ whole;
+  grew = grew;
+}
 
 -- a sink that writes at once
 pub Took-told : (text piece : List ℕ) → Took (settled (Some text)) piece (settled (Some (text ++ piece)))

@@ -14,7 +14,8 @@
 -- GivesFile old name most bytes new: a load gave these bytes
 -- GivesNoFile old place name most fault new: a load gave no file
 -- PlainState, GivesPlain, GivesNoPlain: the same for files no load of which fails
--- DiskState, disk_after_fault state place fault: what is counted of the file system
+-- NamedState, named_after_fault state place fault: what is counted of files that are opened by their names
+-- Counted: where a sink writes each piece at once, and its faults
 -- SinkState, put_by state bytes: a sink in memory, some of whose puts fail
 -- PutsLess old bytes fault new: a put that did not write its whole piece
 -- Gathering: a sink and the bytes in the buffer in front of it
@@ -25,6 +26,7 @@ pub mod WrittenText
 pub mod Shelf
 pub mod MemFiles
 pub mod PlainFiles
-pub mod DiskFiles
+pub mod NamedFiles
+pub mod WholeSink
 pub mod MemSink
 pub mod Gathered

@@ -1,5 +1,5 @@
 //! Where files come from.
-ghost use Rattle.std.specs.Prelude.{◌≡◌, ℕ, ◌+◌, ◌<◌, ◌≤◌, ◌↔◌, List, ◌++◌, length, vec_len, Option, IfOk, IfSome, OnOk};
+ghost use Rattle.std.specs.Prelude.{◌≡◌, ◌≢◌, ℕ, ◌+◌, ◌<◌, ◌≤◌, ◌↔◌, List, ◌++◌, length, vec_len, Option, IfOk, IfSome, OnOk};
 ghost use Rattle.hz_outside.specs.Counts.{Rose};
 ghost use Rattle.hz_outside.specs.Places.{other_place};
 
@@ -11,7 +11,7 @@ use std::alloc::Global;
 ///
 /// `held` gives the bytes of each name, if the store shows them. `granted` says which loads may
 /// be made. `faults` and `longs` count, for each place, the loads that failed and the files that were
-/// too long. A load says nothing of what its own place grants afterwards.
+/// too long, and nothing else. A load says nothing of what its own place grants afterwards.
 pub trait Files {
     ghost use Rattle.hz_outside.specs.declared.fault.Place.{Place};
 
@@ -44,6 +44,10 @@ pub trait Files {
             Rose (longs self.old place) (longs self.new place) }
         ensures over { result ≡ Err LoadFault.TooLong →
             IfSome (held self.old) (λ bytes_of. most < length (bytes_of name.now)) }
+        ensures no_fault { result ≢ Err LoadFault.Failed →
+            faults self.new place ≡ faults self.old place }
+        ensures none_long { result ≢ Err LoadFault.TooLong →
+            longs self.new place ≡ longs self.old place }
         ensures same_files { held self.new ≡ held self.old }
         ensures faults_never_fall { faults self.old place ≤ faults self.new place }
         ensures longs_never_fall { longs self.old place ≤ longs self.new place }
@@ -79,6 +83,10 @@ pub trait Files {
             Rose (longs self.old place) (longs self.new place) }
         ensures over { result ≡ Err LoadFault.TooLong →
             IfSome (held self.old) (λ bytes_of. most < length (bytes_of name.now)) }
+        ensures no_fault { result ≢ Err LoadFault.Failed →
+            faults self.new place ≡ faults self.old place }
+        ensures none_long { result ≢ Err LoadFault.TooLong →
+            longs self.new place ≡ longs self.old place }
         ensures same_files { held self.new ≡ held self.old }
         ensures faults_never_fall { faults self.old place ≤ faults self.new place }
         ensures longs_never_fall { longs self.old place ≤ longs self.new place }

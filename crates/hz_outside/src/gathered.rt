@@ -1,5 +1,5 @@
 //! A buffer in front of a sink.
-ghost use Rattle.std.specs.Prelude.{◌≡◌, ◌≢◌, ◌+◌, ◌-◌, ◌<◌, ◌≤◌, [], ◌++◌, length, OnOk, OnErr};
+ghost use Rattle.std.specs.Prelude.{◌≡◌, ◌≢◌, ◌+◌, ◌-◌, ◌<◌, ◌≤◌, [], ◌++◌, length, OnOk};
 ghost use Rattle.hz_outside.specs.Counts.{Rose};
 ghost use Rattle.hz_outside.specs.WrittenText.{Took, TookPrefix, with_more};
 
@@ -14,7 +14,8 @@ const GATHERED: usize = 65_536;
 /// A sink with a buffer of 64 KiB in front of it, so that a text of many lines takes few puts.
 ///
 /// A piece waits in the buffer until the next one finds no room there, or until a flush. A piece that is longer than the
-/// buffer is put at once, after what waited. If a put of the buffer fails, what was not put of it is lost.
+/// buffer is put at once, after what waited. If a put of the buffer fails, what was not put of it is lost. If it is out of
+/// memory, the buffer keeps what waited, and takes nothing of the piece.
 #[derive(Drop)]
 pub struct Gathered<K: Drop> {
     out: K,
@@ -57,25 +58,35 @@ impl<K: Sink + Drop> Gathered<K> {
         copy_short(&mut self.buffer[start..self.held], piece);
     }
 
-    // Puts what waits in the buffer, which is then empty, whatever the answer.
+    // Puts what waits in the buffer, which is empty then, unless the answer is out of memory.
     fn pass_on(&mut self) -> Result<(), PutFault>
-        ensures emptied { self.new.gathered ≡ [] }
         ensures whole { OnOk result
             (Took (K.output self.old.out) self.old.gathered (K.output self.new.out)) }
-        ensures front { OnErr result
-            (TookPrefix (K.output self.old.out) self.old.gathered (K.output self.new.out)) }
-        ensures failed { result ≡ Err PutFault.Failed →
+        ensures emptied { OnOk result (self.new.gathered ≡ []) }
+        ensures failed { result ≡ Err PutFault.Failed → TookPrefix
+            (with_more (K.output self.old.out) self.old.gathered)
+            []
+            (with_more (K.output self.new.out) self.new.gathered) }
+        ensures memory { result ≡ Err PutFault.Memory → Took
+            (with_more (K.output self.old.out) self.old.gathered)
+            []
+            (with_more (K.output self.new.out) self.new.gathered) }
+        ensures counted { result ≡ Err PutFault.Failed →
             Rose (K.faults self.old.out) (K.faults self.new.out) }
         ensures quiet { result ≢ Err PutFault.Failed →
             K.faults self.new.out ≡ K.faults self.old.out }
         ensures never_falls { K.faults self.old.out ≤ K.faults self.new.out }
     {
-        let held = self.held;
-        self.held = 0;
-        if held == 0 {
+        if self.held == 0 {
             return Ok(());
         }
-        self.out.put(&self.buffer[..held])
+        match self.out.put(&self.buffer[..self.held]) {
+            Err(PutFault::Memory) => Err(PutFault::Memory),
+            answer => {
+                self.held = 0;
+                answer
+            }
+        }
     }
 
     // Puts a piece for which the buffer has no room. Few pieces are so: with them kept apart, `put` is short enough to be
@@ -88,11 +99,15 @@ impl<K: Sink + Drop> Gathered<K> {
             (with_more (K.output self.old.out) self.old.gathered)
             piece.now
             (with_more (K.output self.new.out) self.new.gathered)) }
-        ensures front { OnErr result (TookPrefix
+        ensures failed { result ≡ Err PutFault.Failed → TookPrefix
             (with_more (K.output self.old.out) self.old.gathered)
             piece.now
-            (with_more (K.output self.new.out) self.new.gathered)) }
-        ensures failed { result ≡ Err PutFault.Failed →
+            (with_more (K.output self.new.out) self.new.gathered) }
+        ensures memory { result ≡ Err PutFault.Memory → Took
+            (with_more (K.output self.old.out) self.old.gathered)
+            []
+            (with_more (K.output self.new.out) self.new.gathered) }
+        ensures counted { result ≡ Err PutFault.Failed →
             Rose (K.faults self.old.out) (K.faults self.new.out) }
         ensures quiet { result ≢ Err PutFault.Failed →
             K.faults self.new.out ≡ K.faults self.old.out }

@@ -12,6 +12,8 @@
 //! | `shelf` | named files in memory |
 //! | `mem_files`, `plain_files` | files in memory, with and without loads that fail |
 //! | `mem_sink`, `plain_sink` | sinks in memory, with and without puts that fail |
+//! | `write_some`, `whole_sink` | what takes some bytes at a time, and a sink over it |
+//! | `open_named`, `named_files` | what opens a file by its name, and files over it |
 //! | `disk_files`, `std_sink` | the trusted edge: the file system and standard output |
 #![tactic(auto)]
 
@@ -23,22 +25,30 @@ mod files;
 mod gathered;
 mod mem_files;
 mod mem_sink;
+mod named_files;
+mod open_named;
 mod plain_files;
 mod plain_sink;
 mod receive;
 mod shelf;
 mod sink;
 mod std_sink;
+mod whole_sink;
+mod write_some;
 
 pub use copying::copy_short;
-pub use disk_files::DiskFiles;
+pub use disk_files::{Disk, DiskFiles};
 pub use fault::{LoadFault, Memory, Place, PutFault};
 pub use files::Files;
 pub use gathered::Gathered;
 pub use mem_files::MemFiles;
 pub use mem_sink::MemSink;
+pub use named_files::NamedFiles;
+pub use open_named::OpenNamed;
 pub use plain_files::PlainFiles;
 pub use plain_sink::PlainSink;
 pub use receive::{FirstLines, Receive};
 pub use sink::Sink;
-pub use std_sink::StdSink;
+pub use std_sink::{Printed, StdSink};
+pub use whole_sink::WholeSink;
+pub use write_some::WriteSome;

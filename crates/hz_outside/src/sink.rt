@@ -1,5 +1,5 @@
 //! Where output goes.
-ghost use Rattle.std.specs.Prelude.{◌≡◌, ◌≢◌, ℕ, ◌<◌, ◌≤◌, List, [], length, OnOk, OnErr};
+ghost use Rattle.std.specs.Prelude.{◌≡◌, ◌≢◌, ℕ, ◌<◌, ◌≤◌, List, [], length, OnOk};
 ghost use Rattle.hz_outside.specs.Counts.{Rose};
 ghost use Rattle.hz_outside.specs.WrittenText.{Output, Took, TookPrefix};
 
@@ -9,7 +9,7 @@ use super::fault::PutFault;
 ///
 /// `output` is what was written so far, if the sink shows it, and what waits. `faults` counts the calls that answered
 /// `Failed`, and no others. After a call that failed, what is written and what waits are a prefix of all that was put;
-/// the rest is lost.
+/// the rest is lost. After a call that answered `Memory` nothing is lost, and nothing of the piece was taken.
 pub trait Sink {
     ghost output: { Self → Output };
 
@@ -19,8 +19,11 @@ pub trait Sink {
     fn put(&mut self, piece: &[u8]) -> Result<(), PutFault>
         requires { 0 < length piece.now }
         ensures whole { OnOk result (Took (output self.old) piece.now (output self.new)) }
-        ensures front { OnErr result (TookPrefix (output self.old) piece.now (output self.new)) }
-        ensures failed { result ≡ Err PutFault.Failed → Rose (faults self.old) (faults self.new) }
+        ensures failed { result ≡ Err PutFault.Failed →
+            TookPrefix (output self.old) piece.now (output self.new) }
+        ensures memory { result ≡ Err PutFault.Memory →
+            Took (output self.old) [] (output self.new) }
+        ensures counted { result ≡ Err PutFault.Failed → Rose (faults self.old) (faults self.new) }
         ensures quiet { result ≢ Err PutFault.Failed → faults self.new ≡ faults self.old }
         ensures never_falls { faults self.old ≤ faults self.new };
 
@@ -28,8 +31,11 @@ pub trait Sink {
     fn flush(&mut self) -> Result<(), PutFault>
         ensures whole { OnOk result (Took (output self.old) [] (output self.new)) }
         ensures none_waits { OnOk result ((output self.new).waiting ≡ []) }
-        ensures front { OnErr result (TookPrefix (output self.old) [] (output self.new)) }
-        ensures failed { result ≡ Err PutFault.Failed → Rose (faults self.old) (faults self.new) }
+        ensures failed { result ≡ Err PutFault.Failed →
+            TookPrefix (output self.old) [] (output self.new) }
+        ensures memory { result ≡ Err PutFault.Memory →
+            Took (output self.old) [] (output self.new) }
+        ensures counted { result ≡ Err PutFault.Failed → Rose (faults self.old) (faults self.new) }
         ensures quiet { result ≢ Err PutFault.Failed → faults self.new ≡ faults self.old }
         ensures never_falls { faults self.old ≤ faults self.new };
 }

@@ -1,6 +1,6 @@
 //! Reading patterns.
 
-ghost use Rattle.std.specs.Prelude.{◌≡◌, ◌*◌, ◌≤◌, ◌⊎◌, length, All, IfOk, IfErr, IfSome, OnOk, IsErrOf, MatchResult};
+ghost use Rattle.std.specs.Prelude.{◌≡◌, ◌+◌, ◌*◌, ◌^◌, ◌≤◌, ◌⊎◌, None, length, All, IfOk, IfErr, IfSome, OnOk, IsErrOf, MatchResult};
 ghost use Rattle.std.specs.Option.{option_map};
 ghost use Rattle.hz_text.specs.declared.fault.TextFault.TheVariants as told;
 ghost use Rattle.hz_pattern_text.specs.Limits.{most_patterns};
@@ -9,6 +9,7 @@ ghost use Rattle.hz_pattern_text.specs.PatternModel.{text_behind};
 ghost use Rattle.hz_pattern_text.specs.PatternResolution.{numbered_pattern_resolutions, resolve_pattern_tokens};
 ghost use Rattle.hz_pattern_text.specs.PatternRules.{AssignsBelow, rules_behind, fault_behind};
 ghost use Rattle.hz_pattern_text.specs.PatternText.{IsPatternsValue, ArePatternsFor};
+ghost use Rattle.hz_text.specs.Fault.{place_of};
 ghost use Rattle.hz_text.specs.Rules.{IsChecked, IsFaultOrMemory, first_fault_of};
 ghost use Rattle.hz_line.specs.Line.{most_text_bytes};
 ghost use Rattle.hz_line.specs.OrThat.{OrThat};
@@ -103,7 +104,9 @@ fn read_rest<'t>(
 
 // The fault of a text behind so many lines.
 fn fault_or_memory(fault: TextFault, lines: u32) -> TextFault
-    ensures { OrThat told.Memory (λ moved. moved ≡ fault_behind lines fault) result }
+    ensures moved { OrThat told.Memory (λ moved. moved ≡ fault_behind lines fault) result }
+    ensures memory { result ≡ told.Memory →
+        (fault ≡ told.Memory) ⊎ (2 ^ 32 ≤ place_of fault + lines) }
 {
     match fault_behind(fault, lines) {
         Some(moved) => moved,
@@ -113,7 +116,8 @@ fn fault_or_memory(fault: TextFault, lines: u32) -> TextFault
 
 // The same, if its line has a number.
 fn fault_behind(fault: TextFault, lines: u32) -> Option<TextFault>
-    ensures { IfSome result (λ moved. moved ≡ fault_behind lines fault) }
+    ensures some { IfSome result (λ moved. moved ≡ fault_behind lines fault) }
+    ensures none { result ≡ None → 2 ^ 32 ≤ place_of fault + lines }
 {
     Some(match fault {
         TextFault::Form { line } => TextFault::Form {

@@ -22,11 +22,15 @@ AreRight netlist held inputs values =
     IsOutcomeAlong (network_of netlist) start inputs state → value_at values var ≡ tri_of bit →
     bit_at state var ≡ bit
 
--- what a pattern brings about is right after its first bits, and after its second bits
+-- What a pattern brings about is right after its first bits, and after its second bits. And from each state that the circuit may come up
+-- in there is an outcome of the first bits, and then one of the second, so that this says something.
 pub record IsRight (netlist : Netlist) (held : List (Option Bool)) (pattern : PatternOf)
     (values : BothValues) : Type 0 where
   pub first : AreRight netlist held (pattern.from ∷ []) values.first
   pub second : AreRight netlist held (pattern.from ∷ pattern.to ∷ []) values.second
+  pub some : (start : List Bool) → Refines start (unknown_start (network_of netlist) held) →
+      (state : List Bool)
+      × IsOutcomeAlong (network_of netlist) start (pattern.from ∷ pattern.to ∷ []) state
 
 -- the job is done with the text of what the patterns bring about, and each value in it is right
 abbrev pub IsResetOutcome : Netlist → PatternsOf → Status → List ℕ → Type 0

@@ -6,7 +6,7 @@ use hz_outside::Sink;
 use hz_pattern_text::Patterns;
 use hz_plane::Planes;
 use hz_refusal::{OnPatterns, Status};
-use hz_reset::values_cover;
+use hz_reset::{outcomes_exist, values_cover};
 use std::alloc::Global;
 
 /// The job `reset`.
@@ -26,6 +26,7 @@ impl OnPatterns for Resets {
         out: &mut K,
     ) -> Status {
         values_cover();
+        outcomes_exist();
         let Ok(mut planes) = Planes::new(alloc, net) else {
             return Status::Memory;
         };

@@ -1,5 +1,5 @@
 -- What a call wrote, once all that waited is flushed.
-use Rattle.std.proofs.Common.{◌≡◌, ◌≢◌, ◌∙◌, sym, ap, ◌≤◌, ℕ, inl, inr, List, [], ◌∷◌, ◌++◌, Option, Result, Ok, Err, OnOk, OnErr, refl, subst, rules, append_assoc}
+use Rattle.std.proofs.Common.{◌≡◌, ◌≢◌, ◌∙◌, sym, ap, ◌≤◌, ℕ, inl, inr, List, [], ◌∷◌, ◌++◌, Option, Result, Ok, Err, OnOk, refl, subst, rules, append_assoc}
 use Rattle.std.proofs.lemmas.List.{append-nil}
 use Rattle.hz_outside.specs.Counts.{Rose}
 use Rattle.hz_outside.specs.WrittenText.{Output, Took, TookPrefix, GrewByPrefix, extended_text}
@@ -10,7 +10,7 @@ use Rattle.hz_refusal.specs.declared.status.Status.{Status}
 use Rattle.hz_refusal.specs.declared.status.Status.TheVariants as status
 use Rattle.hz_refusal.specs.Answer.{Answers, CountTells, WroteWhole, WrotePrefix}
 use Rattle.hz_refusal.specs.Ends.{written_of, Ends, TookWhole, TookFront}
-use Rattle.hz_refusal.specs.Ending.{status_flushed}
+use Rattle.hz_refusal.specs.Ending.{status_flushed, IsCutShort}
 
 -- a prefix, of which the flush wrote a prefix
 TookPrefix-then : {xs : List ℕ} {a b c : Output} → TookPrefix a xs b → TookPrefix b [] c → TookPrefix a xs c
@@ -51,6 +51,19 @@ nothing-written : (was now : Output) → was.waiting ≡ [] → TookPrefix was [
 nothing-written was now none took =
     let all : took.front ++ (now.waiting ++ took.rest) ≡ [] = sym (append_assoc took.front now.waiting took.rest) ∙ took.parts ∙ append-nil was.waiting ∙ none in
     took.grew ∙ ap (extended_text was.written) (front-nil took.front (now.waiting ++ took.rest) all) ∙ extended_text-nil was.written
+
+-- a flush changes no status to one of a refusal
+pub short-flushed : (flush : Result (Unit {0}) PutFault) (own : Status) → IsCutShort own → IsCutShort (status_flushed flush own)
+short-flushed (Ok done) own short = short
+short-flushed (Err fault.Failed) own short = inl refl
+short-flushed (Err fault.Memory) own (inl is) = inl (ap (status_flushed (Err fault.Memory)) is)
+short-flushed (Err fault.Memory) own (inr is) = inr (ap (status_flushed (Err fault.Memory)) is)
+
+pub other-flushed : (named : Status) → status.Sink ≢ named → status.Memory ≢ named → (flush : Result (Unit {0}) PutFault) (own : Status) → own ≢ named → status_flushed flush own ≢ named
+other-flushed named sink memory (Ok done) own other = other
+other-flushed named sink memory (Err fault.Failed) own other = sink
+other-flushed named sink memory (Err fault.Memory) status.Sink other = sink
+other-flushed named sink memory (Err fault.Memory) own other = memory
 
 module _ {S : Type 0} (output : S → Output) (faults : S → ℕ) (comes : Status → List ℕ → Type 0) (was mid now : S) where
   -- a whole text, flushed
@@ -116,17 +129,17 @@ module _ {S : Type 0} (output : S → Output) (faults : S → ℕ) (comes : Stat
 
   -- the answer of a call whose last flush came to this
   pub Answers-flushed : (own : Status) (flush : Result (Unit {0}) PutFault) (ends : Status) → (output was).waiting ≡ [] → Ends output faults comes was mid own
-      → OnOk flush (Took (output mid) [] (output now)) → OnOk flush ((output now).waiting ≡ []) → OnErr flush (TookPrefix (output mid) [] (output now))
-      → (flush ≡ Err fault.Failed → Rose (faults mid) (faults now)) → faults mid ≤ faults now → ends ≡ status_flushed flush own
-      → Answers (written_of output) faults comes was now ends
-  Answers-flushed own (Ok done) ends none puts whole none_now front failed rose at =
+      → OnOk flush (Took (output mid) [] (output now)) → OnOk flush ((output now).waiting ≡ []) → (flush ≡ Err fault.Failed → TookPrefix (output mid) [] (output now))
+      → (flush ≡ Err fault.Memory → Took (output mid) [] (output now)) → (flush ≡ Err fault.Failed → Rose (faults mid) (faults now)) → faults mid ≤ faults now
+      → ends ≡ status_flushed flush own → Answers (written_of output) faults comes was now ends
+  Answers-flushed own (Ok done) ends none puts whole none_now cut kept counted rose at =
       subst (Answers (written_of output) faults comes was now) (sym at) (puts-flushed own none none_now rose puts whole)
-  Answers-flushed own (Err fault.Failed) ends none puts whole none_now front failed rose at =
-      subst (Answers (written_of output) faults comes was now) (sym at) (rose-cut own puts (failed refl) rose, puts-cut own none puts front)
-  Answers-flushed status.Sink (Err fault.Memory) ends none puts whole none_now front failed rose at =
-      subst (Answers (written_of output) faults comes was now) (sym at) (rose-more puts.0 rose, puts-cut status.Sink none puts front)
-  Answers-flushed own (Err fault.Memory) ends none puts whole none_now front failed rose at =
-      subst (Answers (written_of output) faults comes was now) (sym at) (puts-cut own none puts front)
+  Answers-flushed own (Err fault.Failed) ends none puts whole none_now cut kept counted rose at =
+      subst (Answers (written_of output) faults comes was now) (sym at) (rose-cut own puts (counted refl) rose, puts-cut own none puts (cut refl))
+  Answers-flushed status.Sink (Err fault.Memory) ends none puts whole none_now cut kept counted rose at =
+      subst (Answers (written_of output) faults comes was now) (sym at) (rose-more puts.0 rose, puts-cut status.Sink none puts (Took-prefix (kept refl)))
+  Answers-flushed own (Err fault.Memory) ends none puts whole none_now cut kept counted rose at =
+      subst (Answers (written_of output) faults comes was now) (sym at) (puts-cut own none puts (Took-prefix (kept refl)))
 
   -- what the count tells of the work
   work-count : (own : Status) → Ends output faults comes was mid own → CountTells (faults was) (faults mid) own

@@ -1,5 +1,5 @@
 -- A line that is written of a refusal is that of the least fault.
-use Rattle.std.proofs.Common.{◌≡◌, ◌≢◌, ℕ, inl, inr, Bool, List, Option, refl, subst, sym}
+use Rattle.std.proofs.Common.{◌≡◌, ◌≢◌, ◌∙◌, ap, ℕ, inl, inr, Bool, List, Option, refl, subst, sym}
 use Rattle.hz_outside.specs.declared.fault.Place.{Place}
 use Rattle.hz_outside.specs.declared.fault.LoadFault.{LoadFault}
 use Rattle.hz_outside.specs.declared.fault.LoadFault.TheVariants as load
@@ -10,10 +10,10 @@ use Rattle.hz_pass.specs.declared.completed_start.StartFault.{StartFault}
 use Rattle.hz_pass.specs.declared.completed_start.StartFault.TheVariants as start
 use Rattle.hz_text.specs.declared.fault.TextFault.{TextFault}
 use Rattle.hz_text.specs.declared.fault.TextFault.TheVariants as reading
-use Rattle.hz_text.specs.Fault.{IsLeastFaultOf, IsLeastFaultOrMemory}
+use Rattle.hz_text.specs.Fault.{IsLeastFaultOf, IsLeastFaultOrMemory, named_line}
 use Rattle.hz_refusal.specs.declared.status.Status.{Status}
 use Rattle.hz_refusal.specs.declared.status.Status.TheVariants as status
-use Rattle.hz_refusal.specs.Second.{StartRefused}
+use Rattle.hz_refusal.specs.Second.{StartRefused, IsToldLine}
 use Rattle.hz_refusal.specs.Refusal.{unread_line, long_line}
 use Rattle.hz_refusal.specs.Refused.{LoadPrints, StartPrints}
 
@@ -39,3 +39,9 @@ refused memory told fault (inr says) other = says
 -- a refusal of a text other than out of memory is the least of the faults that hold
 pub text-refused : (holds : TextFault → Type 0) (fault : TextFault) → IsLeastFaultOrMemory holds fault → fault ≢ reading.Memory → IsLeastFaultOf holds fault
 text-refused holds fault refusal other = refused reading.Memory (IsLeastFaultOf holds) fault refusal other
+
+-- the line of a refusal is told
+pub told-line : (holds : TextFault → Type 0) (fault : TextFault) (own : Status) (line : ℕ) → IsLeastFaultOrMemory holds fault → (fault ≡ reading.Memory → own ≡ status.Memory)
+    → line ≡ named_line fault → IsToldLine holds own line
+told-line holds fault own line (inl is) memory named = inr (inr (inr (memory is)), named ∙ ap named_line is)
+told-line holds fault own line (inr least) memory named = inl (fault, least, named)

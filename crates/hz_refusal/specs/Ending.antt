@@ -1,5 +1,5 @@
 -- How a call ends once its text was put, or was not.
-use Rattle.std.specs.Prelude.{ℕ, Result, Ok, Err}
+use Rattle.std.specs.Prelude.{◌≡◌, ◌⊎◌, ℕ, Result, Ok, Err}
 use Rattle.hz_outside.specs.declared.fault.PutFault.{PutFault}
 use Rattle.hz_outside.specs.declared.fault.PutFault.TheVariants as fault
 use Rattle.hz_refusal.specs.declared.status.Status.{Status}
@@ -15,6 +15,10 @@ status_after (Err fault.Memory) own = status.Memory
 abbrev pub status_flushed : Result (Unit {0}) PutFault → Status → Status
 status_flushed (Err fault.Memory) status.Sink = status.Sink
 status_flushed flush own = status_after flush own
+
+-- the output was not taken, or memory ran out
+abbrev pub IsCutShort : Status → Type 0
+IsCutShort own = (own ≡ status.Sink) ⊎ (own ≡ status.Memory)
 
 -- the exit code of a status
 abbrev pub code_of : Status → ℕ

@@ -3,7 +3,7 @@ use Rattle.std.specs.Prelude.{◌≡◌, ℕ, ◌⊎◌, Bool, List, codes, Opti
 use Rattle.hz_core.specs.Netlist.{Netlist}
 use Rattle.hz_net.specs.Starts.{IsAcceptedStart, IsLeastOpen, IsLeastUnstable}
 use Rattle.hz_text.specs.declared.fault.TextFault.{TextFault}
-use Rattle.hz_text.specs.Fault.{IsLeastFaultOf}
+use Rattle.hz_text.specs.Fault.{IsLeastFaultOf, named_line}
 use Rattle.hz_script.specs.ScriptFault.{HasScriptFault}
 use Rattle.hz_script.specs.ScriptText.{IsValue}
 use Rattle.hz_script.specs.ScriptValue.{ScriptOf}
@@ -16,6 +16,7 @@ use Rattle.hz_run_text.specs.RunValue.{RunTextOf}
 use Rattle.hz_refusal.specs.declared.status.Status.{Status}
 use Rattle.hz_refusal.specs.declared.status.Status.TheVariants as status
 use Rattle.hz_refusal.specs.Answer.{Prints}
+use Rattle.hz_refusal.specs.Ending.{IsCutShort}
 use Rattle.hz_refusal.specs.Refusal.{text_fault_line, open_line, unstable_line}
 
 -- What a text comes to that is called so: the line of its least fault, or what the judge says of the value that it stands for.
@@ -29,6 +30,13 @@ IsTextOutcome {V} called holds stands_for judge netlist bytes own text =
     × Prints status.Text (text_fault_line called netlist fault) own text)
     ⊎ ((value : V) × ((fault : TextFault) → ¬ holds netlist bytes fault)
     × stands_for netlist bytes value × judge netlist value own text)
+
+-- The line that is told of a text: that of its least fault, 0 if it names none. Or nothing is refused of the text, or the call was cut
+-- short, and no line is told.
+abbrev pub IsToldLine : (holds : TextFault → Type 0) → (own : Status) → (line : ℕ) → Type 0
+IsToldLine holds own line =
+    ((fault : TextFault) × IsLeastFaultOf holds fault × (line ≡ named_line fault))
+    ⊎ ((((fault : TextFault) → ¬ holds fault) ⊎ IsCutShort own) × (line ≡ 0))
 
 -- what a script comes to
 abbrev pub OfScript : (judge : Netlist → ScriptOf → Status → List ℕ → Type 0) → Netlist → List ℕ →

@@ -13,4 +13,4 @@ mod status;
 
 pub use refusal::{put_at, put_words, refuse_load, refuse_start, refuse_text};
 pub use second::{OnPatterns, OnRuns, OnScript, on_patterns, on_runs, on_script};
-pub use status::{Status, status_after, status_flushed};
+pub use status::{Ending, Status, status_after, status_flushed};

@@ -204,8 +204,9 @@ pub fn refuse_text<K: Sink>(
     fault: TextFault,
 ) -> Status
     requires { NamesNode circuit.now (named_node fault) }
-    ensures { Ends K.output K.faults (TextPrints called.now circuit.now fault) out.old out.new
+    ensures ends { Ends K.output K.faults (TextPrints called.now circuit.now fault) out.old out.new
         result }
+    ensures memory { fault ≡ TextFault.Memory → result ≡ Status.Memory }
 {
     match fault {
         TextFault::Memory => Status::Memory,

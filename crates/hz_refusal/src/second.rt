@@ -2,18 +2,21 @@
 ghost use Rattle.std.specs.Prelude.{◌≡◌, ◌≤◌, ℕ, List, length};
 ghost use Rattle.hz_core.specs.Netlist.{Netlist, IsCircuit};
 ghost use Rattle.hz_line.specs.Line.{most_text_bytes};
+ghost use Rattle.hz_pattern_text.specs.PatternFault.{HasPatternFault};
 ghost use Rattle.hz_pattern_text.specs.PatternText.{ArePatternsFor};
 ghost use Rattle.hz_pattern_text.specs.PatternValue.{PatternsOf};
+ghost use Rattle.hz_run_text.specs.RunFault.{HasRunFault};
 ghost use Rattle.hz_run_text.specs.RunText.{IsRunTextFor};
 ghost use Rattle.hz_run_text.specs.RunValue.{RunTextOf};
+ghost use Rattle.hz_script.specs.ScriptFault.{HasScriptFault};
 ghost use Rattle.hz_script.specs.ScriptText.{IsScriptFor};
 ghost use Rattle.hz_script.specs.ScriptValue.{ScriptOf};
 ghost use Rattle.hz_refusal.specs.Ends.{Ends};
-ghost use Rattle.hz_refusal.specs.Second.{OfScript, OfRuns, OfPatterns};
+ghost use Rattle.hz_refusal.specs.Second.{OfScript, OfRuns, OfPatterns, IsToldLine};
 ghost use Rattle.hz_refusal.specs.declared.status.Status.{Status};
 
 use crate::refusal::refuse_text;
-use crate::status::Status;
+use crate::status::{Ending, Status};
 use hz_core::Circuit;
 use hz_net::Net;
 use hz_outside::Sink;
@@ -69,15 +72,22 @@ pub fn on_script<J: OnScript, K: Sink>(
     net: &Net,
     text: &[u8],
     out: &mut K,
-) -> Status
+) -> Ending
     requires { length text.now ≤ most_text_bytes }
-    ensures { Ends K.output K.faults (OfScript (J.judges job.now) net.now text.now) out.old out.new
-        result }
+    ensures ends { Ends K.output K.faults (OfScript (J.judges job.now) net.now text.now)
+        out.old out.new result.status }
+    ensures line { IsToldLine (HasScriptFault net.now text.now) result.status result.line }
 {
     let circuit = net.circuit();
     match read_script(alloc, circuit, text) {
-        Ok(script) => job.with_script(alloc, net, &script, out),
-        Err(fault) => refuse_text(out, b"script", circuit, fault),
+        Ok(script) => Ending {
+            status: job.with_script(alloc, net, &script, out),
+            line: 0,
+        },
+        Err(fault) => Ending {
+            status: refuse_text(out, b"script", circuit, fault),
+            line: fault.line(),
+        },
     }
 }
 
@@ -88,14 +98,21 @@ pub fn on_runs<J: OnRuns, K: Sink>(
     net: &Net,
     text: &[u8],
     out: &mut K,
-) -> Status
+) -> Ending
     requires { length text.now ≤ most_text_bytes }
-    ensures { Ends K.output K.faults (OfRuns (J.judges job.now) net.now text.now) out.old out.new
-        result }
+    ensures ends { Ends K.output K.faults (OfRuns (J.judges job.now) net.now text.now)
+        out.old out.new result.status }
+    ensures line { IsToldLine (HasRunFault net.now text.now) result.status result.line }
 {
     match read_run(alloc, net, text) {
-        Ok(runs) => job.with_runs(alloc, net, &runs, out),
-        Err(fault) => refuse_text(out, b"runs", net.circuit(), fault),
+        Ok(runs) => Ending {
+            status: job.with_runs(alloc, net, &runs, out),
+            line: 0,
+        },
+        Err(fault) => Ending {
+            status: refuse_text(out, b"runs", net.circuit(), fault),
+            line: fault.line(),
+        },
     }
 }
 
@@ -106,15 +123,23 @@ pub fn on_patterns<J: OnPatterns, K: Sink>(
     net: &Net,
     reader: PatternReader,
     out: &mut K,
-) -> Status
+) -> Ending
     requires netlist { reader.netlist ≡ net.now }
     requires long { length reader.received ≤ most_text_bytes }
-    ensures { Ends K.output K.faults (OfPatterns (J.judges job.now) net.now reader.entry.received)
-        out.old
-        out.new result }
+    ensures ends { Ends K.output K.faults
+        (OfPatterns (J.judges job.now) net.now reader.entry.received)
+        out.old out.new result.status }
+    ensures line { IsToldLine (HasPatternFault net.now reader.entry.received) result.status
+        result.line }
 {
     match reader.finish() {
-        Ok(patterns) => job.with_patterns(alloc, net, &patterns, out),
-        Err(fault) => refuse_text(out, b"patterns", net.circuit(), fault),
+        Ok(patterns) => Ending {
+            status: job.with_patterns(alloc, net, &patterns, out),
+            line: 0,
+        },
+        Err(fault) => Ending {
+            status: refuse_text(out, b"patterns", net.circuit(), fault),
+            line: fault.line(),
+        },
     }
 }

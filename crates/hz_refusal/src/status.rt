@@ -29,6 +29,13 @@ pub enum Status {
     Memory,
 }
 
+/// How the work on a text ended: the status, and the line of the text that a refusal names, 0 if it names none.
+#[derive(Clone, Copy, Debug)]
+pub struct Ending {
+    pub status: Status,
+    pub line: u32,
+}
+
 impl Status {
     /// The exit code.
     pub fn code(self) -> u8

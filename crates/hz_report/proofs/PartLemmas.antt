@@ -2,7 +2,7 @@
 use Rattle.std.proofs.Common.{◌≡◌, ◌∙◌, refl, sym, ap, subst, ℕ, zero, suc, ◌+◌, ◌-◌, ◌<◌, ◌≤◌, List, [], ◌∷◌, ◌++◌, length, map, take, drop, set, get_or, slice_get, Some, append_assoc, arith, zero-add}
 use Rattle.std.proofs.Math.Numerals.{add-one}
 use Rattle.std.specs.List.{between}
-use Rattle.std.proofs.lemmas.List.{append-nil, length-append, length-map, map-append, take_at, drop_at, take_all, take-append-drop, take-set, drop-set, set-get_or, length-take-le}
+use Rattle.std.proofs.lemmas.List.{append-nil, length-append, length-map, map-append, take_at, drop_at, take_all, take-append-drop, take-take, drop-take, drop-drop, take-set, drop-set, set-get_or, length-take-le}
 use Rattle.std.proofs.lemmas.List.Edits.{between_none, between_more, length-between}
 use Rattle.std.proofs.lemmas.List.FromFn.{get_or-map-range_with_len, map-range_with_len_more, length-map-range_with_len}
 use Rattle.std.proofs.lemmas.Option.{get_or_from_slice_get}
@@ -323,3 +323,17 @@ module _ {X : Type 0} (value : X → List ℕ) (stem : ℕ → List ℕ) (tail :
       ) in
       let behind : drop (get_or begins from 0) text ≡ inside ++ after = ap (drop (get_or begins from 0)) text_is ∙ drop_at before (inside ++ after) (get_or begins from 0) (sym first) in
       ap (take (get_or begins upto 0 - get_or begins from 0)) behind ∙ take_at inside after (get_or begins upto 0 - get_or begins from 0) (sym last)
+
+-- the bytes between two places, and then those up to a third one
+pub between-joined : (i j k : ℕ) (xs : List ℕ) → i ≤ j → j ≤ k → between i j xs ++ between j k xs ≡ between i k xs
+between-joined i j k xs low high =
+    let n = j - i in
+    let m = k - j in
+    let zs = drop i xs in
+    let width : n + m ≡ k - i = omega (arith, low, high) in
+    let place : i + n ≡ j = omega (arith, low) in
+    let parts : take n zs ++ take m (drop n zs) ≡ take (n + m) zs =
+    ap (λ (front : List ℕ). front ++ take m (drop n zs)) (sym (take-take n (n + m) zs (omega arith)))
+    ∙ ap (λ (back : List ℕ). take n (take (n + m) zs) ++ back) (sym (drop-take n m zs)) ∙ take-append-drop n (take (n + m) zs) in
+    let behind : drop j xs ≡ drop n zs = ap (λ (place : ℕ). drop place xs) (sym place) ∙ sym (drop-drop n i xs) in
+    ap (λ (back : List ℕ). take n zs ++ take m back) behind ∙ parts ∙ ap (λ (count : ℕ). take count zs) width

@@ -73,14 +73,36 @@ pub(crate) fn write_kept_rows<K: Sink>(
                 shown.set(var, rest);
             }
             None => {
-                writer.end_by(kept_lines(net, text, begins, from, var));
+                write_kept_lines(writer, net, text, begins, from, var);
                 write_rare_row(writer, net, var as u32, rows.row(var));
                 from = var + 1;
             }
         }
         var = first_not_shown(rows, shown, var + 1, count);
     }
-    writer.end_by(kept_lines(net, text, begins, from, count));
+    write_kept_lines(writer, net, text, begins, from, count);
+}
+
+// Gives the lines of the nodes from one up to another, each by a put of its own.
+fn write_kept_lines<K: Sink>(
+    writer: &mut Writer<'_, K>,
+    net: &Net,
+    text: &[u8],
+    begins: &[usize],
+    from: usize,
+    to: usize,
+)
+    requires kept { AreRowParts net.now (length net.now.names) text.now begins.now }
+    requires ordered { from ≤ to }
+    requires within { to ≤ length net.now.names }
+    ensures gave { Writes K.output K.faults
+        (slice_range text.now (slice_index begins.now from) (slice_index begins.now to))
+        writer.old writer.new }
+    ensures none_waits { NoneWaits writer.old → NoneWaits writer.new }
+{
+    for node in from..to {
+        writer.end_by(kept_lines(net, text, begins, node, node + 1));
+    }
 }
 
 // The first node from one on that is not seen to rest at what is shown, or the end if there is none.
@@ -179,6 +201,7 @@ fn set_before(text: &mut [u8], end: usize, common: &[u8; COMMON])
 }
 
 // The lines of the nodes from one up to another.
+#[inline(always)]
 fn kept_lines<'t>(net: &Net, text: &'t [u8], begins: &[usize], from: usize, to: usize) -> &'t [u8]
     requires kept { AreRowParts net.now (length net.now.names) text.now begins.now }
     requires ordered { from ≤ to }

@@ -29,6 +29,18 @@ place_of (TooMany line) = line
 place_of Memory = 0
 place_of (Mismatch line told real) = line
 
+-- the line that a fault names; 0 if it names none
+abbrev pub named_line : TextFault → ℕ
+named_line (Form line) = line
+named_line (Unknown line) = line
+named_line (Twice line) = line
+named_line (Missing node) = 0
+named_line (Bit line) = line
+named_line (Order line) = line
+named_line (TooMany line) = line
+named_line Memory = 0
+named_line (Mismatch line told real) = line
+
 -- the faults of a text, of which those stand that hold
 abbrev pub faults_that : (TextFault → Type 0) → Faults TextFault
 faults_that holds = record { stands = holds; number = fault_number; line = place_of }

@@ -1,6 +1,7 @@
 // Why a text is refused.
 
 ghost use Rattle.std.specs.Prelude.{◌≡◌, None, MatchResult, IsSomeAnd};
+ghost use Rattle.hz_text.specs.Fault.{named_line};
 
 use hz_core::Memory;
 use hz_line::StatementsFault;
@@ -40,6 +41,24 @@ pub enum TextFault {
     /// the inputs, the gates and the wires, `real` the network's own.
     #[error("{told}, not {real}, in line {line}")]
     Mismatch { line: u32, told: u32, real: u32 },
+}
+
+impl TextFault {
+    /// The line that it names, or 0 if it names none.
+    pub fn line(self) -> u32
+        ensures { result ≡ named_line self }
+    {
+        match self {
+            TextFault::Form { line }
+            | TextFault::Unknown { line }
+            | TextFault::Twice { line }
+            | TextFault::Bit { line }
+            | TextFault::Order { line }
+            | TextFault::TooMany { line }
+            | TextFault::Mismatch { line, .. } => line,
+            TextFault::Missing { .. } | TextFault::Memory => 0,
+        }
+    }
 }
 
 /// The first count of a network's size that a text has wrong.

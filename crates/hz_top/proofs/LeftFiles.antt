@@ -2,14 +2,14 @@
 use Rattle.std.proofs.Common.{◌≡◌, ℕ, ◌≤◌, List, length, Option, Some, None, subst, arith, inl, inr}
 use Rattle.std.specs.Prelude.{IfSome}
 use Rattle.hz_outside.specs.declared.fault.Place.{Place}
-use Rattle.hz_outside.specs.declared.fault.Place.TheVariants.{Second}
+use Rattle.hz_outside.specs.declared.fault.Place.TheVariants.{First, Second}
 use Rattle.hz_line.specs.Line.{most_text_bytes}
 use Rattle.hz_core.specs.Netlist.{Netlist}
 use Rattle.hz_options.specs.declared.options.Options.{Options}
 use Rattle.hz_words.specs.declared.job.Task.{Task}
 use Rattle.hz_words.specs.Job.{JobOf, OnFiles, Demo}
 use Rattle.hz_top.specs.Outcome.{Observation, CountsStay}
-use Rattle.hz_top.specs.LeftFiles.{IsRefusedFirst, LeavesFiles}
+use Rattle.hz_top.specs.LeftFiles.{IsRefusedFirst, CountsRise, LeavesFiles}
 use Rattle.hz_formats.specs.Netlists.{IsNetlistText}
 use Rattle.hz_formats.proofs.NetlistTexts.{not-both}
 
@@ -20,7 +20,7 @@ stays-anyway (Some bytes_of) first stays is = λ refused. is
 
 -- where the second file is not asked for
 pub second-stays : (told : Observation) (task : Task) (options : Options) (first second : List ℕ) → CountsStay told Second → LeavesFiles told (Some (OnFiles task options first second))
-second-stays told task options first second stays = stays-anyway told.held first (CountsStay told Second) stays
+second-stays told task options first second stays = (λ rise. stays, stays-anyway told.held first (CountsStay told Second) stays)
 
 -- where no file is asked for
 pub both-stay : (told : Observation) (asked : Option JobOf) → ((place : Place) → CountsStay told place) → LeavesFiles told asked
@@ -39,6 +39,13 @@ told-read None first bytes netlist stays is short text = tt
 told-read (Some bytes_of) first bytes netlist stays is short text =
     λ refused. absurd (subst (λ (told : List ℕ). IsRefusedFirst first told → ⊥) is (not-refused first bytes netlist short text) refused)
 
-pub first-read : (told : Observation) (task : Task) (options : Options) (first second bytes : List ℕ) (netlist : Netlist) → IfSome told.held (λ bytes_of. bytes ≡ bytes_of first) → length bytes ≤ most_text_bytes
+-- where no count of the first file changed
+none-rise : (told : Observation) → CountsStay told First → CountsRise told First → ⊥
+none-rise told stay (inl more) = omega (arith, more, stay.0)
+none-rise told stay (inr more) = omega (arith, more, stay.1)
+
+pub first-read : (told : Observation) (task : Task) (options : Options) (first second bytes : List ℕ) (netlist : Netlist) → CountsStay told First
+    → IfSome told.held (λ bytes_of. bytes ≡ bytes_of first) → length bytes ≤ most_text_bytes
     → IsNetlistText first bytes netlist → LeavesFiles told (Some (OnFiles task options first second))
-first-read told task options first second bytes netlist is short text = told-read told.held first bytes netlist (CountsStay told Second) is short text
+first-read told task options first second bytes netlist stay is short text =
+    (λ rise. absurd (none-rise told stay rise), told-read told.held first bytes netlist (CountsStay told Second) is short text)

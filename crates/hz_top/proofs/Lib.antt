@@ -8,3 +8,5 @@ pub mod TextEnds
 pub mod FaultlessEndings
 -- The headline, from the answer of a call
 pub mod Headlines
+-- How far a call came, and what the last flush leaves of that
+pub mod ReachedLemmas

@@ -3,6 +3,8 @@
 -- Observation: what the files show: the bytes under each name, and what was counted
 -- IsJobOutcome told job status text: the outcomes of a job: which text comes with which status
 -- LeavesFiles told job: what a call leaves of the counts, however it ends
+-- RunsAs output faults told job was now status: what a call ensures
+-- IsReached told job status reached: the file that a call worked on last, and the line of its text that a refusal names
 -- IsFilesOutcome, IsFirstTextOutcome, IsSecondFileOutcome: the outcomes of its two files, one after the other
 -- comes_of options task netlist text status line: the outcomes of the second text, by the task
 -- good_of task netlist text status: nothing is to be refused of the second text, and the task ends with this status
@@ -17,3 +19,5 @@ pub mod Outcome
 pub mod LeftFiles
 pub mod Faultless
 pub mod Headline
+pub mod Runs
+pub mod Reached

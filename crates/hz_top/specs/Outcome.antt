@@ -23,7 +23,7 @@ pub record Observation : Type 0 where
   pub longs : Place → ℕ
   pub longs_after : Place → ℕ
 
--- the counts of a place stay, as when its file is not asked for
+-- the counts of a place stay: no load there failed, and no file was too long
 abbrev pub CountsStay : Observation → Place → Type 0
 CountsStay told place =
     (told.faults_after place ≡ told.faults place) × (told.longs_after place ≡ told.longs place)
@@ -61,7 +61,7 @@ IsSecondFileOutcome told comes name own text =
     FileRefused told Second name own text
     ⊎ ((bytes : List ℕ) × IsFileContents told name bytes × comes bytes own text)
 
--- what the first text comes to, and then the second file, which is not asked for if the first text is refused
+-- what the first text comes to, and then the second file, whose counts stay if the first text is refused
 abbrev pub IsFirstTextOutcome : Observation → (Netlist → List ℕ → Status → List ℕ → Type 0) →
     (first bytes second : List ℕ) → Status → List ℕ → Type 0
 IsFirstTextOutcome told comes first bytes second own text =
@@ -70,7 +70,7 @@ IsFirstTextOutcome told comes first bytes second own text =
     ⊎ ((netlist : Netlist) × IsNetlistText first bytes netlist
     × IsSecondFileOutcome told (comes netlist) second own text)
 
--- what the two files come to: the second is not asked for if the first is not read
+-- what the two files come to: the counts of the second stay if the first is not read
 abbrev pub IsFilesOutcome : Observation → (Netlist → List ℕ → Status → List ℕ → Type 0) → List ℕ →
     List ℕ → Status → List ℕ → Type 0
 IsFilesOutcome told comes first second own text =
@@ -78,7 +78,7 @@ IsFilesOutcome told comes first second own text =
     ⊎ ((bytes : List ℕ) × IsFileContents told first bytes
     × IsFirstTextOutcome told comes first bytes second own text)
 
--- What a job comes to. Without a job the words are refused. No file is loaded for them, nor for a demo.
+-- What a job comes to. Without a job the words are refused. No count of a file changes then, nor in a demo.
 abbrev pub IsJobOutcome : Observation → Option JobOf → Status → List ℕ → Type 0
 IsJobOutcome told None own text =
     ((place : Place) → CountsStay told place) × Prints status.Words words_line own text

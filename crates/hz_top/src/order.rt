@@ -1,15 +1,20 @@
 //! The order of work on two files: the first file, its netlist, the second file, and then what the task does with its text.
-ghost use Rattle.std.specs.Prelude.{Some};
+ghost use Rattle.std.specs.Prelude.{◌≡◌, Some, IsSomeAnd};
 ghost use Rattle.hz_outside.specs.declared.fault.Place.TheVariants.{First, Second};
 ghost use Rattle.hz_options.specs.Numbers.{IsCap};
+ghost use Rattle.hz_pattern_text.specs.PatternFault.{HasPatternFault};
+ghost use Rattle.hz_run_text.specs.RunFault.{HasRunFault};
+ghost use Rattle.hz_script.specs.ScriptFault.{HasScriptFault};
 ghost use Rattle.hz_refusal.specs.Ends.{Ends};
 ghost use Rattle.hz_refusal.specs.Second.{OfScript, OfRuns, OfPatterns};
 ghost use Rattle.hz_top.specs.LeftFiles.{LeavesFiles};
 ghost use Rattle.hz_words.specs.Job.{OnFiles};
 ghost use Rattle.hz_line.specs.Line.{most_text_bytes};
-ghost use Rattle.hz_top.specs.Outcome.{observation_of, IsFilesOutcome, IsSecondFileOutcome};
+ghost use Rattle.hz_top.specs.Outcome.{observation_of, CountsStay, IsFilesOutcome, IsSecondFileOutcome};
+ghost use Rattle.hz_top.specs.Reached.{IsReached, IsLineOnCircuit, faults_of};
 ghost use Rattle.hz_top.specs.Tasks.{comes_of};
 
+use crate::reached::{Answer, Reached};
 use hz_changes::{Analyses, Splits};
 use hz_formats::{read_netlist, refuse_netlist};
 use hz_line::MAX_TEXT;
@@ -19,7 +24,7 @@ use hz_outside::{Files, Place, Sink};
 use hz_pattern_text::PatternReader;
 use hz_patterns::{Batches, Resets};
 use hz_refusal::{
-    OnPatterns, OnRuns, OnScript, Status, on_patterns, on_runs, on_script, refuse_load,
+    Ending, OnPatterns, OnRuns, OnScript, Status, on_patterns, on_runs, on_script, refuse_load,
 };
 use hz_replay::{Converts, Dumps, Replays};
 use hz_words::Task;
@@ -33,39 +38,66 @@ pub(crate) struct FileWork {
 }
 
 /// Does work on two files.
-pub(crate) fn work_on_files<F: Files, K: Sink>(
+pub(crate) fn work_on_files<'w, F: Files, K: Sink>(
     alloc: Global,
     work: FileWork,
-    first: &str,
-    second: &str,
+    first: &'w str,
+    second: &'w str,
     files: &mut F,
     out: &mut K,
-) -> Status
+) -> Answer<'w>
     requires cap { IsCap work.options.cap }
     requires first { F.granted files.old First first.now most_text_bytes }
     requires second { F.granted files.old Second second.now most_text_bytes }
     ensures ends { Ends K.output K.faults
         (IsFilesOutcome (observation_of F.held F.faults F.longs files.old files.new)
-        (comes_of work.options work.task) first.now second.now)
-        out.old out.new result }
+        (comes_of work.options work.task) first.entry.now second.entry.now)
+        out.old out.new result.status }
     ensures files { LeavesFiles (observation_of F.held F.faults F.longs files.old files.new)
-        (Some (OnFiles work.task work.options first.now second.now)) }
+        (Some (OnFiles work.task work.options first.entry.now second.entry.now)) }
+    ensures reached { IsReached (observation_of F.held F.faults F.longs files.old files.new)
+        (Some (OnFiles work.task work.options first.entry.now second.entry.now))
+        result.status result.reached }
 {
     // The bytes of the first file are freed before the second is loaded.
     let circuit = {
         let text = match files.load(alloc, Place::First, first, MAX_TEXT) {
             Ok(text) => text,
-            Err(fault) => return refuse_load(out, Place::First, fault),
+            Err(fault) => return at_first(first, refuse_load(out, Place::First, fault), 0),
         };
         match read_netlist(alloc, first, text.as_slice()) {
             Ok(circuit) => circuit,
-            Err(fault) => return refuse_netlist(out, fault),
+            Err(fault) => return at_first(first, refuse_netlist(out, fault), fault.line()),
         }
     };
     let Ok(net) = Net::build(alloc, circuit) else {
-        return Status::Memory;
+        return at_first(first, Status::Memory, 0);
     };
-    work_on_second(alloc, &net, work, second, files, out)
+    let ending = work_on_second(alloc, &net, work, second, files, out);
+    Answer {
+        status: ending.status,
+        reached: Some(Reached {
+            place: Place::Second,
+            name: second,
+            line: ending.line,
+        }),
+    }
+}
+
+// The answer of a call that came to the first file, and no further.
+fn at_first<'w>(name: &'w str, status: Status, line: u32) -> Answer<'w>
+    ensures status { result.status ≡ status }
+    ensures reached { IsSomeAnd result.reached (λ at.
+        (at.place ≡ First) × (at.name.now ≡ name.entry.now) × (at.line ≡ line)) }
+{
+    Answer {
+        status,
+        reached: Some(Reached {
+            place: Place::First,
+            name,
+            line,
+        }),
+    }
 }
 
 // Does work on a network and the text of the second file.
@@ -76,13 +108,16 @@ fn work_on_second<F: Files, K: Sink>(
     second: &str,
     files: &mut F,
     out: &mut K,
-) -> Status
+) -> Ending
     requires cap { IsCap work.options.cap }
     requires second { F.granted files.old Second second.now most_text_bytes }
-    ensures { Ends K.output K.faults
+    ensures ends { Ends K.output K.faults
         (IsSecondFileOutcome (observation_of F.held F.faults F.longs files.old files.new)
         (comes_of work.options work.task net.now) second.now)
-        out.old out.new result }
+        out.old out.new result.status }
+    ensures stay { CountsStay (observation_of F.held F.faults F.longs files.old files.new) First }
+    ensures line { IsLineOnCircuit (F.held files.old) (faults_of work.task net.now) second.now
+        result.status result.line }
 {
     let options = work.options;
     match work.task {
@@ -104,16 +139,19 @@ fn work_on_script<J: OnScript, F: Files, K: Sink>(
     second: &str,
     files: &mut F,
     out: &mut K,
-) -> Status
+) -> Ending
     requires { F.granted files.old Second second.now most_text_bytes }
-    ensures { Ends K.output K.faults
+    ensures ends { Ends K.output K.faults
         (IsSecondFileOutcome (observation_of F.held F.faults F.longs files.old files.new)
         (OfScript (J.judges job.now) net.now) second.now)
-        out.old out.new result }
+        out.old out.new result.status }
+    ensures stay { CountsStay (observation_of F.held F.faults F.longs files.old files.new) First }
+    ensures line { IsLineOnCircuit (F.held files.old) (HasScriptFault net.now) second.now result.status
+        result.line }
 {
     match files.load(alloc, Place::Second, second, MAX_TEXT) {
         Ok(text) => on_script(alloc, job, net, text.as_slice(), out),
-        Err(fault) => refuse_load(out, Place::Second, fault),
+        Err(fault) => without_line(refuse_load(out, Place::Second, fault)),
     }
 }
 
@@ -125,16 +163,19 @@ fn work_on_runs<J: OnRuns, F: Files, K: Sink>(
     second: &str,
     files: &mut F,
     out: &mut K,
-) -> Status
+) -> Ending
     requires { F.granted files.old Second second.now most_text_bytes }
-    ensures { Ends K.output K.faults
+    ensures ends { Ends K.output K.faults
         (IsSecondFileOutcome (observation_of F.held F.faults F.longs files.old files.new)
         (OfRuns (J.judges job.now) net.now) second.now)
-        out.old out.new result }
+        out.old out.new result.status }
+    ensures stay { CountsStay (observation_of F.held F.faults F.longs files.old files.new) First }
+    ensures line { IsLineOnCircuit (F.held files.old) (HasRunFault net.now) second.now result.status
+        result.line }
 {
     match files.load(alloc, Place::Second, second, MAX_TEXT) {
         Ok(text) => on_runs(alloc, job, net, text.as_slice(), out),
-        Err(fault) => refuse_load(out, Place::Second, fault),
+        Err(fault) => without_line(refuse_load(out, Place::Second, fault)),
     }
 }
 
@@ -146,19 +187,29 @@ fn work_on_patterns<J: OnPatterns, F: Files, K: Sink>(
     second: &str,
     files: &mut F,
     out: &mut K,
-) -> Status
+) -> Ending
     requires { F.granted files.old Second second.now most_text_bytes }
-    ensures { Ends K.output K.faults
+    ensures ends { Ends K.output K.faults
         (IsSecondFileOutcome (observation_of F.held F.faults F.longs files.old files.new)
         (OfPatterns (J.judges job.now) net.now) second.now)
-        out.old out.new result }
+        out.old out.new result.status }
+    ensures stay { CountsStay (observation_of F.held F.faults F.longs files.old files.new) First }
+    ensures line { IsLineOnCircuit (F.held files.old) (HasPatternFault net.now) second.now result.status
+        result.line }
 {
     let Ok(reader) = PatternReader::new(alloc, net.circuit()) else {
-        return Status::Memory;
+        return without_line(Status::Memory);
     };
     let mut reader = reader;
     match files.load_into(alloc, Place::Second, second, MAX_TEXT, &mut reader) {
         Ok(()) => on_patterns(alloc, job, net, reader, out),
-        Err(fault) => refuse_load(out, Place::Second, fault),
+        Err(fault) => without_line(refuse_load(out, Place::Second, fault)),
     }
+}
+
+// An end at which no line is told.
+fn without_line(status: Status) -> Ending
+    ensures { result ≡ record { status = status; line = 0 } }
+{
+    Ending { status, line: 0 }
 }

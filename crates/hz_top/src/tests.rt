@@ -6,14 +6,19 @@ use hz_outside::{MemFiles, MemSink};
 use std::alloc::Global;
 use std::test::Fail;
 
-// The files by their names: a multiplexer with a change of its selecting input, two runs of it and two patterns, a latch with a change
-// that it may settle in two ways, and a text that is no netlist.
-const FILES: [(&str, &str); 7] = [
+// The files by their names: a multiplexer with a change of its selecting input, with two changes and with three, of which one changes
+// nothing, two runs of it and two patterns, a latch with a change that it may settle in two ways, and a text that is no netlist.
+const FILES: [(&str, &str); 9] = [
     (
         "n",
         "INPUT(s)\nINPUT(x)\nINPUT(y)\nn = NOT(s)\na = AND(s, x)\nb = AND(n, y)\nz = OR(a, b)\n",
     ),
     ("s", "start s=1 x=1 y=1\nchange s=0\n"),
+    ("s2", "start s=1 x=1 y=1\nchange s=0\nchange x=0\n"),
+    (
+        "s3",
+        "start s=1 x=1 y=1\nchange s=0\nchange\nchange s=1 y=0\n",
+    ),
     (
         "r",
         "runs 1\nstart s=1 x=1 y=1 n=0 a=1 b=0 z=1\ninput s=0 x=1 y=1\nrun\nstep s\nstep n(1)\nstep n a(1)\n\
@@ -139,6 +144,8 @@ fn try_job(alloc: Global, line: &str, code: u8) -> Result<(), Fail> {
 fn each_put_fails(rt: HostRuntime) -> Result<(), Fail> {
     let rows = [
         ("analyse n s", 0),
+        ("analyse n s2", 0),
+        ("analyse n s3", 0),
         ("split latch race", 0),
         ("replay n r", 0),
         ("convert n r", 0),

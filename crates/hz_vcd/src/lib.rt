@@ -2,7 +2,7 @@
 //!
 //! | Module | What lives in it |
 //! |---|---|
-//! | `writing` | [`write`]: gives the text of a dump to a writer |
+//! | `writing` | [`write`], [`write_within`]: give the text of a dump to a writer |
 //! | `reading` | [`read`]: what a dump means, or the first word that no dump has there |
 //! | `wave` | [`Wave`]: what a dump means |
 //! | `fault` | [`VcdFault`]: why a text is no dump |
@@ -27,7 +27,7 @@ mod writing;
 pub use fault::VcdFault;
 pub use reading::read;
 pub use wave::Wave;
-pub use writing::write;
+pub use writing::{write, write_within};
 
 /// No word of a dump is wrong, and it doesn't end too early. So [`read`] gives the meaning of what [`write`] wrote.
 pub fn dumps_have_no_fault()

@@ -30,8 +30,8 @@ const ROOM: usize = MAX_VARIABLES as usize;
 /// the lead, and then those of the cycle. A run has an order and no times, so the steps are at the times 1, 2, .., and the
 /// unit, a nanosecond, means nothing. The dump has no date, version or comment.
 ///
-/// This takes no memory but 200,000 bytes of the stack. The writer's [`finish`](Writer::finish) returns whether all was
-/// written.
+/// This takes no memory but 200,000 bytes of the stack, and [`write_within`] takes room that the caller has. The writer's
+/// [`finish`](Writer::finish) returns whether all was written.
 pub fn write<K: Sink>(
     writer: &mut Writer<'_, K>,
     net: &Net,
@@ -52,11 +52,13 @@ pub fn write<K: Sink>(
     ensures none_waits { NoneWaits writer.new }
 {
     let mut room = [false; ROOM];
+    // No network has more variables, as its length says.
+    let _variables = net.len();
     write_within(writer, net, nodes, &mut room, lead, cycle);
 }
 
-// Gives the text of a dump, with room for the state of any network.
-fn write_within<K: Sink>(
+/// The same, with room for a bit of each variable, which is written over.
+pub fn write_within<K: Sink>(
     writer: &mut Writer<'_, K>,
     net: &Net,
     nodes: &[bool],
@@ -65,7 +67,7 @@ fn write_within<K: Sink>(
     cycle: Option<&Run>,
 )
     requires nodes { length nodes.now ≡ length net.now.names }
-    requires room { most_variables ≤ length room.old }
+    requires room { variables_of net.now ≤ length room.old }
     requires lead { All (AreFlips (variables_of net.now)) lead.now.steps }
     requires cycle { All (AreFlips (variables_of net.now)) (steps_of_cycle cycle) }
     requires few { length lead.now.steps + length (steps_of_cycle cycle) < 2 ^ 32 }

@@ -1,9 +1,9 @@
 -- What was put of a text, piece by piece, and what waits of it.
-use Rattle.std.proofs.Common.{◌≢◌, Result, Ok, Err, OnOk, OnErr, IsErrAnd, ◌≡◌, ◌≤◌, ℕ, List, [], ◌++◌, Option, Some, None, refl, ap, sym, ◌∙◌, arith, append_assoc, rules}
+use Rattle.std.proofs.Common.{◌≢◌, Result, Ok, Err, OnOk, IsErrAnd, ◌≡◌, ◌≤◌, ℕ, List, [], ◌++◌, Option, Some, None, refl, ap, sym, ◌∙◌, arith, append_assoc, rules}
 use Rattle.std.proofs.lemmas.List.{append-nil}
 use Rattle.hz_outside.specs.Counts.{Rose}
 use Rattle.hz_outside.specs.WrittenText.{Output, Took, TookPrefix}
-use Rattle.hz_outside.proofs.WrittenLemmas.{Took-nothing, Took-append, TookPrefix-append, TookPrefix-longer}
+use Rattle.hz_outside.proofs.WrittenLemmas.{Took-nothing, Took-append, Took-prefix, TookPrefix-append, TookPrefix-longer}
 use Rattle.hz_outside.specs.declared.fault.PutFault.{PutFault}
 use Rattle.hz_outside.specs.declared.fault.PutFault.TheVariants.{Failed, Memory}
 use Rattle.hz_write.specs.Writes.{Puts, Stops, Wrote, IsBuffered, WroteBuffered}
@@ -88,16 +88,23 @@ module _ {S : Type 0} (output : S → Output) (faults : S → ℕ) where
   -- what a put ensures is what a writer of its piece does
   pub Wrote-put : (piece : List ℕ) (a b : S) (result : Result (Unit {0}) PutFault)
       → OnOk result (Took (output a) piece (output b))
-      → OnErr result (TookPrefix (output a) piece (output b))
+      → (result ≡ Err Failed → TookPrefix (output a) piece (output b))
+      → (result ≡ Err Memory → Took (output a) [] (output b))
       → (result ≡ Err Failed → Rose (faults a) (faults b))
       → (result ≢ Err Failed → faults b ≡ faults a)
       → faults a ≤ faults b
       → Wrote output faults piece a b result
-  Wrote-put piece a b (Ok done) whole front failed quiet rose = record { grew = whole; quiet = quiet (λ e. cc) }
-  Wrote-put piece a b (Err fault) whole front failed quiet rose = record {
-    front = front;
-    cause = λ e. failed (ap (λ (some : PutFault). Err some) e);
-    quiet = λ other. quiet (λ e. other (cc));
+  Wrote-put piece a b (Ok done) whole failed memory counted quiet rose = record { grew = whole; quiet = quiet (λ e. cc) }
+  Wrote-put piece a b (Err Failed) whole failed memory counted quiet rose = record {
+    front = failed refl;
+    cause = λ e. counted refl;
+    quiet = λ other. absurd (other refl);
+    never_fell = rose;
+  }
+  Wrote-put piece a b (Err Memory) whole failed memory counted quiet rose = record {
+    front = TookPrefix-longer piece (Took-prefix (memory refl));
+    cause = λ e. absurd (cc);
+    quiet = λ other. quiet (λ e. cc);
     never_fell = rose;
   }
 

@@ -126,8 +126,7 @@ impl<'k, K: Sink> Writer<'k, K> {
         }
     }
 
-    /// Gives the last bytes of a line, its line feed among them, or lines that are kept as one text, and puts what waits. If nothing
-    /// waits, they are put as they are.
+    /// Gives the last bytes of a line, its line feed among them, and puts what waits. If nothing waits, they are put as they are.
     pub fn end_by(&mut self, last: &[u8])
         ensures gave { Writes K.output K.faults last.now self.old self.new }
         ensures none_waits { NoneWaits self.new }

@@ -91,7 +91,7 @@ loop-var-preserved g c =
         put-skip netlist rows begins from var text c.loop-var.shown so_far.0,
         writes_then
             (writes_then so_far.1
-            (writes_same w.end_by.ensures.gave (w.kept_lines.ensures ∙ kept-lines netlist rows from var text begins enough (omega (arith, within)) under))
+            (writes_same w.write_kept_lines.ensures.gave (kept-lines netlist rows from var text begins enough (omega (arith, within)) under))
             (lines-joined netlist rows from var so_far.0.ordered (omega (arith, within, enough))))
             w.write_rare_row.ensures.gave (sym (row_lines_more netlist rows var w.row.result w.row.ensures)),
         w.write_rare_row.ensures.none_waits,
@@ -113,5 +113,5 @@ returns-clause-gave g c =
     let enough : length netlist.names ≤ length rows = omega (arith, c.requires.rows, length-network_of netlist c.circuit.ensures.circuit) in
     let lines = kept-lines netlist rows c.loop-var.from c.loop-var.var c.loop-var.text c.args.begins.now enough (omega (arith, count, end)) (put-under c.args.net.now c.args.rows.now c.args.begins.now c.loop-var.from c.loop-var.var c.loop-var.text c.loop-var.shown (omega (arith, count, end, c.loop-var.invariant.0.ordered)) c.loop-var.invariant.0) in
     let all : c.loop-var.var ≡ length netlist.names = sym end ∙ count in
-    rw all at (writes_then c.loop-var.invariant.1 (writes_same c.end_by-2.ensures.gave ((rw end at c.kept_lines-2.ensures) ∙ lines))
+    rw all at (writes_then c.loop-var.invariant.1 (writes_same (rw end at c.write_kept_lines-2.ensures.gave) lines)
     (lines-joined netlist rows c.loop-var.from c.loop-var.var c.loop-var.invariant.0.ordered (omega (arith, count, end, enough))))

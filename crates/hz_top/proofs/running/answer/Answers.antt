@@ -1,40 +1,43 @@
-use Rattle.std.proofs.Common.{◌≡◌, None, refl, subst, sym, Option, map}
+-- All that was put is flushed.
+use Rattle.std.proofs.Common.{map, subst, sym}
 use Rattle.std.specs.String.{string_bytes}
-use Rattle.hz_refusal.specs.declared.status.Status.TheVariants as status
-use Rattle.hz_refusal.specs.Ends.{Ends}
-use Rattle.hz_words.specs.Job.{JobOf, job_of}
-use Rattle.hz_top.specs.Outcome.{IsJobOutcome, observation_of}
-use Rattle.hz_refusal.specs.Refusal.{words_line}
-use Rattle.hz_refusal.proofs.PutEndings.{Ends-put}
-use Rattle.hz_top.specs.LeftFiles.{LeavesFiles}
-use Rattle.hz_top.proofs.LeftFiles.{both-stay}
+use Rattle.hz_refusal.specs.declared.status.Status.{Status}
+use Rattle.hz_refusal.specs.Ends.{written_of}
+use Rattle.hz_words.specs.Job.{job_of}
+use Rattle.hz_top.specs.Outcome.{observation_of, IsJobOutcome}
+use Rattle.hz_top.specs.Reached.{IsReached}
+use Rattle.hz_top.proofs.FaultlessEndings.{asked-end, ends-or-memory}
+use Rattle.hz_refusal.proofs.Flushed.{Answers-flushed, Count-flushed}
+use Rattle.hz_top.proofs.Headlines.{headline}
+use Rattle.hz_top.proofs.ReachedLemmas.{reached-flushed}
 use Rattle.hz_top.proofs.running.answer.Goals as goal
 
-pub returns-in-Ok-clause-ends : goal.returns-in-Ok-clause-ends
-returns-in-Ok-clause-ends g c =
-    let told = observation_of g.F.Files.held g.F.Files.faults g.F.Files.longs c.args.files.now c.work.new.files in
-    subst (λ (job : Option JobOf). Ends g.K.Sink.output g.K.Sink.faults (IsJobOutcome told job) c.args.out.now c.work.new.out c.work.result) (sym c.in-Ok.ensures.job) c.work.ensures.ends
-
-pub returns-in-Err-Refused-clause-ends : goal.returns-in-Err-Refused-clause-ends
-returns-in-Err-Refused-clause-ends g c =
-    let told = observation_of g.F.Files.held g.F.Files.faults g.F.Files.longs c.args.files.now c.args.files.now in
+pub returns-clause-runs : goal.returns-clause-runs
+returns-clause-runs g c =
+    let worked = c.work_by_words-worked in
+    let was = c.args.out.now in
+    let now = c.flush.new.self in
+    let ends = c.status_flushed.result in
+    let told = observation_of g.F.Files.held g.F.Files.faults g.F.Files.longs c.args.files.now worked.new.files in
     let asked = job_of (map string_bytes c.args.words.now) in
-    let none : asked ≡ None = rw (c.in-Err-Refused.is, c.in-Err-Refused.field-0-is) at c.read.ensures.job in
-    Ends-put g.K.Sink.output g.K.Sink.faults (IsJobOutcome told asked) c.args.out.now c.put_words.new.out status.Words words_line
-    c.put_words.result c.status_after.result tt
-    (subst (λ (job : Option JobOf). IsJobOutcome told job status.Words words_line) (sym none) ((λ place. (refl, refl)), (refl, refl))) c.put_words.ensures c.status_after.ensures
+    let comes = IsJobOutcome told asked in
+    let flushed = c.flush.ensures in
+    let answers = Answers-flushed g.K.Sink.output g.K.Sink.faults comes was worked.new.out now worked.result.status c.flush.result ends c.requires.none_waits worked.ensures.ends
+    flushed.whole flushed.none_waits flushed.failed flushed.memory flushed.counted flushed.never_falls c.status_flushed.ensures in
+    record {
+      headline = headline (written_of g.K.Sink.output) g.K.Sink.faults told asked was now ends c.texts_are_circuits.ensures answers;
+      answer = answers;
+      counted = Count-flushed g.K.Sink.output g.K.Sink.faults comes was worked.new.out now worked.result.status c.flush.result ends worked.ensures.ends
+          flushed.counted flushed.quiet flushed.never_falls c.status_flushed.ensures;
+      files = worked.ensures.files;
+      done = λ job own is good quiet.
+          ends-or-memory (written_of g.K.Sink.output) g.K.Sink.faults comes was now ends answers own (asked-end told asked job own is good) quiet;
+    }
 
-pub returns-in-Ok-clause-files : goal.returns-in-Ok-clause-files
-returns-in-Ok-clause-files g c =
-    let told = observation_of g.F.Files.held g.F.Files.faults g.F.Files.longs c.args.files.now c.work.new.files in
-    subst (LeavesFiles told) (sym c.in-Ok.ensures.job) c.work.ensures.files
-
-pub returns-in-Err-Refused-clause-files : goal.returns-in-Err-Refused-clause-files
-returns-in-Err-Refused-clause-files g c =
-    both-stay (observation_of g.F.Files.held g.F.Files.faults g.F.Files.longs c.args.files.now c.args.files.now) (job_of (map string_bytes c.args.words.now))
-    (λ place. (refl, refl))
-
-pub returns-in-Err-Memory-clause-files : goal.returns-in-Err-Memory-clause-files
-returns-in-Err-Memory-clause-files g c =
-    both-stay (observation_of g.F.Files.held g.F.Files.faults g.F.Files.longs c.args.files.now c.args.files.now) (job_of (map string_bytes c.args.words.now))
-    (λ place. (refl, refl))
+pub returns-clause-reached : goal.returns-clause-reached
+returns-clause-reached g c =
+    let worked = c.work_by_words-worked in
+    let told = observation_of g.F.Files.held g.F.Files.faults g.F.Files.longs c.args.files.now worked.new.files in
+    let asked = job_of (map string_bytes c.args.words.now) in
+    subst (λ (ends : Status). IsReached told asked ends worked.result.reached) (sym c.status_flushed.ensures)
+    (reached-flushed c.flush.result worked.result.status told asked worked.result.reached worked.ensures.reached)

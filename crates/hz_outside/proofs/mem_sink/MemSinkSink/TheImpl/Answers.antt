@@ -32,17 +32,12 @@ quiet old new piece (Ok _) e h other = ap (λ (state : SinkState). state.faults)
 quiet old new piece (Err Failed) e h other = absurd (other refl)
 quiet old new piece (Err Memory) e h other = ap (λ (state : SinkState). state.faults) h
 
-front : {A : Type 0} (old new : SinkState) (piece : List ℕ) (result : Result A PutFault) → IfErr result (λ fault. PutsLess old piece fault new)
-    → OnErr result (TookPrefix (settled (Some old.bytes)) piece (settled (Some new.bytes)))
-front old new piece (Ok _) h = tt
-front old new piece (Err Failed) h = (stopped (taken_next old) old new piece h).front
-front old new piece (Err Memory) h = rw h (TookPrefix-nothing (settled (Some old.bytes)) piece)
-
 pub put-tells : goal.put-tells
 put-tells c = record {
   whole = on_ok _ _ c.result (λ e. rw e (Took-told c.args.self.now.bytes c.args.piece.now)) c.ensures.whole;
-  front = front c.args.self.now _ c.args.piece.now c.result c.ensures.err;
-  failed = λ e. let h = rw e at c.ensures.err in (stopped (taken_next c.args.self.now) _ _ _ h).rose;
+  failed = λ e. let h = rw e at c.ensures.err in (stopped (taken_next c.args.self.now) c.args.self.now _ _ h).front;
+  memory = λ e. let h = rw e at c.ensures.err in rw h (Took-nothing (settled (Some c.args.self.now.bytes)));
+  counted = λ e. let h = rw e at c.ensures.err in (stopped (taken_next c.args.self.now) _ _ _ h).rose;
   quiet = quiet c.args.self.now _ c.args.piece.now c.result c.ensures.whole c.ensures.err;
   never_falls = c.ensures.never_falls;
 }
@@ -51,8 +46,9 @@ pub flush-tells : goal.flush-tells
 flush-tells c = record {
   whole = on_any_ok _ c.result (rw c.ensures.same (Took-nothing _));
   none_waits = on_any_ok _ c.result refl;
-  front = on_any_err _ c.result (rw c.ensures.same (Took-prefix (Took-nothing _)));
   failed = λ e. let h = rw e at c.ensures.done in absurd h;
+  memory = λ e. let h = rw e at c.ensures.done in absurd h;
+  counted = λ e. let h = rw e at c.ensures.done in absurd h;
   quiet = λ other. rw c.ensures.same;
   never_falls = rw c.ensures.same (omega arith);
 }

@@ -5,8 +5,8 @@ use Rattle.hz_replay.specs.Verdict.{no_line}
 use Rattle.hz_refusal.proofs.PutEndings.{Ends-put}
 use Rattle.hz_replay.proofs.dumping.DumpsOnRuns.with_runs.Goals as goal
 
-pub returns-in-Ok-None : goal.returns-in-Ok-None
-returns-in-Ok-None g c =
+pub returns-in-Ok-None-in-Ok : goal.returns-in-Ok-None-in-Ok
+returns-in-Ok-None-in-Ok g c =
     let netlist = c.args.net.now in
     let text = c.args.runs.now in
     Ends-put g.K.Sink.output g.K.Sink.faults (IsVcdOutcome netlist text) c.args.out.now c.put_last.new.out status.Done (last_dump netlist text)

@@ -12,4 +12,4 @@ pub returns-clause-wrote : goal.returns-clause-wrote
 returns-clause-wrote g c =
     rw (← c.self.view_is)
     (Wrote-put _ _ _ _ _ c.put.result
-    c.put.ensures.whole c.put.ensures.front c.put.ensures.failed c.put.ensures.quiet c.put.ensures.never_falls)
+    c.put.ensures.whole c.put.ensures.failed c.put.ensures.memory c.put.ensures.counted c.put.ensures.quiet c.put.ensures.never_falls)

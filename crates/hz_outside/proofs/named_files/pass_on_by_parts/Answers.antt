@@ -1,5 +1,5 @@
 use Rattle.std.proofs.Common.{◌≡◌, ◌++◌, IfSome, List, OnOk, subst, ℕ}
-use Rattle.hz_outside.proofs.disk_files.pass_on_by_parts.Goals as goal
+use Rattle.hz_outside.proofs.named_files.pass_on_by_parts.Goals as goal
 
 -- what was received before did not change when the receiver took room
 pub returns-clause-whole : goal.returns-clause-whole

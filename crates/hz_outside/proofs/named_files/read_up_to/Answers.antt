@@ -2,7 +2,7 @@
 use Rattle.std.proofs.Common.{◌≡◌, ◌∙◌, ◌+◌, ℕ, List, length, take, drop, ap, subst, sym, arith, take_at}
 use Rattle.std.specs.Io.KnownBytes.{Consumes}
 use Rattle.hz_outside.proofs.ReadLemmas.{read-more}
-use Rattle.hz_outside.proofs.disk_files.read_up_to.Goals as goal
+use Rattle.hz_outside.proofs.named_files.read_up_to.Goals as goal
 
 pub loop-filled-preserved : goal.loop-filled-preserved
 loop-filled-preserved g c =

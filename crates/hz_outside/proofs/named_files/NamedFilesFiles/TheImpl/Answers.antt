@@ -1,18 +1,20 @@
--- What the files of the file system count gives what every store of files ensures; they tell no content.
-use Rattle.std.proofs.Common.{rules, refl}
-use Rattle.hz_outside.proofs.CountLemmas.{kept, failed-rose, long-rose}
-use Rattle.hz_outside.proofs.disk_files.DiskFilesFiles.TheImpl.Goals as goal
+-- What files that are opened by their names count gives what every store of files ensures.
+use Rattle.std.proofs.Common.{◌≡◌, ap, rules}
+use Rattle.hz_outside.proofs.CountLemmas.{kept, failed-rose, long-rose, no-fault, none-long}
+use Rattle.hz_outside.proofs.named_files.NamedFilesFiles.TheImpl.Goals as goal
 
 pub load-tells : goal.load-tells
 load-tells g c =
     let counts = kept _ _ c.args.place c.result c.ensures.counts in
     record {
       short = c.ensures.short;
-      bytes = search rules;
+      bytes = c.ensures.bytes;
       failed = λ e. let h = rw e at c.ensures.counts in rw h (failed-rose c.args.self.now c.args.place);
       too_long = λ e. let h = rw e at c.ensures.counts in rw h (long-rose c.args.self.now c.args.place);
-      over = λ _. tt;
-      same_files = refl;
+      over = c.ensures.over;
+      no_fault = no-fault _ _ c.args.place c.result c.ensures.counts;
+      none_long = none-long _ _ c.args.place c.result c.ensures.counts;
+      same_files = ap (λ (from : _). g.O.OpenNamed.told from) counts.from;
       faults_never_fall = counts.faults;
       longs_never_fall = counts.longs;
       other_faults = counts.other_faults;
@@ -26,11 +28,13 @@ load_into-tells g c =
     record {
       fixed = c.ensures.fixed;
       short = c.ensures.short;
-      bytes = search rules;
+      bytes = c.ensures.bytes;
       failed = λ e. let h = rw e at c.ensures.counts in rw h (failed-rose c.args.self.now c.args.place);
       too_long = λ e. let h = rw e at c.ensures.counts in rw h (long-rose c.args.self.now c.args.place);
-      over = λ _. tt;
-      same_files = refl;
+      over = c.ensures.over;
+      no_fault = no-fault _ _ c.args.place c.result c.ensures.counts;
+      none_long = none-long _ _ c.args.place c.result c.ensures.counts;
+      same_files = ap (λ (from : _). g.O.OpenNamed.told from) counts.from;
       faults_never_fall = counts.faults;
       longs_never_fall = counts.longs;
       other_faults = counts.other_faults;

@@ -1,6 +1,6 @@
 use Rattle.std.proofs.Common.{◌+◌, ◌-◌, ◌≤◌, take, vec_len}
 use Rattle.std.specs.Io.KnownBytes.{Consumes}
-use Rattle.hz_outside.proofs.disk_files.read_up_to.Given as goal
+use Rattle.hz_outside.proofs.named_files.read_up_to.Given as goal
 
 -- the filled bytes are what the reader lost
 abbrev pub invariant-loop-filled : goal.invariant-loop-filled

@@ -1,6 +1,6 @@
 use Rattle.std.proofs.Common.{◌≡◌, ◌+◌, ◌++◌, ℕ, List, length}
 use Rattle.std.specs.Io.KnownBytes.{Consumes}
-use Rattle.hz_outside.proofs.disk_files.pass_on.Given as goal
+use Rattle.hz_outside.proofs.named_files.pass_on.Given as goal
 
 -- the buffer keeps its length, and what the receiver got is what the reader lost
 abbrev pub invariant-loop-len : goal.invariant-loop-len
