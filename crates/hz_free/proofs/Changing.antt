@@ -53,7 +53,7 @@ join-unknown One = refl
 join-unknown Unknown = refl
 
 -- a value that admits a bit, and that a value joins which is not this bit
-join-other : (a e : Tri) (v : Bool) → IsTrue (admits a v) → a ≡ join_of a e → e ≢ tri_of v → a ≡ Unknown
+pub join-other : (a e : Tri) (v : Bool) → IsTrue (admits a v) → a ≡ join_of a e → e ≢ tri_of v → a ≡ Unknown
 join-other Unknown e v admit closed ne = refl
 join-other Zero Zero true admit closed ne = absurd (false≢true admit)
 join-other Zero Zero false admit closed ne = absurd (ne refl)
@@ -64,7 +64,7 @@ join-other One One true admit closed ne = absurd (ne refl)
 join-other One One false admit closed ne = absurd (false≢true admit)
 join-other One Unknown v admit closed ne = cc
 
-tri_of-or-not : (e : Tri) (v : Bool) → (e ≡ tri_of v) ⊎ (e ≢ tri_of v)
+pub tri_of-or-not : (e : Tri) (v : Bool) → (e ≡ tri_of v) ⊎ (e ≢ tri_of v)
 tri_of-or-not Zero true = inr (λ e. cc)
 tri_of-or-not Zero false = inl refl
 tri_of-or-not One true = inl refl
@@ -103,7 +103,7 @@ admits-unknown : (b : Bool) → IsTrue (admits Unknown b)
 admits-unknown true = refl
 admits-unknown false = refl
 
-admits_all-unknown : (word : List Bool) → AdmitsAll Unknown word
+pub admits_all-unknown : (word : List Bool) → AdmitsAll Unknown word
 admits_all-unknown [] = tt
 admits_all-unknown (letter ∷ word) = (admits-unknown letter, admits_all-unknown word)
 
@@ -132,7 +132,7 @@ admit-move (value ∷ values) (word ∷ words) (true ∷ move) admit = (admit-dr
 admit-move (value ∷ values) (word ∷ words) (false ∷ move) admit = (admit.0, admit-move values words move admit.1)
 
 -- a gate that is constant on the values that the pins admit does not change along a walk
-walk-constant : (kind : Kind) (values : List Tri) (v : Bool) (words moves : List (List Bool)) → AreWords words → AdmitWords values words → ((bits : List Bool) → Refines bits values → gate_value kind bits ≡ v) → IsWalk words moves → walk_changes (gate_value kind) words moves ≡ 0
+pub walk-constant : (kind : Kind) (values : List Tri) (v : Bool) (words moves : List (List Bool)) → AreWords words → AdmitWords values words → ((bits : List Bool) → Refines bits values → gate_value kind bits ≡ v) → IsWalk words moves → walk_changes (gate_value kind) words moves ≡ 0
 walk-constant kind values v words [] are_words admit same walk = refl
 walk-constant kind values v words (move ∷ moves) are_words admit same walk =
     let next_words = after_move-AreWords words move are_words walk.0.0 in
@@ -147,7 +147,7 @@ walk-constant kind values v words (move ∷ moves) are_words admit same walk =
     change-self false = refl
 
 -- words admitted element by element
-admit-each : (values : List Tri) (words : List (List Bool)) → length values ≡ length words → ((k : ℕ) → k < length words → AdmitsAll (get_or values k Zero) (get_or words k [])) → AdmitWords values words
+pub admit-each : (values : List Tri) (words : List (List Bool)) → length values ≡ length words → ((k : ℕ) → k < length words → AdmitsAll (get_or values k Zero) (get_or words k [])) → AdmitWords values words
 admit-each [] [] long each = tt
 admit-each [] (word ∷ words) long each = absurd (omega arith)
 admit-each (value ∷ values) [] long each = absurd (omega arith)
@@ -173,7 +173,7 @@ input_word-same true false e = absurd (omega arith)
 input_word-same false true e = absurd (omega arith)
 input_word-same false false e = refl
 
-input_word-differs : (old new : Bool) → 1 ≤ change_count (input_word old new) → tri_of new ≢ tri_of old
+pub input_word-differs : (old new : Bool) → 1 ≤ change_count (input_word old new) → tri_of new ≢ tri_of old
 input_word-differs true true some e = absurd (omega arith)
 input_word-differs true false some e = cc
 input_word-differs false true some e = cc
@@ -212,7 +212,7 @@ module _ (netlist : Netlist) (circuit : IsCircuit netlist) (netlist_whole : IsWh
       let before = stays i few asked round in
       next-value round i few ∙ (rw (before, asked round) (join-same (bit_at start i)))
 
-  followed : (i : ℕ) → i < length (network_of netlist) → IsFeedbackFree (network_of netlist) i → IsFollowed (network_of netlist) input start i (get_or words i [])
+  followed : (i : ℕ) → i < length (network_of netlist) → IsFeedbackFree (network_of netlist) i → IsFollowed start i (get_or words i [])
   followed i few free = free-followed netlist circuit input start whole stable words are netlist_whole i few free
 
   record-input : (i place : ℕ) → i < length (network_of netlist) → driver_at (network_of netlist) i ≡ External place → get_or words i [] ≡ input_word (bit_at start i) (bit_at input place) → IsAgreed i
@@ -243,7 +243,7 @@ module _ (netlist : Netlist) (circuit : IsCircuit netlist) (netlist_whole : IsWh
             ∙ join-unknown (value_at (algorithm_a (network_of netlist) input start rounds) i)));
       }
 
-  module _ (i : ℕ) (kind : Kind) (first pins : ℕ) (few : i < length (network_of netlist)) (driven_by : driver_at (network_of netlist) i ≡ Function kind first pins) (free : IsFeedbackFree (network_of netlist) i) (is_word : IsWordOf kind (slice_range words first (first + pins)) (get_or words i [])) (wire_followed : (k : ℕ) → k < pins → IsFollowed (network_of netlist) input start (first + k) (get_or words (first + k) [])) (wire_agreed : (k : ℕ) → k < pins → IsAgreed (first + k)) where
+  module _ (i : ℕ) (kind : Kind) (first pins : ℕ) (few : i < length (network_of netlist)) (driven_by : driver_at (network_of netlist) i ≡ Function kind first pins) (free : IsFeedbackFree (network_of netlist) i) (is_word : IsWordOf kind (slice_range words first (first + pins)) (get_or words i [])) (wire_followed : (k : ℕ) → k < pins → IsFollowed start (first + k) (get_or words (first + k) [])) (wire_agreed : (k : ℕ) → k < pins → IsAgreed (first + k)) where
     wires : List (List Bool)
     wires = slice_range words first (first + pins)
 

@@ -1,8 +1,6 @@
--- Along every run the history of a feedback-free variable begins as its word and has at most as many changes.
-use Rattle.std.proofs.Common.{◌≡◌, ℕ, ◌+◌, ◌<◌, ◌≤◌, Bool, true, false, List, [], length, get_or, IsTrue, refl, sym, ap, ◌∙◌, subst, arith, inl, inr}
+-- The words of the feedback-free variables are words, and begin as the variables at the start.
+use Rattle.std.proofs.Common.{◌≡◌, ℕ, ◌+◌, ◌<◌, Bool, true, false, List, [], length, get_or, IsTrue, refl, sym, ap, ◌∙◌, subst, arith}
 use Rattle.std.specs.Prelude.{slice_range, take}
-use Rattle.std.specs.Bool.{nat_le}
-use Rattle.std.proofs.lemmas.Bool.{cases_Bool}
 use Rattle.std.proofs.lemmas.List.{ext_get_or, length-map, get_or-map}
 use Rattle.hz_core.specs.declared.kind.Kind.{Kind}
 use Rattle.hz_core.specs.Gate.{takes, gate_value}
@@ -12,31 +10,15 @@ use Rattle.hz_net.specs.Network.{Driver, External, Function, Source, network_of,
 use Rattle.hz_net.specs.Reads.{Reads, IsWired}
 use Rattle.hz_net.proofs.Wired.{wired-network_of, is_gate_of}
 use Rattle.hz_lists.proofs.PartLemmas.{length-part, at-part}
-use Rattle.hz_gmw.specs.Runs.{IsRun}
-use Rattle.hz_word.specs.Word.{IsWord, AreWords, first_letter, change_count}
-use Rattle.hz_word.specs.Walk.{current_letters, IsWordOf, change_between}
-use Rattle.hz_word.specs.Capped.{capped_word}
-use Rattle.hz_word.specs.Covers.{Covers}
-use Rattle.hz_word.proofs.Longest.{takes-HasPins, part-IsWordOf}
+use Rattle.hz_word.specs.Word.{IsWord, AreWords, first_letter}
+use Rattle.hz_word.specs.Walk.{current_letters, IsWordOf}
 use Rattle.hz_free.specs.Chains.{IsFeedbackFree}
-use Rattle.hz_free.specs.VariableWords.{IsDrivenWord, input_word, AreVariableWords, variable_history}
+use Rattle.hz_free.specs.VariableWords.{IsDrivenWord, input_word, AreVariableWords}
 use Rattle.hz_free.proofs.Chains.{free-induction, reads-inside}
 use Rattle.hz_free.proofs.NextWord.{input_word-IsWord, AreWords-each}
-use Rattle.hz_free.proofs.Delays.{changes_along, change-same, delay, constant-along, same-along, change_count-history, first_letter-history}
-use Rattle.hz_free.proofs.Columns.{part-along}
-
--- a capped word covers a history with the first letter of the word and no more changes
-covers-capped_word : (cap : ℕ) (word history : List Bool) → first_letter history ≡ first_letter word → change_count history ≤ change_count word → Covers (capped_word cap word) history
-covers-capped_word cap word history first bound = record {
-  same_first = first;
-  bounded = elim (cases_Bool (nat_le (change_count word) cap)) [
-    | inl within ↦ rw within bound
-    | inr beyond ↦ rw beyond tt
-  ];
-}
 
 -- what a variable that is no input asks for does not depend on the input
-same-driver_value-input : (input other state : List Bool) (driver : Driver) → ((place : ℕ) → driver ≡ External place → ⊥) → driver_value input state driver ≡ driver_value other state driver
+pub same-driver_value-input : (input other state : List Bool) (driver : Driver) → ((place : ℕ) → driver ≡ External place → ⊥) → driver_value input state driver ≡ driver_value other state driver
 same-driver_value-input input other state (External place) no_input = absurd (no_input place refl)
 same-driver_value-input input other state (Function kind first pins) no_input = refl
 same-driver_value-input input other state (Source node) no_input = refl
@@ -47,17 +29,16 @@ input_word-first true false = refl
 input_word-first false true = refl
 input_word-first false false = refl
 
-input_word-changes : (old new : Bool) → change_between old new ≡ change_count (input_word old new)
-input_word-changes true true = refl
-input_word-changes true false = refl
-input_word-changes false true = refl
-input_word-changes false false = refl
+pub source-place : (node place : ℕ) → Source node ≡ External place → ⊥
+source-place node place e = cc
 
--- a word that follows a variable
-pub record IsFollowed (net : List Driver) (input start : List Bool) (i : ℕ) (word : List Bool) : Type 0 where
+pub function-place : (kind : Kind) (first pins place : ℕ) → Function kind first pins ≡ External place → ⊥
+function-place kind first pins place e = cc
+
+-- a word that begins as a variable
+pub record IsFollowed (start : List Bool) (i : ℕ) (word : List Bool) : Type 0 where
   pub is_word : IsWord word
   pub first : first_letter word ≡ bit_at start i
-  pub bound : (steps : List (List ℕ)) → IsRun net input start steps → changes_along (λ s. bit_at s i) start steps ≤ change_count word
 
 module _ (netlist : Netlist) (circuit : IsCircuit netlist) (input start : List Bool) (whole : length start ≡ length (network_of netlist)) (stable : IsStable (network_of netlist) (take netlist.inputs start) start) (words : List (List Bool)) (are : AreVariableWords (network_of netlist) input start words) where
   wired : IsWired (network_of netlist)
@@ -67,55 +48,29 @@ module _ (netlist : Netlist) (circuit : IsCircuit netlist) (input start : List B
   word_at i = get_or words i []
 
   Is : ℕ → Type 0
-  Is i = IsFollowed (network_of netlist) input start i (get_or words i [])
+  Is i = IsFollowed start i (get_or words i [])
 
   -- a variable that is no input begins with the value that it asks for
   begins-stable : (i : ℕ) → i < length (network_of netlist) → ((place : ℕ) → driver_at (network_of netlist) i ≡ External place → ⊥) → bit_at start i ≡ excitation (network_of netlist) input start i
   begins-stable i few no_input =
       stable i few ∙ same-driver_value-input (take netlist.inputs start) input start (driver_at (network_of netlist) i) no_input
 
-  -- a variable that is no input changes at most as often as its excitation
-  follows : (i : ℕ) → i < length (network_of netlist) → ((place : ℕ) → driver_at (network_of netlist) i ≡ External place → ⊥) → (steps : List (List ℕ)) → IsRun (network_of netlist) input start steps → changes_along (λ s. bit_at s i) start steps ≤ changes_along (λ s. excitation (network_of netlist) input s i) start steps
-  follows i few no_input steps run =
-      let late = delay (network_of netlist) input i start steps (omega arith) run in
-      let none : change_between (bit_at start i) (excitation (network_of netlist) input start i) ≡ 0 =
-      rw (begins-stable i few no_input) (change-same (excitation (network_of netlist) input start i)) in
-      omega arith
-
-  follows-input : (i place : ℕ) → i < length (network_of netlist) → driver_at (network_of netlist) i ≡ External place → get_or words i [] ≡ input_word (bit_at start i) (bit_at input place) → IsFollowed (network_of netlist) input start i (get_or words i [])
+  follows-input : (i place : ℕ) → i < length (network_of netlist) → driver_at (network_of netlist) i ≡ External place → get_or words i [] ≡ input_word (bit_at start i) (bit_at input place) → IsFollowed start i (get_or words i [])
   follows-input i place few driven_by word_is =
-      subst (λ (w : List Bool). IsFollowed (network_of netlist) input start i w) (sym word_is) (record {
+      subst (λ (w : List Bool). IsFollowed start i w) (sym word_is) (record {
         is_word = input_word-IsWord (bit_at start i) (bit_at input place);
         first = input_word-first (bit_at start i) (bit_at input place);
-        bound = λ steps run.
-            let late = delay (network_of netlist) input i start steps (omega arith) run in
-            let constant = constant-along (λ s. excitation (network_of netlist) input s i) (bit_at input place) start steps (λ s. ap (driver_value input s) driven_by) in
-            let asked : excitation (network_of netlist) input start i ≡ bit_at input place = ap (driver_value input start) driven_by in
-            let same : change_between (bit_at start i) (excitation (network_of netlist) input start i) ≡ change_between (bit_at start i) (bit_at input place) = rw asked refl in
-            let counted = input_word-changes (bit_at start i) (bit_at input place) in
-            omega arith;
       })
 
-  source-place : (node place : ℕ) → Source node ≡ External place → ⊥
-  source-place node place e = cc
-
-  follows-wire : (i node : ℕ) → i < length (network_of netlist) → driver_at (network_of netlist) i ≡ Source node → get_or words i [] ≡ get_or words node [] → IsFollowed (network_of netlist) input start node (get_or words node []) → IsFollowed (network_of netlist) input start i (get_or words i [])
+  follows-wire : (i node : ℕ) → i < length (network_of netlist) → driver_at (network_of netlist) i ≡ Source node → get_or words i [] ≡ get_or words node [] → IsFollowed start node (get_or words node []) → IsFollowed start i (get_or words i [])
   follows-wire i node few driven_by word_is source =
       let no_input : (place : ℕ) → driver_at (network_of netlist) i ≡ External place → ⊥ = λ place e. source-place node place (sym driven_by ∙ e) in
-      subst (λ (w : List Bool). IsFollowed (network_of netlist) input start i w) (sym word_is) (record {
+      subst (λ (w : List Bool). IsFollowed start i w) (sym word_is) (record {
         is_word = source.is_word;
         first = source.first ∙ sym (begins-stable i few no_input ∙ ap (driver_value input start) driven_by);
-        bound = λ steps run.
-            let late = follows i few no_input steps run in
-            let same = same-along (λ s. excitation (network_of netlist) input s i) (λ s. bit_at s node) start steps (λ s. ap (driver_value input s) driven_by) in
-            let bound = source.bound steps run in
-            omega arith;
       })
 
   module _ (netlist_whole : IsWhole netlist) where
-    function-place : (kind : Kind) (first pins place : ℕ) → Function kind first pins ≡ External place → ⊥
-    function-place kind first pins place e = cc
-
     module _ (i : ℕ) (kind : Kind) (first pins : ℕ) (few : i < length (network_of netlist)) (driven_by : driver_at (network_of netlist) i ≡ Function kind first pins) where
       -- the words of the wires
       abbrev wires : List (List Bool)
@@ -139,7 +94,7 @@ module _ (netlist : Netlist) (circuit : IsCircuit netlist) (input start : List B
           subst (λ (n : ℕ). IsTrue (takes kind n)) (gate.pins_are ∙ sym length-wires)
           (subst (λ (k : Kind). IsTrue (takes k (length (gate_at netlist i).sources))) gate.same_kind (takes-at_gate netlist i circuit netlist_whole gate.is_gate))
 
-      module _ (followed : (k : ℕ) → k < pins → IsFollowed (network_of netlist) input start (first + k) (get_or words (first + k) [])) where
+      module _ (followed : (k : ℕ) → k < pins → IsFollowed start (first + k) (get_or words (first + k) [])) where
         pub wires-AreWords : AreWords (slice_range words first (first + pins))
         wires-AreWords = AreWords-each (slice_range words first (first + pins)) (λ k less.
             let less' : k < pins = omega (arith, less, length-wires) in
@@ -154,44 +109,23 @@ module _ (netlist : Netlist) (circuit : IsCircuit netlist) (input start : List B
             ∙ (ap first_letter (at-part words first pins k [] less')
             ∙ ((followed k less').first ∙ sym (at-part start first pins k false less'))))
 
-        follows-gate : IsWordOf kind (slice_range words first (first + pins)) (get_or words i []) → IsFollowed (network_of netlist) input start i (get_or words i [])
+        follows-gate : IsWordOf kind (slice_range words first (first + pins)) (get_or words i []) → IsFollowed start i (get_or words i [])
         follows-gate is_word =
             let no_input : (place : ℕ) → driver_at (network_of netlist) i ≡ External place → ⊥ = λ place e. function-place kind first pins place (sym driven_by ∙ e) in
             record {
               is_word = is_word.is_word;
               first = is_word.begins ∙ (ap (gate_value kind) wires-present ∙ sym (begins-stable i few no_input ∙ ap (driver_value input start) driven_by));
-              bound = λ steps run.
-                  let late = follows i few no_input steps run in
-                  let same = same-along (λ s. excitation (network_of netlist) input s i) (λ s. gate_value kind (slice_range s first (first + pins))) start steps (λ s. ap (driver_value input s) driven_by) in
-                  let part = part-along (gate_value kind) (λ s. slice_range s first (first + pins)) (length (network_of netlist)) (slice_range words first (first + pins)) start steps wires-AreWords wires-present whole length-row
-                  (λ k less.
-                  let less' : k < pins = omega (arith, less, length-wires) in
-                  let column = same-along (λ s. get_or (slice_range s first (first + pins)) k false) (λ s. bit_at s (first + k)) start steps (λ s. at-part s first pins k false less') in
-                  let bound = (followed k less').bound steps run in
-                  let word : change_count (get_or (slice_range words first (first + pins)) k []) ≡ change_count (get_or words (first + k) []) = ap change_count (at-part words first pins k [] less') in
-                  omega arith) in
-                  let counted = part.2 in
-                  let bound = part-IsWordOf kind (slice_range words first (first + pins)) wires-AreWords (takes-HasPins kind (length (slice_range words first (first + pins))) takes-wires) (get_or words i []) is_word part.0 part.1 in
-                  omega arith;
             }
 
     -- every feedback-free variable
-    follows-by : (i : ℕ) → i < length (network_of netlist) → (driver : Driver) → driver_at (network_of netlist) i ≡ driver → IsDrivenWord input start words i driver (get_or words i []) → ((j : ℕ) → Reads driver j → IsFollowed (network_of netlist) input start j (get_or words j [])) → IsFollowed (network_of netlist) input start i (get_or words i [])
+    follows-by : (i : ℕ) → i < length (network_of netlist) → (driver : Driver) → driver_at (network_of netlist) i ≡ driver → IsDrivenWord input start words i driver (get_or words i []) → ((j : ℕ) → Reads driver j → IsFollowed start j (get_or words j [])) → IsFollowed start i (get_or words i [])
     follows-by i few (External place) driven_by word_is reads = follows-input i place few driven_by word_is
     follows-by i few (Source node) driven_by word_is reads = follows-wire i node few driven_by word_is (reads node refl)
     follows-by i few (Function kind first pins) driven_by word_is reads =
         follows-gate i kind first pins few driven_by (λ k less. reads (first + k) (omega arith, omega arith)) word_is
 
-    pub free-followed : (i : ℕ) → i < length (network_of netlist) → IsFeedbackFree (network_of netlist) i → IsFollowed (network_of netlist) input start i (get_or words i [])
+    pub free-followed : (i : ℕ) → i < length (network_of netlist) → IsFeedbackFree (network_of netlist) i → IsFollowed start i (get_or words i [])
     free-followed i few free =
-        free-induction (network_of netlist) wired (λ j. IsFollowed (network_of netlist) input start j (get_or words j []))
+        free-induction (network_of netlist) wired (λ j. IsFollowed start j (get_or words j []))
         (λ j few_j free_j reads. follows-by j few_j (driver_at (network_of netlist) j) refl (are.each j few_j free_j) reads)
         i few free
-
-    pub free-covered : (cap i : ℕ) (steps : List (List ℕ)) → i < length (network_of netlist) → IsFeedbackFree (network_of netlist) i → IsRun (network_of netlist) input start steps → Covers (capped_word cap (get_or words i [])) (variable_history start steps i)
-    free-covered cap i steps few free run =
-        let followed = free-followed i few free in
-        let count = change_count-history start steps i in
-        let bound = followed.bound steps run in
-        covers-capped_word cap (get_or words i []) (variable_history start steps i)
-        (first_letter-history start steps i ∙ sym followed.first) (omega arith)

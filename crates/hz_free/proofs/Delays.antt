@@ -1,5 +1,6 @@
--- A variable follows its excitation: along a run it changes at most as often, but for one change if it began unstable.
-use Rattle.std.proofs.Common.{◌≡◌, ◌≢◌, ℕ, ◌+◌, ◌<◌, ◌≤◌, Bool, true, false, not, cond, List, [], ◌∷◌, map, length, refl, arith, inl, inr}
+-- A variable follows its excitation: along a run it changes at most as often as that did one step before, but for one change if it
+-- began unstable.
+use Rattle.std.proofs.Common.{◌≡◌, ◌≢◌, ℕ, zero, suc, ◌+◌, ◌<◌, ◌≤◌, Bool, true, false, not, cond, List, [], ◌∷◌, map, length, take, refl, arith, inl, inr}
 use Rattle.std.specs.Bool.{beq}
 use Rattle.std.proofs.lemmas.Bool.{cases_Bool, false≢true}
 use Rattle.hz_net.specs.Network.{Driver, bit_at, excitation}
@@ -57,14 +58,31 @@ delay-step x e x' e' later later_e false unstable moves bound =
     let triangle = change-triangle x e e' in
     omega arith
 
--- along a run
-pub delay : (net : List Driver) (input : List Bool) (i : ℕ) (state : List Bool) (steps : List (List ℕ)) → i < length state → IsRun net input state steps → changes_along (λ s. bit_at s i) state steps ≤ changes_along (λ s. excitation net input s i) state steps + change_between (bit_at state i) (excitation net input state i)
-delay net input i state [] inside run = omega arith
-delay net input i state (flips ∷ steps) inside run =
+-- the last step: a variable that changes takes the value of its excitation
+last-step : (x e x' : Bool) (flips_it : Bool) → (flips_it ≡ true → x ≢ e) → x' ≡ cond flips_it (not x) x → change_between x x' ≤ change_between x e
+last-step x e x' true unstable moves =
+    let e_is : e ≡ not x = other x e (unstable refl) in
+    let x_is : x' ≡ not x = moves in
+    let same : change_between x x' ≡ change_between x e = rw (e_is, x_is) refl in
+    omega arith
+last-step x e x' false unstable moves =
+    let x_is : x' ≡ x = moves in
+    let none : change_between x x' ≡ 0 = rw x_is (change-same x) in
+    omega arith
+
+-- along the first steps of a run: those of the excitation are counted up to one step less
+pub delay-before : (net : List Driver) (input : List Bool) (i : ℕ) (state : List Bool) (steps : List (List ℕ)) (k : ℕ) → i < length state → IsRun net input state steps → changes_along (λ s. bit_at s i) state (take (suc k) steps) ≤ changes_along (λ s. excitation net input s i) state (take k steps) + change_between (bit_at state i) (excitation net input state i)
+delay-before net input i state [] zero inside run = omega arith
+delay-before net input i state [] (suc k) inside run = omega arith
+delay-before net input i state (flips ∷ steps) zero inside run =
+    let moved = last-step (bit_at state i) (excitation net input state i) (bit_at (state_after flips state) i)
+    (is_listed flips i) (λ listed. run.0.unstable i listed) (at-state_after flips state i inside) in
+    omega arith
+delay-before net input i state (flips ∷ steps) (suc k) inside run =
     let inside' : i < length (state_after flips state) = omega (arith, length-state_after flips state) in
-    let later = delay net input i (state_after flips state) steps inside' run.1 in
+    let later = delay-before net input i (state_after flips state) steps k inside' run.1 in
     delay-step (bit_at state i) (excitation net input state i) (bit_at (state_after flips state) i) (excitation net input (state_after flips state) i)
-    (changes_along (λ s. bit_at s i) (state_after flips state) steps) (changes_along (λ s. excitation net input s i) (state_after flips state) steps)
+    (changes_along (λ s. bit_at s i) (state_after flips state) (take (suc k) steps)) (changes_along (λ s. excitation net input s i) (state_after flips state) (take k steps))
     (is_listed flips i) (λ listed. run.0.unstable i listed) (at-state_after flips state i inside) later
 
 -- a value that stays does not change

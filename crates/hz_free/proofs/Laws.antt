@@ -13,13 +13,14 @@ use Rattle.hz_word.specs.Capped.{capped_word}
 use Rattle.hz_word.specs.Covers.{Covers}
 use Rattle.hz_free.specs.Chains.{IsFeedbackFree}
 use Rattle.hz_free.specs.VariableWords.{AreVariableWords, variable_history}
-use Rattle.hz_free.proofs.Covered.{free-followed, free-covered}
+use Rattle.hz_free.proofs.Covered.{free-followed}
+use Rattle.hz_free.proofs.Enough.{free-covered}
 use Rattle.hz_free.proofs.Agreement.{IsFixed, fixed-result, free-ends}
 use Rattle.hz_free.proofs.Changing.{change-unknown}
 
 pub covered : (netlist : Netlist) (input start : List Bool) (words : List (List Bool)) (cap i : ℕ) (steps : List (List ℕ)) → IsCircuit netlist → IsWhole netlist → IsStableStart netlist start → AreVariableWords (network_of netlist) input start words → i < length (network_of netlist) → IsFeedbackFree (network_of netlist) i → IsRun (network_of netlist) input start steps → Covers (capped_word cap (get_or words i [])) (variable_history start steps i)
 covered netlist input start words cap i steps circuit netlist_whole begins are few free run =
-    free-covered netlist circuit input start begins.long begins.stable words are netlist_whole cap i steps few free run
+    free-covered netlist circuit netlist_whole input start begins words are cap i steps few free run
 
 pub begun : (netlist : Netlist) (input start : List Bool) (words : List (List Bool)) (i : ℕ) → IsCircuit netlist → IsWhole netlist → IsStableStart netlist start → AreVariableWords (network_of netlist) input start words → i < length (network_of netlist) → IsFeedbackFree (network_of netlist) i → first_letter (get_or words i []) ≡ bit_at start i
 begun netlist input start words i circuit netlist_whole begins are few free =

@@ -38,12 +38,18 @@ pub mod GateWords
 pub mod NextWord
 -- The words one after the other: one more, and all
 pub mod AllWords
--- A variable follows its excitation: along a run it changes at most as often, but for one change if it began unstable
+-- A variable follows its excitation: along a run it changes at most as often as that did one step before, but for one change if it began unstable
 pub mod Delays
 -- Rows of letters that change along a run are a part of a walk, if each column changes at most as often as its word
 pub mod Columns
--- Along every run the history of a feedback-free variable begins as its word and has at most as many changes
+-- The words of the feedback-free variables are words, and begin as the variables at the start
 pub mod Covered
+-- Along every run each word that is told covers the history of its variable
+pub mod Inductively
+-- The words of the feedback-free variables are enough for these, whatever the other variables are told
+pub mod FreeWords
+-- What is enough for a variable: many changes for each, and none for one that Algorithm A keeps
+pub mod Enough
 -- A walk ends at the last letters: so the word of a gate ends with the gate value of the last letters
 pub mod LastLetters
 -- The words agree with the passes: a word ends with B's value, and it has a change exactly where A is X

@@ -16,6 +16,7 @@ use Rattle.hz_net.specs.declared.entry.Entry.TheVariants.{Input as InputEntry, G
 use Rattle.hz_net.specs.declared.variable.VarKind.{VarKind}
 use Rattle.hz_net.proofs.Places.{length-network_of, length-entries_of, driver_at-entry, variable_kinds-entry, IsEntryAt-entries_of}
 use Rattle.hz_lists.proofs.PartLemmas.{length-part, at-part}
+use Rattle.hz_word.proofs.Stretched.{counted-capped_count}
 use Rattle.hz_word.specs.declared.word.Word.{Word}
 use Rattle.hz_word.specs.Word.{IsWord, AreWords, change_count}
 use Rattle.hz_word.specs.Capped.{capped_word, capped_count, IsWithinCap}
@@ -67,13 +68,6 @@ node-driven folding node kind can few seen =
 pub AreWords-each : (words : List (List Bool)) → ((k : ℕ) → k < length words → IsWord (get_or words k [])) → AreWords words
 AreWords-each [] each = tt
 AreWords-each (word ∷ words) each = (each 0 (omega arith), AreWords-each words (λ k few. each (suc k) (omega arith)))
-
-counted-capped_count : (cap n : ℕ) → IsWithinCap cap (capped_count cap n)
-counted-capped_count cap n =
-    elim (cases_Bool (nat_le n cap)) [
-      | inl within ↦ rw within (leb-true n cap within)
-      | inr beyond ↦ rw beyond tt
-    ]
 
 -- the word of an input
 pub input_word-IsWord : (old new : Bool) → IsWord (input_word old new)

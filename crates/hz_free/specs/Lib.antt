@@ -5,6 +5,10 @@
 -- AreVariableWords net input start words: each feedback-free variable has its word
 -- AreCappedWords net input start cap words: the capped forms, and None for the other variables
 -- variable_history start steps i: the history of variable i along a run
+-- told_at told i: the word that is told of variable i
+-- GivesWord input start cap told i driver word: the word that a driver gives variable i by what is told
+-- IsToldEnough net input start cap told i: the word of variable i is at least what its driver gives
+-- IsInductive net input start cap told: words of all variables, each of which is told enough
 -- IsChoice net i choice: the first variable that it reads and that is not feedback-free
 -- IsFeedbackCycle net cycle: each variable is the choice of the next, the last of the first, and the least comes first
 -- AreFeedbackCycles net cycles: all of them, by their least variables
@@ -25,6 +29,7 @@
 
 pub mod Chains
 pub mod VariableWords
+pub mod Inductive
 pub mod Order
 pub mod FreePart
 pub mod CappedWords

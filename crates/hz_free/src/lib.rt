@@ -20,12 +20,14 @@ ghost use Rattle.hz_net.specs.Network.{Driver, network_of, bit_at, value_at, IsS
 ghost use Rattle.hz_net.specs.Passes.{algorithm_a, algorithm_b, IsResult};
 ghost use Rattle.hz_net.specs.Starts.{IsStableStart};
 ghost use Rattle.hz_gmw.specs.Runs.{IsRun};
+ghost use Rattle.hz_word.specs.declared.word.Word.{Word};
 ghost use Rattle.hz_word.specs.Word.{first_letter, last_letter, change_count};
 ghost use Rattle.hz_word.specs.Capped.{capped_word};
 ghost use Rattle.hz_word.specs.Covers.{Covers};
 ghost use Rattle.hz_free.specs.Chains.{IsFeedbackFree};
 ghost use Rattle.hz_free.specs.Feedback.{AreFeedbackCycles, IsCore};
 ghost use Rattle.hz_free.specs.FreePart.{MarksExist};
+ghost use Rattle.hz_free.specs.Inductive.{IsInductive, told_at};
 ghost use Rattle.hz_free.specs.VariableWords.{AreVariableWords, WordsExist, variable_history};
 
 mod cycles;
@@ -38,6 +40,16 @@ mod words;
 
 pub use free::Free;
 pub use packed::PackedWord;
+
+/// Along every run from a stable start under the new input, a word of inductive words covers the history of its variable, whatever
+/// reads what.
+pub fn inductive_covers()
+    ensures { (netlist : Netlist) (input start : List Bool) (cap : ℕ) (told : List Word) (i : ℕ)
+        (steps : List (List ℕ)) → IsCircuit netlist → IsWhole netlist →
+        IsStableStart netlist start → IsInductive (network_of netlist) input start cap told →
+        IsVariable netlist i → IsRun (network_of netlist) input start steps →
+        Covers (told_at told i) (variable_history start steps i) }
+{}
 
 /// Along every run from a stable start under the new input, the word of a feedback-free variable covers its history.
 pub fn words_cover()

@@ -3,12 +3,15 @@
 //!
 //! | Module | What is tested in it |
 //! |---|---|
+//! | `edges` | how often nodes change, from above and from below |
 //! | `gates` | the tables of the gates, and the canonical pattern |
 //! | `passes` | Algorithms A and B, and the runs that show what they find |
 //! | `replays` | what a replayer knows of each state of a run |
 //! | `words` | feedback cycles, and the words of the other variables |
 #![tactic(auto)]
 
+#[cfg(test)]
+mod edges;
 #[cfg(test)]
 mod gates;
 #[cfg(test)]

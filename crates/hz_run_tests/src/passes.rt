@@ -72,14 +72,14 @@ fn found_from(alloc: Global, net: &Net, start: &[bool], input: &[bool]) -> Resul
 
 // The ranks, the rounds in which variables settle, and room for a round.
 #[derive(Drop)]
-struct Room {
-    ranks: Vec<u32>,
-    when: Vec<u32>,
-    work: Vec<Tri>,
-    front: Front,
+pub(crate) struct Room {
+    pub(crate) ranks: Vec<u32>,
+    pub(crate) when: Vec<u32>,
+    pub(crate) work: Vec<Tri>,
+    pub(crate) front: Front,
 }
 
-fn make_passes<L: Ledger>(
+pub(crate) fn make_passes<L: Ledger>(
     change: &Change,
     a: &mut [Tri],
     b: &mut [Tri],

@@ -20,5 +20,9 @@ pub mod Forms
 pub mod Folds
 -- The laws that callers of this crate use: one word, parts of walks bounded by it, and completed
 pub mod Laws
+-- Numbers of changes that are at most others
+pub mod AtMost
+-- Words whose capped forms are given, as long as a run needs
+pub mod Stretched
 -- Walks, histories and capped forms worked by hand: the definitions compute them
 mod Examples

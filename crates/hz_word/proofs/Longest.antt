@@ -17,11 +17,11 @@ abbrev pub alternating : Bool → ℕ → List Bool
 alternating letter zero = letter ∷ []
 alternating letter (suc n) = letter ∷ alternating (not letter) n
 
-not-other : (letter : Bool) → not letter ≡ letter → ⊥
+pub not-other : (letter : Bool) → not letter ≡ letter → ⊥
 not-other true e = cc
 not-other false e = cc
 
-alternating-IsWord : (letter : Bool) (n : ℕ) → IsWord (alternating letter n)
+pub alternating-IsWord : (letter : Bool) (n : ℕ) → IsWord (alternating letter n)
 alternating-IsWord letter zero = tt
 alternating-IsWord letter (suc zero) = (not-other letter, tt)
 alternating-IsWord letter (suc (suc n)) = (not-other letter, alternating-IsWord (not letter) (suc n))

@@ -29,6 +29,13 @@ abbrev pub IsWithinCap : ℕ → Count → Type 0
 IsWithinCap cap (Exact changes) = changes ≤ cap
 IsWithinCap cap Many = Unit {0}
 
+-- a number of changes is at most another
+abbrev pub IsAtMost : Count → Count → Type 0
+IsAtMost (Exact less) (Exact more) = less ≤ more
+IsAtMost Many (Exact more) = ⊥
+IsAtMost (Exact less) Many = Unit {0}
+IsAtMost Many Many = Unit {0}
+
 -- For all words whose capped forms are the pins, there is the word of the kind over them, and this is its capped form.
 abbrev pub IsFold : Kind → List Word → ℕ → Word → Type 0
 IsFold kind pins cap outcome =

@@ -12,6 +12,7 @@
 -- IsWordOf kind words word: the word of a gate over the words of its pins: no walk has more changes, and one has as many
 -- greatest_cap: the greatest cap on numbers of changes
 -- capped_word cap word: the first letter, and the number of changes if it is at most the cap
+-- IsAtMost less more: a number of changes under a cap is at most another
 -- IsFold kind pins cap outcome: the capped word of a gate, for all words whose capped forms are the pins
 -- history_of values: the values of a variable, with equal neighbours reduced to one
 -- Covers word history: the capped word begins like the history, and bounds its changes

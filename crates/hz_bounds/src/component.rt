@@ -1,0 +1,141 @@
+//! The order in which words are raised: component by component of what moves, so that what stands behind a cycle is told when the
+//! cycle is done. The order decides how many words stay exact, and nothing is promised of it.
+ghost use Rattle.std.specs.Prelude.{◌≡◌, length, OnOk};
+ghost use Rattle.hz_net.specs.Network.{network_of};
+ghost use Rattle.hz_bounds.specs.Telling.{AreToldSoFar, CanBeTold};
+
+use crate::telling::{Telling, known, raise};
+use hz_core::Memory;
+use hz_net::VarKind;
+use hz_witness::components_of;
+use hz_word::Word;
+use std::alloc::Global;
+
+/// The variables whose words are not known, each with the number of its component, by that and then by variable.
+pub(crate) fn by_component(alloc: Global, telling: &Telling) -> Result<Vec<(u32, u32)>, Memory>
+    requires telling { CanBeTold telling.now }
+{
+    let moves = unknown(alloc, telling)?;
+    let parts = components_of(alloc, telling.net, moves.as_slice())?;
+    let mut order = Vec::new(alloc);
+    for var in 0..telling.net.len() {
+        if known(telling, var).is_none() {
+            order.push((part_of(telling, parts.as_slice(), var), var))?;
+        }
+    }
+    order.sort_unstable();
+    Ok(order)
+}
+
+// Which variables have no word that is known.
+fn unknown(alloc: Global, telling: &Telling) -> Result<Vec<bool>, Memory>
+    requires telling { CanBeTold telling.now }
+{
+    let mut unknown = Vec::new(alloc);
+    for var in 0..telling.net.len() {
+        unknown.push(known(telling, var).is_none())?;
+    }
+    Ok(unknown)
+}
+
+// The component of a variable. A wire is in that of the gate that reads it.
+fn part_of(telling: &Telling, parts: &[u32], var: u32) -> u32 {
+    if var >= telling.net.len() {
+        return 0;
+    }
+    let node = match telling.net.kind_of(var) {
+        VarKind::Wire { gate, .. } => gate,
+        VarKind::Input { .. } => var,
+        VarKind::Gate { .. } => var,
+    };
+    match parts.get(node as usize) {
+        Some(part) => *part,
+        None => 0,
+    }
+}
+
+/// Raises words in this order, those of a component until each is enough.
+pub(crate) fn raise_in_order(
+    alloc: Global,
+    telling: &Telling,
+    order: &Vec<(u32, u32)>,
+    told: &mut [Word],
+) -> Result<(), Memory>
+    requires telling { CanBeTold telling.now }
+    requires told { AreToldSoFar telling.now told.old }
+    ensures { AreToldSoFar telling.now told.new }
+{
+    let mut raising = Raising {
+        parts: vec![in alloc; 0; telling.net.len() as usize]?,
+        rises: vec![in alloc; 0; telling.net.len() as usize]?,
+        due: Vec::new(alloc),
+        part: 0,
+    };
+    for (part, var) in order {
+        raising.note(*part, *var);
+    }
+    for (part, var) in order {
+        if *part != raising.part {
+            raising.raise_due(telling, told)?;
+            raising.part = *part;
+        }
+        raising.due.push(*var)?;
+    }
+    raising.raise_due(telling, told)
+}
+
+// What is due in a component, how often each word has grown, and the component of each variable.
+#[derive(Drop)]
+struct Raising {
+    parts: Vec<u32>,
+    rises: Vec<u8>,
+    due: Vec<u32>,
+    part: u32,
+}
+
+impl Raising {
+    // Notes the component of a variable.
+    fn note(&mut self, part: u32, var: u32) {
+        let place = var as usize;
+        if place < self.parts.len() {
+            self.parts[place] = part;
+        }
+    }
+
+    // Raises what is due, and what reads what was raised in the same component, as often as it takes.
+    fn raise_due(&mut self, telling: &Telling, told: &mut [Word]) -> Result<(), Memory>
+        requires telling { CanBeTold telling.now }
+        requires told { AreToldSoFar telling.now told.old }
+        ensures { AreToldSoFar telling.now told.new }
+    {
+        for place in 0..usize::MAX {
+            if place >= self.due.len() {
+                break;
+            }
+            let var = self.due[place];
+            if var < telling.net.len()
+                && self.rises.len() == told.len()
+                && raise(telling, self.rises.as_mut_slice(), told, var)
+            {
+                self.add_readers(telling, var)?;
+            }
+        }
+        self.due.clear();
+        Ok(())
+    }
+
+    // What reads a variable in the same component is due.
+    fn add_readers(&mut self, telling: &Telling, var: u32) -> Result<(), Memory> {
+        if var >= telling.net.len() {
+            return Ok(());
+        }
+        for reader in telling.net.readers(var) {
+            if let Some(part) = self.parts.get(*reader as usize)
+                && *part == self.part
+            {
+                self.due.push(*reader)?;
+            }
+        }
+        Ok(())
+    }
+}

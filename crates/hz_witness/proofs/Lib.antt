@@ -1,0 +1,8 @@
+-- What holds below a number, and of it
+pub mod Below
+-- One flip more of a run that is tried, and how often it changes each variable
+pub mod Tried
+-- One more flip of a step that is counted, and one more step of a run
+pub mod Counted
+-- What was tried is a witness, if it shows the nodes and has settled
+pub mod Shown
