@@ -4,9 +4,13 @@ pub mod Still
 pub mod Given
 -- What is known, what is told many changes, and what keeps what is known
 pub mod Known
+-- Words for all variables that are inductive
+pub mod WordsTold
 -- A gate that is pushed one way by pins that change at most once changes at most once
 pub mod OneWayFold
 -- A gate that is pushed two ways changes at least twice along some walk
 pub mod TwoWayFold
 -- Where what is told and what the witness shows meet, the number is exact
 pub mod Meeting
+-- A gate whose word has two changes or more is turned by pins that went, and turned back by more, or by one that returns
+pub mod TurnedBack
