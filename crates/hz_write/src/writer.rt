@@ -1,5 +1,5 @@
 //! A writer of lines, which keeps its first fault.
-ghost use Rattle.std.specs.Prelude.{◌≡◌, [], ◌++◌, map, decimal};
+ghost use Rattle.std.specs.Prelude.{true, ◌≡◌, [], ◌++◌, map, decimal};
 ghost use Rattle.std.specs.List.{flat_map};
 ghost use Rattle.hz_write.specs.Pieces.{piece_text};
 ghost use Rattle.hz_write.specs.Writer.{Begins, Writes, NoneWaits, Finishes, has_failed};
@@ -194,6 +194,17 @@ impl<'k, K: Sink> Writer<'k, K> {
         ensures { result ≡ has_failed self.now }
     {
         self.fault.is_some()
+    }
+
+    /// Gives up: nothing more is put, as after a put for which memory was too short. So a caller says that its own work ran out of memory.
+    pub fn give_up(&mut self)
+        ensures gave { Writes K.output K.faults [] self.old self.new }
+        ensures failed { has_failed self.new ≡ true }
+    {
+        if self.fault.is_some() {
+            return;
+        }
+        self.fault = Some(PutFault::Memory);
     }
 
     /// Puts what waits, and returns the first fault.
