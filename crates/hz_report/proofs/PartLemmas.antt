@@ -2,11 +2,10 @@
 use Rattle.std.proofs.Common.{◌≡◌, ◌∙◌, refl, sym, ap, subst, ℕ, zero, suc, ◌+◌, ◌-◌, ◌<◌, ◌≤◌, List, [], ◌∷◌, ◌++◌, length, map, take, drop, set, get_or, slice_get, Some, append_assoc, arith, zero-add}
 use Rattle.std.proofs.Math.Numerals.{add-one}
 use Rattle.std.specs.List.{between}
-use Rattle.std.proofs.lemmas.List.{append-nil, length-append, length-map, map-append, take_at, drop_at, take_all, take-append-drop, take-take, drop-take, drop-drop, take-set, drop-set, set-get_or, length-take-le}
+use Rattle.std.proofs.lemmas.List.{append-nil, length-append, length-map, map-append, take_at, drop_at, take-append-drop, take-take, drop-take, drop-drop, take-set, drop-set, set-get_or, length-take-le}
 use Rattle.std.proofs.lemmas.List.Edits.{between_none, between_more, length-between}
 use Rattle.std.proofs.lemmas.List.FromFn.{get_or-map-range_with_len, map-range_with_len_more, length-map-range_with_len}
 use Rattle.std.proofs.lemmas.Option.{get_or_from_slice_get}
-use Rattle.std.proofs.lemmas.Slice.{between_from_start}
 use Rattle.hz_report.specs.Kept.{parts_text, part_place, AreWide, ArePartsOf, AreParts}
 
 -- parts after parts

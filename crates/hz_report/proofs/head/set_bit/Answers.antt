@@ -1,5 +1,5 @@
 -- The letter of a node stands before the end of its word, which is in the text.
-use Rattle.std.proofs.Common.{◌+◌, length, arith}
+use Rattle.std.proofs.Common.{◌+◌, arith}
 use Rattle.hz_report.proofs.KeptLemmas.{bit-set, bit-room, bit-end, bit-stays, length-bits, length-places}
 use Rattle.hz_report.proofs.head.set_bit.Goals as goal
 

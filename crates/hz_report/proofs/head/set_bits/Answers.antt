@@ -1,5 +1,5 @@
 -- Sixteen bits that stay are those of the list as they are.
-use Rattle.std.proofs.Common.{◌≤◌, length, refl, arith}
+use Rattle.std.proofs.Common.{refl, arith}
 use Rattle.hz_report.proofs.KeptLemmas.{length-bits, many-more}
 use Rattle.hz_report.proofs.head.set_bits.Goals as goal
 

@@ -1,5 +1,5 @@
 -- The words of the first nodes, and the end of the line.
-use Rattle.std.proofs.Common.{◌≡◌, ◌≤◌, refl, sym, length, take, get_or, arith}
+use Rattle.std.proofs.Common.{refl, sym, length, get_or, arith}
 use Rattle.std.proofs.lemmas.List.{length-take-le}
 use Rattle.hz_write.proofs.Writers.{writes_same, writes_then}
 use Rattle.hz_report.proofs.KeptLemmas.{bit-end, length-places, words-front}

@@ -1,5 +1,5 @@
 -- Nodes that stay, eight at a time or one.
-use Rattle.std.proofs.Common.{◌≤◌, refl, arith}
+use Rattle.std.proofs.Common.{refl, arith}
 use Rattle.hz_report.proofs.ShownLemmas.{shown-more}
 use Rattle.hz_report.proofs.rows.first_not_shown.Goals as goal
 

@@ -1,9 +1,6 @@
 -- What stands in front, and the class.
 use Rattle.hz_write.proofs.Writers.{writes_then}
-use Rattle.hz_text.specs.Printed.{letter_of}
 use Rattle.hz_text.proofs.VariableWords.{named_word}
-use Rattle.hz_report.specs.Report.{changes_word, class_word}
-use Rattle.hz_core.specs.Letters.{tri_letter}
 use Rattle.hz_report.proofs.RowLemmas.{rare-line}
 use Rattle.hz_report.proofs.rows.write_rare_row.Goals as goal
 
