@@ -1,7 +1,6 @@
-use Rattle.std.proofs.Common.{inl, inr, ap, sym, subst, ◌∙◌, ◌≢◌, Err, Option, Some, List, ℕ, refl, IfSome}
-use Rattle.hz_outside.specs.declared.fault.Place.TheVariants.{First, Second}
+use Rattle.std.proofs.Common.{inl, inr, ap, sym, subst, ◌∙◌, Err, Option, List, ℕ, refl}
+use Rattle.hz_outside.specs.declared.fault.Place.TheVariants.{First}
 use Rattle.hz_outside.specs.declared.fault.LoadFault.TheVariants as load
-use Rattle.hz_refusal.specs.declared.status.Status.{Status}
 use Rattle.hz_refusal.specs.declared.status.Status.TheVariants as status
 use Rattle.hz_refusal.specs.Ends.{Ends}
 use Rattle.hz_top.specs.Outcome.{IsFilesOutcome, IsSecondFileOutcome, observation_of}
