@@ -9,6 +9,8 @@
 -- AreNamesOf definitions uses names: the names are those of these definitions and uses
 -- first_undefined names: the first line that uses a name which no line defines
 -- MayAddPinFrom, AreAdmissibleSteps: the steps of building that may be taken
+-- Drafted, elements_of_draft draft: what a draft has, by the numbers of names, and the elements for which it stands
+-- IsBuildable draft: its elements make a circuit
 -- HoldsNames fields: what the fields of a table of names keep
 
 pub mod Element
@@ -16,3 +18,4 @@ pub mod Circuit
 pub mod Names
 pub mod Table
 pub mod Build
+pub mod Draft
