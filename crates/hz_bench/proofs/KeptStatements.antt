@@ -15,12 +15,10 @@ use Rattle.hz_netlist.specs.declared.draft.Role.TheVariants as role
 use Rattle.hz_netlist.specs.declared.draft.Source.{Source}
 use Rattle.hz_netlist.specs.declared.draft.Source.TheVariants as source
 use Rattle.hz_netlist.specs.Build.{AreWired}
-use Rattle.hz_netlist.specs.Circuit.{circuit_of_elements}
-use Rattle.hz_netlist.specs.Draft.{HasElements, HasOwnName, IsBuildable, ReadsGateBelow, ReadsNameBelow, cut_elements, elements_from, elements_of_draft, gate_name, role_name, source_name}
-use Rattle.hz_netlist.specs.Element.{Element, Input, Cut, Gate, Output, cut_names, cuts_among, data_names, gate_names, gates_among, input_names, output_names, source_names, variable_total}
+use Rattle.hz_netlist.specs.Draft.{HasOwnName, IsBuildable, ReadsGateBelow, ReadsNameBelow, elements_from, gate_name, role_name, source_name}
+use Rattle.hz_netlist.specs.Element.{Element, Input, Cut, Gate, Output, cut_names, data_names, gate_names, gates_among, input_names, output_names, source_names, variable_total}
 use Rattle.hz_netlist.specs.Names.{AreNumbers, Names, first_undefined, name_at, names_at, place_in}
 use Rattle.hz_netlist.proofs.Places.{named-at, number-few}
-use Rattle.hz_netlist.proofs.Sorted.{sorted-circuit, sorted-wired}
 use Rattle.hz_bench.specs.declared.fault.BenchFault.{BenchFault}
 use Rattle.hz_bench.specs.declared.fault.BenchFault.TheVariants as fault
 use Rattle.hz_bench.specs.declared.notes.Notes.{Notes}
@@ -75,26 +73,6 @@ sources-told names made gates (source.Name number ∷ rest) (word ∷ words) nam
 
 first-same : {A : Type 0} (one other : A) (rest more : List A) → one ∷ rest ≡ other ∷ more → (one ≡ other) × (rest ≡ more)
 first-same one other rest more h = (cc h, cc h)
-
--- cuts by their names and by what they read
-cuts-told : (name : ℕ → List ℕ) (made : List (List ℕ)) (cuts : List ℕ) (cut_sources : List Source) (elements : List Element) → map name cuts ≡ cut_names elements → map (source_name name made) cut_sources ≡ data_names elements
-    → (cut_elements name made cuts cut_sources ≡ cuts_among elements) × (length cut_sources ≡ length cuts)
-cuts-told name made [] [] [] h read = (refl, refl)
-cuts-told name made [] (source ∷ cut_sources) [] h read = cc
-cuts-told name made (cut ∷ cuts) cut_sources [] h read = cc
-cuts-told name made cuts cut_sources (Input other ∷ rest) h read = cuts-told name made cuts cut_sources rest h read
-cuts-told name made cuts cut_sources (Gate other kind sources ∷ rest) h read = cuts-told name made cuts cut_sources rest h read
-cuts-told name made cuts cut_sources (Output other ∷ rest) h read = cuts-told name made cuts cut_sources rest h read
-cuts-told name made [] cut_sources (Cut other from ∷ rest) h read = cc
-cuts-told name made (cut ∷ cuts) [] (Cut other from ∷ rest) h read = cc
-cuts-told name made (cut ∷ cuts) (source ∷ cut_sources) (Cut other from ∷ rest) h read =
-    let one = first-same (name cut) other (map name cuts) (cut_names rest) h in
-    let two = first-same (source_name name made source) from (map (source_name name made) cut_sources) (data_names rest) read in
-    let more = cuts-told name made cuts cut_sources rest one.1 two.1 in (
-      ap (λ here. Cut here (source_name name made source) ∷ cut_elements name made cuts cut_sources) one.0
-          ∙ (ap (λ from. Cut other from ∷ cut_elements name made cuts cut_sources) two.0 ∙ ap (λ later. Cut other from ∷ later) more.0),
-      ap suc more.1,
-    )
 
 -- gates by their names, their shapes and what they read
 record AreGates (names : Names) (made : List (List ℕ)) (gates : List GateEntry) (sources : List Source) (elements : List Element) : Type 0 where
@@ -155,9 +133,9 @@ right-pins statements h =
     let d = option_or-none (option_map pins_fault statements.notes.wrong_pins) _ c.1 in
     no-pins statements.notes.wrong_pins d.0
 
--- the draft of a text without fault can be built, and its circuit is that of the text
+-- the circuit of a text without fault can be built of what was read
 pub built : (text : List ℕ) (statements : Statements) → IsParsed text statements → fault_in statements ≡ None → AreWired (elements_of (statements_of text))
-    → IsBuildable (drafted_of statements) × (circuit_of_elements (elements_of_draft (drafted_of statements)) ≡ circuit_of_elements (elements_of (statements_of text)))
+    → IsBuildable (elements_of (statements_of text)) (drafted_of statements)
 built text statements parsed none wired =
     let names = statements.names in
     let all = elements_of (statements_of text) in
@@ -172,26 +150,22 @@ built text statements parsed none wired =
     let gates = numbers-told names (map (λ (gate : GateEntry). gate.output) statements.gates.items) (gate_names all) nodes.gates in
     let sources = sources-told names made (length statements.gates.items) statements.sources.items (source_names all) nodes.named nodes.sources in
     let outputs = numbers-told names statements.outputs.items (output_names all) gathered.outputs in
-    let drawn_cuts = cuts-told (name_at statements.names) made statements.cuts.items statements.cut_sources.items all cuts.1 cut_sources.read in
     let drawn = gates-told names made statements.gates.items statements.sources.items all gates.1 nodes.shapes sources.read in
-    let has : HasElements all (drafted_of statements) = record { inputs = inputs.1; cuts = drawn_cuts.0; gates = drawn.drawn; outputs = outputs.1 } in (
-      record {
-        wired = sorted-wired all (drafted_of statements) drawn_cuts.1 has wired;
-        distinct = gathered.distinct;
-        input_numbers = inputs.0;
-        cut_numbers = cuts.0;
-        each = drawn_cuts.1;
-        data_numbers = cut_sources.below;
-        data_gates = cut_sources.among;
-        gate_numbers = outputs-below names statements.gates.items gates.0;
-        gate_names = drawn.own;
-        sized = drawn.sized ∙ (ap length (sym sources.read) ∙ length-map statements.sources.items (source_name (name_at statements.names) made));
-        source_numbers = sources.below;
-        source_gates = sources.among;
-        output_numbers = outputs.0;
-      },
-      sorted-circuit all (drafted_of statements) drawn_cuts.1 has,
-    )
+    record {
+      has = record { inputs = inputs.1; cuts = cuts.1; cut_sources = cut_sources.read; gates = drawn.drawn; outputs = outputs.1 };
+      wired = wired;
+      distinct = gathered.distinct;
+      input_numbers = inputs.0;
+      cut_numbers = cuts.0;
+      data_numbers = cut_sources.below;
+      data_gates = cut_sources.among;
+      gate_numbers = outputs-below names statements.gates.items gates.0;
+      gate_names = drawn.own;
+      sized = drawn.sized ∙ (ap length (sym sources.read) ∙ length-map statements.sources.items (source_name (name_at statements.names) made));
+      source_numbers = sources.below;
+      source_gates = sources.among;
+      output_numbers = outputs.0;
+    }
 
 -- the first undefined name of the table is that of the text
 undefined-read : (text : List ℕ) (statements : Statements) → IsParsed text statements → first_undefined statements.names ≡ first_passing_line (uses_undefined (bench_statements text)) (bench_statements text)

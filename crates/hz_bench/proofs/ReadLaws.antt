@@ -39,11 +39,9 @@ check-answer text statements fault parsed first = inr (check-outcome text statem
 pub accepted : (text : List ℕ) (statements : Statements) → IsParsed text statements → fault_in statements ≡ None → IsAccepted text statements
 accepted text statements parsed e =
     let none = sym (fault_in-first text statements parsed) ∙ e in
-    let made = built text statements parsed e (wired_text text none) in
     record {
       faultless = check-outcome text statements None parsed e;
-      may = made.0;
-      circuit = made.1;
+      may = built text statements parsed e (wired_text text none);
       whole = whole_text text none;
     }
 

@@ -3,8 +3,7 @@ use Rattle.std.specs.Prelude.{◌≡◌, ℕ, ◌+◌, ◌≤◌, List, length, 
 use Rattle.hz_line.specs.Line.{lines_of}
 use Rattle.hz_line.specs.Statement.{first_malformed}
 use Rattle.hz_core.specs.Netlist.{IsWhole}
-use Rattle.hz_netlist.specs.Circuit.{circuit_of_elements}
-use Rattle.hz_netlist.specs.Draft.{IsBuildable, elements_of_draft}
+use Rattle.hz_netlist.specs.Draft.{IsBuildable}
 use Rattle.hz_netlist.specs.Element.{variable_total}
 use Rattle.hz_bench.specs.declared.parse.Statements.{Statements}
 use Rattle.hz_bench.specs.declared.fault.BenchFault.{BenchFault}
@@ -33,10 +32,8 @@ IsParseFault text (Undefined at) = ⊥
 IsParseFault text (TooMany variables) = ⊥
 IsParseFault text Memory = Unit {0}
 
--- the statements are those of a text in which no fault stands; their circuit may be built, is that of the text, and is whole
+-- the statements are those of a text in which no fault stands; the circuit of the text may be built of them, and is whole
 pub record IsAccepted (text : List ℕ) (statements : Statements) : Type 0 where
   pub faultless : IsFaultless text
-  pub may : IsBuildable (drafted_of statements)
-  pub circuit : circuit_of_elements (elements_of_draft (drafted_of statements))
-      ≡ circuit_of_statements (statements_of text)
+  pub may : IsBuildable (elements_of (statements_of text)) (drafted_of statements)
   pub whole : IsWhole (circuit_of_statements (statements_of text))

@@ -1,6 +1,6 @@
 // Reading a netlist.
 
-ghost use Rattle.std.specs.Prelude.{◌≡◌, ◌≤◌, ◌⊎◌, IfOk, IfErr, OnOk, IsErrOf, MatchResult, None, Some, length};
+ghost use Rattle.std.specs.Prelude.{◌≡◌, ◌≤◌, ◌⊎◌, List, IfOk, IfErr, OnOk, IsErrOf, MatchResult, None, Some, length};
 ghost use Rattle.hz_core.specs.Netlist.{IsWhole};
 ghost use Rattle.hz_bench.specs.Fault.{IsNetlistRefusal, IsFaultless, IsLeastFault};
 ghost use Rattle.hz_bench.specs.Netlist.{circuit_of_statements};
@@ -9,7 +9,8 @@ ghost use Rattle.hz_bench.specs.FaultIn.{fault_in};
 ghost use Rattle.hz_bench.specs.Text.{statements_of};
 ghost use Rattle.hz_bench.specs.Draft.{drafted_of};
 ghost use Rattle.hz_netlist.specs.Circuit.{circuit_of_elements};
-ghost use Rattle.hz_netlist.specs.Draft.{IsBuildable, elements_of_draft};
+ghost use Rattle.hz_netlist.specs.Draft.{IsBuildable};
+ghost use Rattle.hz_netlist.specs.Element.{Element};
 ghost use Rattle.hz_line.specs.Line.{most_text_bytes};
 
 use crate::fault::BenchFault;
@@ -58,9 +59,9 @@ fn read_accepted<'a>(alloc: Global, text: &'a [u8]) -> Result<Statements<'a>, Be
 
 // The circuit of the statements of a text in which no fault stands.
 fn build(alloc: Global, statements: &Statements) -> Result<Circuit, Memory>
-    requires { IsBuildable (drafted_of statements.now) }
-    ensures { IfOk result (λ circuit.
-        circuit ≡ circuit_of_elements (elements_of_draft (drafted_of statements.now))) }
+    requires { (elements : List Element) × IsBuildable elements (drafted_of statements.now) }
+    ensures { (elements : List Element) → IsBuildable elements (drafted_of statements.now)
+        → IfOk result (λ circuit. circuit ≡ circuit_of_elements elements) }
 {
     let draft = Draft {
         names: &statements.names,

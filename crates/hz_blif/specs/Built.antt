@@ -1,14 +1,13 @@
 -- The netlist that a draft is: the elements for which it stands.
-use Rattle.std.specs.Prelude.{[], List, length}
+use Rattle.std.specs.Prelude.{[], List, ◌++◌, length, map}
 use Rattle.std.specs.List.{IsDistinct}
 use Rattle.std.specs.Str.{bytes_eq}
 use Rattle.hz_netlist.specs.Build.{AreWired}
-use Rattle.hz_netlist.specs.Draft as netlist
 use Rattle.hz_netlist.specs.Draft.{Drafted}
-use Rattle.hz_netlist.specs.Element.{Element}
-use Rattle.hz_netlist.specs.Names.{seen_names, AreNumbers}
+use Rattle.hz_netlist.specs.Element.{Element, Input, Output}
+use Rattle.hz_netlist.specs.Names.{seen_names, names_at, name_at, AreNumbers}
 use Rattle.hz_blif.specs.declared.draft.Draft.{Draft}
-use Rattle.hz_blif.specs.Entries.{AreNamed, HoldsGates}
+use Rattle.hz_blif.specs.Entries.{AreNamed, HoldsGates, elements_by}
 
 -- what is kept of a text, as one draft for all formats: it has no cuts
 abbrev pub drafted_of : Draft → Drafted
@@ -25,7 +24,10 @@ drafted_of draft =
 
 -- its elements
 abbrev pub elements_of_draft : Draft → List Element
-elements_of_draft draft = netlist.elements_of_draft (drafted_of draft)
+elements_of_draft draft =
+    map Input (names_at draft.names draft.inputs.items)
+    ++ (elements_by (name_at draft.names) draft.gates
+    ++ map Output (names_at draft.names draft.outputs.items))
 
 -- a draft whose elements make a circuit, and in which no name has two numbers
 pub record IsBuildable (draft : Draft) : Type 0 where

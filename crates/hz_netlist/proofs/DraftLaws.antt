@@ -1,296 +1,250 @@
 -- The circuit of a draft that can be built is that of its elements.
-use Rattle.std.proofs.Common.{◌≡◌, ◌∙◌, refl, sym, ap, subst, ℕ, ◌+◌, ◌<◌, ◌≤◌, true, List, [], ◌∷◌, ◌++◌, length, map, fold, length-append, append_assoc, false, arith}
+use Rattle.std.proofs.Common.{◌≡◌, ◌∙◌, refl, sym, ap, subst, ℕ, ◌+◌, ◌<◌, ◌≤◌, true, false, List, [], ◌∷◌, ◌++◌, Some, length, map, fold, length-append, append_assoc, add-zero, arith}
 use Rattle.std.specs.Prelude.{All}
 use Rattle.std.specs.List.{AllByRecursion, IsDistinct, list_any}
 use Rattle.std.specs.Str.{bytes_eq}
 use Rattle.std.proofs.lemmas.List.{length-map}
+use Rattle.std.proofs.lemmas.List.Elements.{All-cons, All-nil}
+use Rattle.std.proofs.lemmas.Simd.{map-map}
 use Rattle.hz_core.specs.Limits.{most_variables}
-use Rattle.hz_core.specs.Netlist.{Netlist, empty_netlist, primary_inputs, with_output}
-use Rattle.hz_netlist.proofs.Admissible.{may_build}
-use Rattle.hz_netlist.proofs.BuiltCircuit.{built-circuit_of_elements, connected-is, unconnected_netlist-is}
-use Rattle.hz_netlist.proofs.Circuits.{built_circuit}
-use Rattle.hz_netlist.proofs.Connect.{may_name, outputs-numbered}
+use Rattle.hz_core.specs.Netlist.{Netlist, IsCircuit, IsName, empty_netlist, primary_inputs, with_output}
+use Rattle.hz_core.proofs.CircuitLemmas.{same_netlist}
+use Rattle.hz_netlist.proofs.Circuits.{are_names, built_circuit, data-known, data-long, each_once-append, known-below, numbers-below, outputs-added, outputs-known, pins_of}
 use Rattle.hz_netlist.proofs.DraftNodes.{AreNodesOf, nodes-gates, nodes-named, outputs-numbers, sources-numbered}
-use Rattle.hz_netlist.proofs.DraftSteps.{HasData, HasParts, cuts-idle, cuts-numbered, data-entered, data-kept, entries-gates, entries-named, fold-append, gates-entered, gates-idle, inputs-idle, inputs-numbered, outputs-idle, parts, pins-entered, sources-known, steps-cut}
-use Rattle.hz_netlist.proofs.Lists.{all-cut}
-use Rattle.hz_netlist.specs.declared.draft.Gate.{Gate as GateEntry}
+use Rattle.hz_netlist.proofs.DraftSteps.{bare, cuts-added, data-added, data-given, entries-made, entries-named, entries-right, gates-added, gates-all, gates-made, gates-named, gates_by, inputs-added, named-known, outputs-may, pins-given, pins-total, sources-known, unset, unset-long}
 use Rattle.hz_netlist.specs.declared.draft.Source.{Source}
-use Rattle.hz_netlist.specs.Build.{AreAdmissibleSteps, BuilderState, HasNode, MayAddCut, MayAddGate, MayAddInput, MayAddPins, MayBuild, UsesKnown, connected_netlist, initial_builder, inputs_of, unconnected_netlist, with_cut_of, with_data_outputs, with_gate_of, with_input_of, with_output_of, with_pins_of}
-use Rattle.hz_netlist.specs.Circuit.{all_inputs, circuit_of_elements, node_names, number_in}
-use Rattle.hz_netlist.specs.Draft.{AreNodesBy, Drafted, IsBuildable, MayAddCutNumbered, MayAddGateEntry, MayAddInputNumbered, MayAddPinsBy, MaySetDataBy, ReadsGateBelow, ReadsNameBelow, cut_elements, elements_of_draft, gate_elements, gate_name, source_name, source_node, with_cut_numbered, with_data_by, with_gate_entry, with_gate_nodes, with_nodes_from, with_input_numbered, with_pins_by}
-use Rattle.hz_netlist.specs.Element.{Element, Input, Output, cut_names, gate_names, input_names, output_names}
+use Rattle.hz_netlist.specs.Build.{Apart, AreAdmissibleSteps, AreKnown, HasNode, HasRightPins, UsesKnown, with_data_outputs}
+use Rattle.hz_netlist.specs.Circuit.{add_once, all_inputs, circuit_of_elements, data_nodes, each_once, gates_of, node_names, number_in}
+use Rattle.hz_netlist.specs.Draft.{AreNodesBy, Drafted, IsBuildable, MayAddCutNumbered, MayAddGateEntry, MayAddInputNumbered, MayAddPinsBy, MaySetDataBy, ReadsGateBelow, ReadsNameBelow, gate_name, made_names, source_name, source_node, with_cut_numbered, with_data_by, with_gate_entry, with_gate_nodes, with_nodes_from, with_input_numbered, with_pins_by}
+use Rattle.hz_netlist.specs.Element.{Element, cut_names, data_names, gate_names, gates_among, input_names, output_names}
 use Rattle.hz_netlist.specs.Names.{name_at, names_at, node_of}
 
-used-names : (all outputs : List (List ℕ)) → AllByRecursion (UsesKnown all) (map Output outputs) → AllByRecursion (λ name. list_any (bytes_eq name) all ≡ true) outputs
-used-names all [] known = tt
-used-names all (output ∷ rest) known = (known.0, used-names all rest known.1)
+-- the circuit with the inputs, with the cuts too, and with the gates
+abbrev pub with_inputs : Drafted → Netlist
+with_inputs draft = record { names = names_at draft.names draft.inputs; inputs = 0 + length draft.inputs; cuts = []; gates = []; outputs = [] }
 
--- steps over lists, one behind the other
-four : {A B : Type 0} (step : A → B → A) (now : A) (a b c d : List B) → fold step now (a ++ (b ++ (c ++ d))) ≡ fold step (fold step (fold step (fold step now a) b) c) d
-four step now a b c d = fold-append step now a (b ++ (c ++ d)) ∙ fold-append step (fold step now a) b (c ++ d) ∙ fold-append step (fold step (fold step now a) b) c d
+abbrev pub with_cuts : Drafted → Netlist
+with_cuts draft =
+    record {
+      names = names_at draft.names draft.inputs ++ names_at draft.names draft.cuts;
+      inputs = (0 + length draft.inputs) + length draft.cuts;
+      cuts = unset draft.cuts;
+      gates = [];
+      outputs = [];
+    }
 
--- the steps of each of these lists may be taken
-record MayTake {A B : Type 0} (May : A → B → Type 0) (step : A → B → A) (now : A) (a b c d : List B) : Type 0 where
-  first : AreAdmissibleSteps May step now a
-  second : AreAdmissibleSteps May step (fold step now a) b
-  third : AreAdmissibleSteps May step (fold step (fold step now a) b) c
-  fourth : AreAdmissibleSteps May step (fold step (fold step (fold step now a) b) c) d
+abbrev pub with_gates : Drafted → Netlist
+with_gates draft = record (with_cuts draft) { names = (names_at draft.names draft.inputs ++ names_at draft.names draft.cuts) ++ made_names draft; gates = bare draft.gates }
 
-may-four : {A B : Type 0} (May : A → B → Type 0) (step : A → B → A) (now : A) (a b c d : List B) → AreAdmissibleSteps May step now (a ++ (b ++ (c ++ d))) → MayTake May step now a b c d
-may-four May step now a b c d may =
-    let one = steps-cut May step now a (b ++ (c ++ d)) may in
-    let two = steps-cut May step (fold step now a) b (c ++ d) one.1 in
-    let three = steps-cut May step (fold step (fold step now a) b) c d two.1 in
-    record { first = one.0; second = two.0; third = three.0; fourth = three.1 }
+-- where the first steps lead
+abbrev pub inputs_built : Drafted → Netlist
+inputs_built draft = fold (with_input_numbered (name_at draft.names)) empty_netlist draft.inputs
 
-module _ (draft : Drafted) (can : IsBuildable draft) where
-  abbrev name : ℕ → List ℕ
-  name = name_at draft.names
+abbrev pub cuts_built : Drafted → Netlist
+cuts_built draft = fold (with_cut_numbered (name_at draft.names)) (fold (with_input_numbered (name_at draft.names)) empty_netlist draft.inputs) draft.cuts
 
-  abbrev inputs : List (List ℕ)
-  inputs = names_at draft.names draft.inputs
+abbrev pub gates_built : Drafted → Netlist
+gates_built draft =
+    fold (with_gate_entry (name_at draft.names))
+    (fold (with_cut_numbered (name_at draft.names)) (fold (with_input_numbered (name_at draft.names)) empty_netlist draft.inputs) draft.cuts) draft.gates
 
-  abbrev cuts : List (List ℕ)
-  cuts = names_at draft.names draft.cuts
+module _ (elements : List Element) (draft : Drafted) (can : IsBuildable elements draft) where
+  circuit : IsCircuit (circuit_of_elements elements)
+  circuit = built_circuit elements can.wired
 
-  abbrev front : List (List ℕ)
-  front = names_at draft.names draft.inputs ++ names_at draft.names draft.cuts
+  gates_same : gate_names elements ≡ made_names draft
+  gates_same = sym (gates-named elements) ∙ (ap gate_names (sym can.has.gates) ∙ entries-named (name_at draft.names) (made_names draft) draft.gates draft.sources)
 
-  abbrev outputs : List (List ℕ)
-  outputs = names_at draft.names draft.outputs
+  front_same : all_inputs elements ≡ names_at draft.names draft.inputs ++ names_at draft.names draft.cuts
+  front_same = ap (λ names. names ++ cut_names elements) (sym can.has.inputs) ∙ ap (λ names. names_at draft.names draft.inputs ++ names) (sym can.has.cuts)
 
-  abbrev made : List (List ℕ)
-  made = map (gate_name (name_at draft.names)) draft.gates
+  nodes_same : node_names elements ≡ (names_at draft.names draft.inputs ++ names_at draft.names draft.cuts) ++ made_names draft
+  nodes_same = ap (λ names. names ++ gate_names elements) front_same ∙ ap (λ names. (names_at draft.names draft.inputs ++ names_at draft.names draft.cuts) ++ names) gates_same
 
-  abbrev input_elements : List Element
-  input_elements = map Input (names_at draft.names draft.inputs)
+  front_long : length (all_inputs elements) ≡ length draft.inputs + length draft.cuts
+  front_long =
+      omega (arith, ap length front_same, length-append (names_at draft.names draft.inputs) (names_at draft.names draft.cuts), length-map draft.inputs (name_at draft.names), length-map draft.cuts (name_at draft.names))
 
-  abbrev cut_list : List Element
-  cut_list = cut_elements (name_at draft.names) (map (gate_name (name_at draft.names)) draft.gates) draft.cuts draft.cut_sources
-
-  abbrev gates : List Element
-  gates = gate_elements (name_at draft.names) draft.gates draft.sources
-
-  abbrev output_elements : List Element
-  output_elements = map Output (names_at draft.names draft.outputs)
-
-  abbrev elements : List Element
-  elements = elements_of_draft draft
-
-  abbrev all : List (List ℕ)
-  all = (names_at draft.names draft.inputs ++ names_at draft.names draft.cuts) ++ map (gate_name (name_at draft.names)) draft.gates
-
-  are_gates : AllByRecursion Rattle.hz_netlist.proofs.DraftSteps.IsGate gates
-  are_gates = entries-gates name made draft.gates draft.sources
-
-  parts_are : HasParts inputs cuts (map (source_name name made) draft.cut_sources) gates outputs elements
-  parts_are = parts name made inputs draft.cuts draft.cut_sources gates outputs can.each are_gates
-
-  inputs_all : all_inputs elements ≡ front
-  inputs_all = ap (λ cuts. input_names elements ++ cuts) parts_are.cuts_are ∙ ap (λ inputs. inputs ++ cuts) parts_are.inputs_are
-
-  nodes_all : node_names elements ≡ all
-  nodes_all = ap (λ inputs. inputs ++ gate_names elements) inputs_all ∙ ap (λ names. front ++ names) (parts_are.gates_are ∙ entries-named name made draft.gates draft.sources)
-
-  may : MayBuild elements elements
-  may = may_build elements can.wired
-
-  apart : IsDistinct bytes_eq all
-  apart = let circuit = built_circuit elements can.wired in subst (IsDistinct bytes_eq) nodes_all circuit.names_distinct
-
-  front-long : length front ≡ length draft.inputs + length draft.cuts
-  front-long = omega (arith, length-append inputs cuts, length-map draft.inputs name, length-map draft.cuts name)
+  nodes_long : length (node_names elements) ≡ length draft.inputs + length draft.cuts + length draft.gates
+  nodes_long = omega (arith, length-append (all_inputs elements) (gate_names elements), front_long, ap length gates_same, length-map draft.gates (gate_name (name_at draft.names)))
 
   -- there are not too many nodes
   pub few-nodes : length draft.inputs + length draft.cuts + length draft.gates ≤ most_variables
-  few-nodes =
-      let circuit = built_circuit elements can.wired in
-      let variables = circuit.variables in
-      omega (arith, variables, ap length nodes_all, front-long, length-append front made, length-map draft.gates (gate_name name))
+  few-nodes = let variables = circuit.variables in omega (arith, variables, nodes_long)
 
-  -- inputs
-  inputs_numbered : AreAdmissibleSteps (MayAddInputNumbered name) (with_input_numbered name) empty_netlist draft.inputs
-      × (fold (with_input_numbered name) empty_netlist draft.inputs ≡ fold with_input_of empty_netlist input_elements)
-  inputs_numbered = inputs-numbered name empty_netlist draft.inputs (may-four MayAddInput with_input_of empty_netlist input_elements cut_list gates output_elements may.inputs).first
+  -- inputs, cuts and gates
+  inputs_added : AreAdmissibleSteps (MayAddInputNumbered (name_at draft.names)) (with_input_numbered (name_at draft.names)) empty_netlist draft.inputs × (inputs_built draft ≡ with_inputs draft)
+  inputs_added =
+      let few = few-nodes in
+      inputs-added (name_at draft.names) empty_netlist draft.inputs refl refl (subst (All IsName) (sym can.has.inputs) (are_names elements can.wired.named).inputs)
+      (subst (Apart []) (sym can.has.inputs) can.wired.inputs_apart) (omega (arith, few))
 
-  pub build-inputs : AreAdmissibleSteps (MayAddInputNumbered name) (with_input_numbered name) empty_netlist draft.inputs
-  build-inputs = inputs_numbered.0
+  pub build-inputs : AreAdmissibleSteps (MayAddInputNumbered (name_at draft.names)) (with_input_numbered (name_at draft.names)) empty_netlist draft.inputs
+  build-inputs = inputs_added.0
 
-  abbrev base : Netlist
-  base = fold (with_input_numbered (name_at draft.names)) empty_netlist draft.inputs
+  cuts_added : AreAdmissibleSteps (MayAddCutNumbered (name_at draft.names)) (with_cut_numbered (name_at draft.names)) (inputs_built draft) draft.cuts × (cuts_built draft ≡ with_cuts draft)
+  cuts_added =
+      let few = few-nodes in
+      subst (λ now. AreAdmissibleSteps (MayAddCutNumbered (name_at draft.names)) (with_cut_numbered (name_at draft.names)) now draft.cuts
+      × (fold (with_cut_numbered (name_at draft.names)) now draft.cuts ≡ with_cuts draft)) (sym inputs_added.1)
+      (cuts-added (name_at draft.names) (with_inputs draft) draft.cuts refl (subst (All IsName) (sym can.has.cuts) (are_names elements can.wired.named).cuts)
+      (subst (λ front. Apart front (names_at draft.names draft.cuts)) (sym can.has.inputs) (subst (Apart (input_names elements)) (sym can.has.cuts) can.wired.cuts_apart))
+      (omega (arith, few, length-map draft.inputs (name_at draft.names))))
 
-  only_inputs : fold with_input_of empty_netlist elements ≡ base
-  only_inputs =
-      let made_base = fold with_input_of empty_netlist input_elements in
-      four with_input_of empty_netlist input_elements cut_list gates output_elements
-      ∙ ap (λ now. fold with_input_of (fold with_input_of now gates) output_elements) (cuts-idle with_input_of (λ name source now. refl) name made draft.cuts draft.cut_sources made_base)
-      ∙ ap (λ now. fold with_input_of now output_elements) (gates-idle with_input_of (λ name kind sources now. refl) gates are_gates made_base)
-      ∙ outputs-idle with_input_of (λ name now. refl) outputs made_base
-      ∙ sym inputs_numbered.1
+  pub build-cuts : AreAdmissibleSteps (MayAddCutNumbered (name_at draft.names)) (with_cut_numbered (name_at draft.names)) (inputs_built draft) draft.cuts
+  build-cuts = cuts_added.0
 
-  -- cuts
-  cuts_may : AreAdmissibleSteps MayAddCut with_cut_of base cut_list
-  cuts_may =
-      subst (λ now. AreAdmissibleSteps MayAddCut with_cut_of now cut_list) (inputs-idle with_cut_of (λ name now. refl) inputs base)
-      (may-four MayAddCut with_cut_of base input_elements cut_list gates output_elements
-      (subst (λ now. AreAdmissibleSteps MayAddCut with_cut_of now elements) only_inputs may.cuts)).second
+  gates_added : AreAdmissibleSteps (MayAddGateEntry (name_at draft.names)) (with_gate_entry (name_at draft.names)) (cuts_built draft) draft.gates × (gates_built draft ≡ with_gates draft)
+  gates_added =
+      let few = few-nodes in
+      subst (λ now. AreAdmissibleSteps (MayAddGateEntry (name_at draft.names)) (with_gate_entry (name_at draft.names)) now draft.gates
+      × (fold (with_gate_entry (name_at draft.names)) now draft.gates ≡ with_gates draft)) (sym cuts_added.1)
+      (gates-added (name_at draft.names) (with_cuts draft) draft.gates (subst (All IsName) gates_same (are_names elements can.wired.named).gates)
+      (subst (λ front. Apart front (made_names draft)) front_same (subst (Apart (all_inputs elements)) gates_same can.wired.gates_apart))
+      (omega (arith, few, length-append (names_at draft.names draft.inputs) (names_at draft.names draft.cuts), length-map draft.inputs (name_at draft.names), length-map draft.cuts (name_at draft.names))))
 
-  pub build-cuts : AreAdmissibleSteps (MayAddCutNumbered name) (with_cut_numbered name) base draft.cuts
-  build-cuts = (cuts-numbered name made base draft.cuts draft.cut_sources can.each cuts_may).0
-
-  abbrev only : Netlist
-  only = fold (with_cut_numbered (name_at draft.names)) (fold (with_input_numbered (name_at draft.names)) empty_netlist draft.inputs) draft.cuts
-
-  only_nodes : inputs_of elements ≡ only
-  only_nodes =
-      let made_base = fold with_cut_of base cut_list in
-      ap (λ now. fold with_cut_of now elements) only_inputs
-      ∙ four with_cut_of base input_elements cut_list gates output_elements
-      ∙ ap (λ now. fold with_cut_of (fold with_cut_of (fold with_cut_of now cut_list) gates) output_elements) (inputs-idle with_cut_of (λ name now. refl) inputs base)
-      ∙ ap (λ now. fold with_cut_of now output_elements) (gates-idle with_cut_of (λ name kind sources now. refl) gates are_gates made_base)
-      ∙ outputs-idle with_cut_of (λ name now. refl) outputs made_base
-      ∙ sym (cuts-numbered name made base draft.cuts draft.cut_sources can.each cuts_may).1
-
-  -- gates
-  gates_may : AreAdmissibleSteps MayAddGate with_gate_of only gates
-  gates_may =
-      subst (λ now. AreAdmissibleSteps MayAddGate with_gate_of now gates)
-      (ap (λ now. fold with_gate_of now cut_list) (inputs-idle with_gate_of (λ name now. refl) inputs only) ∙ cuts-idle with_gate_of (λ name source now. refl) name made draft.cuts draft.cut_sources only)
-      (may-four MayAddGate with_gate_of only input_elements cut_list gates output_elements
-      (subst (λ now. AreAdmissibleSteps MayAddGate with_gate_of now elements) only_nodes may.gates)).third
-
-  pub build-gates : AreAdmissibleSteps (MayAddGateEntry name) (with_gate_entry name) only draft.gates
-  build-gates = (gates-entered name made only draft.gates draft.sources gates_may).0
-
-  abbrev bare : Netlist
-  bare = fold (with_gate_entry (name_at draft.names)) (fold (with_cut_numbered (name_at draft.names)) (fold (with_input_numbered (name_at draft.names)) empty_netlist draft.inputs) draft.cuts) draft.gates
-
-  unconnected : unconnected_netlist elements ≡ bare
-  unconnected =
-      ap (λ now. fold with_gate_of now elements) only_nodes
-      ∙ four with_gate_of only input_elements cut_list gates output_elements
-      ∙ ap (λ now. fold with_gate_of (fold with_gate_of (fold with_gate_of now cut_list) gates) output_elements) (inputs-idle with_gate_of (λ name now. refl) inputs only)
-      ∙ ap (λ now. fold with_gate_of (fold with_gate_of now gates) output_elements) (cuts-idle with_gate_of (λ name source now. refl) name made draft.cuts draft.cut_sources only)
-      ∙ outputs-idle with_gate_of (λ name now. refl) outputs (fold with_gate_of only gates)
-      ∙ sym (gates-entered name made only draft.gates draft.sources gates_may).1
-
-  bare-names : bare.names ≡ all
-  bare-names = ap (λ (netlist : Netlist). netlist.names) (sym unconnected ∙ unconnected_netlist-is elements) ∙ nodes_all
+  pub build-gates : AreAdmissibleSteps (MayAddGateEntry (name_at draft.names)) (with_gate_entry (name_at draft.names)) (cuts_built draft) draft.gates
+  build-gates = gates_added.0
 
   -- the table of nodes
-  table : (nodes : List ℕ) → AreNodesBy draft nodes → AreNodesOf draft.names all all nodes × (length nodes ≡ length draft.names)
+  table : (nodes : List ℕ) → AreNodesBy draft nodes → AreNodesOf draft.names (node_names elements) (node_names elements) nodes × (length nodes ≡ length draft.names)
   table nodes by =
+      let names = draft.names in
+      let all = node_names elements in
+      let inputs = names_at draft.names draft.inputs in
+      let cuts = names_at draft.names draft.cuts in
       let start = by.0 in
-      let none : AreNodesOf draft.names all [] start = λ number few among. let e : false ≡ true = among in cc in
-      let first = nodes-named draft.names all can.distinct apart [] (cuts ++ made) start draft.inputs (append_assoc inputs cuts made) can.input_numbers by.1 none in
+      let moved = nodes_same ∙ append_assoc inputs cuts (made_names draft) in
+      let none : AreNodesOf names all [] start = λ number few among. let e : false ≡ true = among in cc in
+      let first = nodes-named names all can.distinct circuit.names_distinct [] (cuts ++ made_names draft) start draft.inputs moved can.input_numbers by.1 none in
       let begun = with_nodes_from 0 start draft.inputs in
-      let second = nodes-named draft.names all can.distinct apart inputs made begun draft.cuts (append_assoc inputs cuts made) can.cut_numbers first.1 first.0 in
+      let second = nodes-named names all can.distinct circuit.names_distinct inputs (made_names draft) begun draft.cuts moved can.cut_numbers first.1 first.0 in
       let named = with_nodes_from (length inputs) begun draft.cuts in
-      let last = nodes-gates draft.names all can.distinct apart front named draft.gates refl can.gate_numbers can.gate_names second.1 second.0 in
-      subst (λ nodes. AreNodesOf draft.names all all nodes × (length nodes ≡ length draft.names))
-      (ap (λ (node : ℕ). with_gate_nodes node named draft.gates) front-long
-      ∙ (ap (λ (node : ℕ). with_gate_nodes (length draft.inputs + length draft.cuts) (with_nodes_from node begun draft.cuts) draft.gates) (length-map draft.inputs name)
+      let last = nodes-gates names all can.distinct circuit.names_distinct (inputs ++ cuts) named draft.gates nodes_same can.gate_numbers can.gate_names second.1 second.0 in
+      let long : length (inputs ++ cuts) ≡ length draft.inputs + length draft.cuts = ap length (sym front_same) ∙ front_long in
+      subst (λ nodes. AreNodesOf names all all nodes × (length nodes ≡ length names))
+      (ap (λ (node : ℕ). with_gate_nodes node named draft.gates) long
+      ∙ (ap (λ (node : ℕ). with_gate_nodes (length draft.inputs + length draft.cuts) (with_nodes_from node begun draft.cuts) draft.gates) (length-map draft.inputs (name_at draft.names))
       ∙ sym by.2)) last
 
   pub table-long : (nodes : List ℕ) → AreNodesBy draft nodes → length nodes ≡ length draft.names
   table-long nodes by = (table nodes by).1
 
-  known : AllByRecursion (UsesKnown all) elements
-  known = subst (λ names. AllByRecursion (UsesKnown names) elements) nodes_all can.wired.defined
-
-  known_cuts : AllByRecursion (UsesKnown all) cut_list
-  known_cuts = (all-cut (UsesKnown all) cut_list (gates ++ output_elements) (all-cut (UsesKnown all) input_elements (cut_list ++ (gates ++ output_elements)) known).1).0
-
-  known_rest : AllByRecursion (UsesKnown all) gates × AllByRecursion (UsesKnown all) output_elements
-  known_rest = all-cut (UsesKnown all) gates output_elements (all-cut (UsesKnown all) cut_list (gates ++ output_elements) (all-cut (UsesKnown all) input_elements (cut_list ++ (gates ++ output_elements)) known).1).1
-
   -- what sources read
-  known_sources : AllByRecursion (λ source. list_any (bytes_eq (source_name name made source)) all ≡ true) draft.sources
-  known_sources = sources-known name made all draft.gates draft.sources can.sized known_rest.0
-
-  known_data : (cuts : List ℕ) (cut_sources : List Source) → length cut_sources ≡ length cuts → AllByRecursion (UsesKnown all) (cut_elements name made cuts cut_sources)
-      → AllByRecursion (λ source. list_any (bytes_eq (source_name name made source)) all ≡ true) cut_sources
-  known_data cuts [] each known = tt
-  known_data [] (source ∷ cut_sources) each known = absurd (omega (arith, each))
-  known_data (cut ∷ cuts) (source ∷ cut_sources) each known = (known.0, known_data cuts cut_sources (omega (arith, each)) known.1)
-
   read-names : (nodes : List ℕ) → AreNodesBy draft nodes → (sources : List Source) → All (ReadsNameBelow (length draft.names)) sources → All (ReadsGateBelow (length draft.gates)) sources
-      → AllByRecursion (λ source. list_any (bytes_eq (source_name name made source)) all ≡ true) sources
-      → map (source_node nodes (length draft.inputs + length draft.cuts)) sources ≡ map (λ source. number_in all (source_name name made source)) sources
-  read-names nodes by sources below gates known =
-      let made_gates = subst (λ (count : ℕ). All (ReadsGateBelow count) sources) (sym (length-map draft.gates (gate_name name))) gates in
-      ap (λ (count : ℕ). map (source_node nodes count) sources) (sym front-long)
-      ∙ sources-numbered draft.names front made nodes sources apart (table nodes by).0 below made_gates known
+      → AllByRecursion (λ source. list_any (bytes_eq (source_name (name_at draft.names) (made_names draft) source)) (node_names elements) ≡ true) sources
+      → map (source_node nodes (length draft.inputs + length draft.cuts)) sources ≡ map (λ source. number_in (node_names elements) (source_name (name_at draft.names) (made_names draft) source)) sources
+  read-names nodes by sources below among known =
+      let front = names_at draft.names draft.inputs ++ names_at draft.names draft.cuts in
+      let made = made_names draft in
+      let few = subst (λ (count : ℕ). All (ReadsGateBelow count) sources) (sym (length-map draft.gates (gate_name (name_at draft.names)))) among in
+      ap (λ (count : ℕ). map (source_node nodes count) sources) (sym (ap length (sym front_same) ∙ front_long))
+      ∙ (sources-numbered draft.names front made nodes sources (subst (IsDistinct bytes_eq) nodes_same circuit.names_distinct)
+      (subst (λ all. AreNodesOf draft.names all all nodes) nodes_same (table nodes by).0) below few
+      (subst (λ all. AllByRecursion (λ source. list_any (bytes_eq (source_name (name_at draft.names) (made_names draft) source)) all ≡ true) sources) nodes_same known)
+      ∙ ap (λ all. map (λ source. number_in all (source_name (name_at draft.names) (made_names draft) source)) sources) (sym nodes_same))
 
-  -- data nodes and pins
-  abbrev start : BuilderState
-  start = initial_builder (fold (with_gate_entry (name_at draft.names)) (fold (with_cut_numbered (name_at draft.names)) (fold (with_input_numbered (name_at draft.names)) empty_netlist draft.inputs) draft.cuts) draft.gates)
+  -- data nodes
+  data_known : AreKnown (node_names elements) (data_names elements)
+  data_known = data-known (node_names elements) elements can.wired.defined
 
-  pins_all : MayTake MayAddPins with_pins_of start input_elements cut_list gates output_elements
-  pins_all = may-four MayAddPins with_pins_of start input_elements cut_list gates output_elements
-      (subst (λ now. AreAdmissibleSteps MayAddPins with_pins_of (initial_builder now) elements) unconnected may.pins)
+  data_are : (nodes cut_sources : List ℕ) → AreNodesBy draft nodes → cut_sources ≡ map (source_node nodes (length draft.inputs + length draft.cuts)) draft.cut_sources → cut_sources ≡ data_nodes (node_names elements) elements
+  data_are nodes cut_sources by read =
+      let all = node_names elements in
+      let reads = source_name (name_at draft.names) (made_names draft) in
+      let known = named-known (name_at draft.names) (made_names draft) all draft.cut_sources (subst (AreKnown all) (sym can.has.cut_sources) data_known) in
+      read ∙ (read-names nodes by draft.cut_sources can.data_numbers can.data_gates known
+      ∙ (sym (map-map (number_in all) reads draft.cut_sources) ∙ ap (map (number_in all)) can.has.cut_sources))
 
-  module _ (nodes cut_sources : List ℕ) (by : AreNodesBy draft nodes) (data_read : cut_sources ≡ map (source_node nodes (length draft.inputs + length draft.cuts)) draft.cut_sources) where
-    data_are : cut_sources ≡ map (λ source. number_in bare.names (source_name name made source)) draft.cut_sources
-    data_are =
-        data_read ∙ (read-names nodes by draft.cut_sources can.data_numbers can.data_gates (known_data draft.cuts draft.cut_sources can.each known_cuts)
-        ∙ ap (λ names. map (λ source. number_in names (source_name name made source)) draft.cut_sources) (sym bare-names))
+  abbrev pub with_data_nodes : List ℕ → Netlist
+  with_data_nodes nodes = record (with_gates draft) { cuts = map Some nodes }
 
-    entered : HasData start cut_list cut_sources
-    entered = data-entered name made start draft.cuts draft.cut_sources cut_sources can.each data_are
-        (subst (λ now. AreAdmissibleSteps MayAddPins with_pins_of now cut_list) (inputs-idle with_pins_of (λ name now. refl) inputs start) pins_all.second)
+  data_given : (nodes : List ℕ) → nodes ≡ data_nodes (node_names elements) elements
+      → MaySetDataBy (gates_built draft) (primary_inputs (gates_built draft)) nodes × (with_data_by (gates_built draft) (primary_inputs (gates_built draft)) nodes ≡ with_data_nodes nodes)
+  data_given nodes are =
+      let few = few-nodes in
+      let count : length nodes ≡ length draft.cuts = ap length are ∙ (length-map (data_names elements) (number_in (node_names elements)) ∙ (data-long elements ∙ (ap length (sym can.has.cuts) ∙ length-map draft.cuts (name_at draft.names)))) in
+      let below = subst (λ nodes. All (λ node. node < length (node_names elements)) nodes) (sym are) (numbers-below (node_names elements) (data_names elements) data_known) in
+      subst (λ now. MaySetDataBy now (primary_inputs now) nodes × (with_data_by now (primary_inputs now) nodes ≡ with_data_nodes nodes)) (sym gates_added.1)
+      (data-given (with_gates draft) (primary_inputs (with_gates draft)) [] (unset draft.cuts) nodes (unset-long draft.cuts ∙ sym count) (sym (add-zero (primary_inputs (with_gates draft))))
+      (omega (arith, unset-long draft.cuts)) (omega (arith, few)) (subst (λ all. All (λ node. node < length all) nodes) nodes_same below))
 
-    pub build-data : MaySetDataBy bare (primary_inputs bare) cut_sources
-    build-data = entered.may
+  pub build-data : (nodes cut_sources : List ℕ) → AreNodesBy draft nodes → cut_sources ≡ map (source_node nodes (length draft.inputs + length draft.cuts)) draft.cut_sources
+      → MaySetDataBy (gates_built draft) (primary_inputs (gates_built draft)) cut_sources
+  build-data nodes cut_sources by read = (data_given cut_sources (data_are nodes cut_sources by read)).0
 
-    abbrev given : Netlist
-    given = with_data_by (fold (with_gate_entry (name_at draft.names)) (fold (with_cut_numbered (name_at draft.names)) (fold (with_input_numbered (name_at draft.names)) empty_netlist draft.inputs) draft.cuts) draft.gates) (primary_inputs (fold (with_gate_entry (name_at draft.names)) (fold (with_cut_numbered (name_at draft.names)) (fold (with_input_numbered (name_at draft.names)) empty_netlist draft.inputs) draft.cuts) draft.gates)) cut_sources
+  -- pins
+  module _ (nodes cut_sources pins : List ℕ) (by : AreNodesBy draft nodes) (data_read : cut_sources ≡ map (source_node nodes (length draft.inputs + length draft.cuts)) draft.cut_sources)
+      (read : pins ≡ map (source_node nodes (length draft.inputs + length draft.cuts)) draft.sources) where
+    abbrev pub given : Netlist
+    given = with_data_by (gates_built draft) (primary_inputs (gates_built draft)) cut_sources
 
-    begun : fold with_pins_of (fold with_pins_of start input_elements) cut_list ≡ record { netlist = given; cut = entered.cut; gate = bare.inputs }
-    begun = ap (λ now. fold with_pins_of now cut_list) (inputs-idle with_pins_of (λ name now. refl) inputs start) ∙ entered.is
+    sources_known : AllByRecursion (λ source. list_any (bytes_eq (source_name (name_at draft.names) (made_names draft) source)) (node_names elements) ≡ true) draft.sources
+    sources_known =
+        sources-known (name_at draft.names) (made_names draft) (node_names elements) draft.gates draft.sources can.sized
+        (subst (AllByRecursion (UsesKnown (node_names elements))) (sym can.has.gates) (gates-all (UsesKnown (node_names elements)) elements can.wired.defined))
 
-    module _ (pins : List ℕ) (read : pins ≡ map (source_node nodes (length draft.inputs + length draft.cuts)) draft.sources) where
-      pins_are : pins ≡ map (λ source. number_in given.names (source_name name made source)) draft.sources
-      pins_are =
-          read ∙ (read-names nodes by draft.sources can.source_numbers can.source_gates known_sources
-          ∙ ap (λ names. map (λ source. number_in names (source_name name made source)) draft.sources) (sym (data-kept bare (primary_inputs bare) cut_sources ∙ bare-names)))
+    pins_are : pins ≡ map (λ source. number_in (node_names elements) (source_name (name_at draft.names) (made_names draft) source)) draft.sources
+    pins_are = read ∙ read-names nodes by draft.sources can.source_numbers can.source_gates sources_known
 
-      pins_entered : MayAddPinsBy given bare.inputs draft.gates pins
-          × (with_pins_by given bare.inputs draft.gates pins ≡ (fold with_pins_of (record { netlist = given; cut = entered.cut; gate = bare.inputs }) gates).netlist)
-      pins_entered = pins-entered name made (record { netlist = given; cut = entered.cut; gate = bare.inputs }) draft.gates draft.sources pins pins_are can.sized
-          (subst (λ now. AreAdmissibleSteps MayAddPins with_pins_of now gates) begun pins_all.third)
+    gates_are : gates_by draft.gates pins ≡ gates_of (node_names elements) elements
+    gates_are =
+        let all = node_names elements in
+        ap (gates_by draft.gates) pins_are
+        ∙ (entries-made (name_at draft.names) (made_names draft) all draft.gates draft.sources ∙ (ap (gates_of all) can.has.gates ∙ gates-made all elements))
 
-      pub build-pins : MayAddPinsBy given bare.inputs draft.gates pins
-      build-pins = pins_entered.0
+    pins_below : (sources : List Source) → AllByRecursion (λ source. list_any (bytes_eq (source_name (name_at draft.names) (made_names draft) source)) (node_names elements) ≡ true) sources
+        → All (λ node. node < length (node_names elements)) (map (λ source. number_in (node_names elements) (source_name (name_at draft.names) (made_names draft) source)) sources)
+    pins_below [] known = All-nil _
+    pins_below (source ∷ rest) known =
+        let all = node_names elements in
+        let reads = source_name (name_at draft.names) (made_names draft) in
+        All-cons (λ (node : ℕ). node < length all) (number_in all (reads source)) (map (λ source. number_in all (source_name (name_at draft.names) (made_names draft) source)) rest) (known-below all (reads source) known.0) (pins_below rest known.1)
 
-      connected : with_pins_by given bare.inputs draft.gates pins ≡ connected_netlist (unconnected_netlist elements) elements
-      connected =
-          pins_entered.1
-          ∙ (ap (λ (now : BuilderState). (fold with_pins_of now gates).netlist) (sym begun)
-          ∙ (sym (ap (λ (now : BuilderState). now.netlist)
-          (four with_pins_of start input_elements cut_list gates output_elements
-          ∙ outputs-idle with_pins_of (λ name now. refl) outputs (fold with_pins_of (fold with_pins_of (fold with_pins_of start input_elements) cut_list) gates)))
-          ∙ ap (λ now. connected_netlist now elements) (sym unconnected)))
+    pins_given : MayAddPinsBy given (gates_built draft).inputs draft.gates pins × (with_pins_by given (gates_built draft).inputs draft.gates pins ≡ record (with_data_nodes cut_sources) { gates = gates_of (node_names elements) elements })
+    pins_given =
+        let all = node_names elements in
+        let made = data_given cut_sources (data_are nodes cut_sources by data_read) in
+        let long : length pins ≡ length draft.sources = ap length pins_are ∙ length-map draft.sources (λ source. number_in all (source_name (name_at draft.names) (made_names draft) source)) in
+        let variables = circuit.variables in
+        let total = pins-total draft.gates pins (can.sized ∙ sym long) in
+        let count : length pins ≡ pins_of (gates_of all elements) = sym total ∙ ap pins_of gates_are in
+        let below = subst (λ pins. All (λ node. node < length all) pins) (sym pins_are) (pins_below draft.sources sources_known) in
+        let now = with_data_nodes cut_sources in
+        subst (λ now. MayAddPinsBy now (gates_built draft).inputs draft.gates pins × (with_pins_by now (gates_built draft).inputs draft.gates pins ≡ record (with_data_nodes cut_sources) { gates = gates_of (node_names elements) elements })) (sym made.1)
+        (subst (λ (number : ℕ). MayAddPinsBy (with_data_nodes cut_sources) number draft.gates pins × (with_pins_by (with_data_nodes cut_sources) number draft.gates pins ≡ record (with_data_nodes cut_sources) { gates = gates_of (node_names elements) elements }))
+        (sym (ap (λ (now : Netlist). now.inputs) gates_added.1))
+        (let given = pins-given now now.inputs [] draft.gates pins (sym (add-zero now.inputs)) (omega (arith, ap length nodes_same, nodes_long)) (can.sized ∙ sym long)
+        (entries-right (name_at draft.names) (made_names draft) draft.gates draft.sources can.sized (subst (AllByRecursion HasRightPins) (sym can.has.gates) (gates-all HasRightPins elements can.wired.pins)))
+        (subst (λ all. All (λ node. node < length all) pins) nodes_same below) (omega (arith, ap length nodes_same, variables, count)) in
+        (given.0, given.1 ∙ ap (λ gates. record (with_data_nodes cut_sources) { gates = gates }) gates_are)))
 
-      -- outputs
-      module _ (found : List ℕ) (named : found ≡ map (node_of nodes) draft.outputs) where
-        abbrev circuit : Netlist
-        circuit = connected_netlist (unconnected_netlist (elements_of_draft draft)) (elements_of_draft draft)
+    pub build-pins : MayAddPinsBy given (gates_built draft).inputs draft.gates pins
+    build-pins = pins_given.0
 
-        found_are : found ≡ map (number_in circuit.names) (output_names elements)
-        found_are =
-            let names : circuit.names ≡ all = ap (λ (netlist : Netlist). netlist.names) (connected-is elements) ∙ nodes_all in
-            named ∙ outputs-numbers draft.names all nodes draft.outputs (table nodes by).0 can.output_numbers (used-names all outputs known_rest.1)
-            ∙ ap (map (number_in all)) (sym parts_are.outputs_are)
-            ∙ ap (λ names. map (number_in names) (output_names elements)) (sym names)
+    -- outputs
+    module _ (found : List ℕ) (named : found ≡ map (node_of nodes) draft.outputs) where
+      found_are : found ≡ map (number_in (node_names elements)) (output_names elements)
+      found_are =
+          let all = node_names elements in
+          named ∙ (outputs-numbers draft.names all nodes draft.outputs (table nodes by).0 can.output_numbers (subst (AreKnown all) (sym can.has.outputs) (outputs-known all elements can.wired.defined))
+          ∙ ap (map (number_in all)) can.has.outputs)
 
-        pub build-outputs : AreAdmissibleSteps HasNode with_output (with_pins_by given bare.inputs draft.gates pins) found
-        build-outputs =
-            subst (λ now. AreAdmissibleSteps HasNode with_output now found) (sym connected)
-            (subst (AreAdmissibleSteps HasNode with_output circuit) (sym found_are) (may_name circuit elements may.outputs_may))
+      pub build-outputs : AreAdmissibleSteps HasNode with_output (with_pins_by given (gates_built draft).inputs draft.gates pins) found
+      build-outputs =
+          let all = node_names elements in
+          let below = subst (λ found. All (λ node. node < length all) found) (sym found_are) (numbers-below all (output_names elements) (outputs-known all elements can.wired.defined)) in
+          subst (λ now. AreAdmissibleSteps HasNode with_output now found) (sym pins_given.1)
+          (outputs-may (record (with_data_nodes cut_sources) { gates = gates_of (node_names elements) elements }) found (subst (λ all. All (λ node. node < length all) found) nodes_same below))
 
-        pub build-circuit : with_data_outputs (fold with_output (with_pins_by given bare.inputs draft.gates pins) found) ≡ circuit_of_elements elements
-        build-circuit =
-            ap (λ now. with_data_outputs (fold with_output now found)) connected
-            ∙ ap with_data_outputs (ap (fold with_output circuit) found_are ∙ sym (outputs-numbered circuit elements))
-            ∙ built-circuit_of_elements elements
+      pub build-circuit : with_data_outputs (fold with_output (with_pins_by given (gates_built draft).inputs draft.gates pins) found) ≡ circuit_of_elements elements
+      build-circuit =
+          let all = node_names elements in
+          let outputs = map (number_in all) (output_names elements) in
+          let made = record (with_data_nodes cut_sources) { gates = gates_of (node_names elements) elements } in
+          let is = data_are nodes cut_sources by data_read in
+          ap (λ now. with_data_outputs (fold with_output now found)) pins_given.1
+          ∙ (ap with_data_outputs (outputs-added made found)
+          ∙ (data-added (record made { outputs = each_once found }) cut_sources
+          ∙ same_netlist (record made { outputs = fold add_once (each_once found) cut_sources }) (circuit_of_elements elements) (sym nodes_same) (omega (arith, front_long)) (ap (map Some) is) refl
+          (sym (each_once-append [] found cut_sources) ∙ ap each_once (ap (λ found. found ++ cut_sources) found_are ∙ ap (λ nodes. outputs ++ nodes) is))))

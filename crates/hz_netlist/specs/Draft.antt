@@ -1,17 +1,19 @@
--- A draft: the elements for which it stands, by the numbers of their names, and the steps in which they are built.
-use Rattle.std.specs.Prelude.{◌≡◌, ◌≢◌, ℕ, suc, ◌+◌, ◌<◌, ◌≤◌, All, List, [], ◌∷◌, ◌++◌, codes, decimal, length, map, take, drop, fold, slice_set, slice_index_or}
+-- A draft: the elements that it has, by the numbers of their names, and the steps in which they are built.
+use Rattle.std.specs.Prelude.{◌≡◌, ◌≢◌, ℕ, suc, ◌+◌, ◌<◌, ◌≤◌, All, List, [], ◌∷◌, ◌++◌, codes, decimal, length, map, take, drop, slice_set, slice_index_or}
 use Rattle.std.specs.List.{IsDistinct, sum_by}
 use Rattle.std.specs.Str.{bytes_eq}
+use Rattle.hz_core.specs.Gate.{most_pins}
 use Rattle.hz_core.specs.Limits.{most_variables}
-use Rattle.hz_core.specs.Netlist.{Netlist, IsCutNumber, with_cut, with_data, with_gate, with_input}
+use Rattle.hz_core.specs.Netlist.{Netlist, IsCutNumber, IsGateNumber, gate_at, variable_count, with_cut, with_data, with_gate, with_input}
+use Rattle.hz_core.specs.Pins.{with_pins}
 use Rattle.hz_netlist.specs.declared.draft.Draft.{Draft}
 use Rattle.hz_netlist.specs.declared.draft.Gate.{Gate as GateEntry}
 use Rattle.hz_netlist.specs.declared.draft.Role.{Role}
 use Rattle.hz_netlist.specs.declared.draft.Role.TheVariants as role
 use Rattle.hz_netlist.specs.declared.draft.Source.{Source}
 use Rattle.hz_netlist.specs.declared.draft.Source.TheVariants as source
-use Rattle.hz_netlist.specs.Build.{AreAdmissibleSteps, AreWired, MayAddCut, MayAddInput, MayAddNode, MayAddPinFrom, with_pin_from}
-use Rattle.hz_netlist.specs.Element.{Element, Input, Cut, Gate, Output, cuts_among, gates_among, input_names, output_names}
+use Rattle.hz_netlist.specs.Build.{AreWired, MayAddNode}
+use Rattle.hz_netlist.specs.Element.{Element, Gate, cut_names, data_names, gates_among, input_names, output_names}
 use Rattle.hz_netlist.specs.Names.{Names, AreNumbers, name_at, names_at, node_of, seen_names}
 
 -- the name of the inverter of a pin
@@ -44,13 +46,6 @@ elements_from name made [] sources = []
 elements_from name made (gate ∷ gates) sources =
     Gate (gate_name name gate) gate.kind (map (source_name name made) (take gate.pins sources))
     ∷ elements_from name made gates (drop gate.pins sources)
-
--- the elements of cuts that read these sources, one each
-abbrev pub cut_elements : (ℕ → List ℕ) → List (List ℕ) → List ℕ → List Source → List Element
-cut_elements name made [] cut_sources = []
-cut_elements name made (cut ∷ cuts) [] = []
-cut_elements name made (cut ∷ cuts) (source ∷ cut_sources) =
-    Cut (name cut) (source_name name made source) ∷ cut_elements name made cuts cut_sources
 
 -- a source is a name of the text, or one of so many gates
 abbrev pub ReadsGateBelow : ℕ → Source → Type 0
@@ -88,22 +83,16 @@ drafted draft =
 abbrev pub made_names : Drafted → List (List ℕ)
 made_names draft = map (gate_name (name_at draft.names)) draft.gates
 
--- the elements of a draft: inputs, cuts, gates, outputs
+-- the elements of its gates
 abbrev pub gate_elements : (ℕ → List ℕ) → List GateEntry → List Source → List Element
 gate_elements name gates sources = elements_from name (map (gate_name name) gates) gates sources
-
-abbrev pub elements_of_draft : Drafted → List Element
-elements_of_draft draft =
-    map Input (names_at draft.names draft.inputs)
-    ++ (cut_elements (name_at draft.names) (made_names draft) draft.cuts draft.cut_sources
-    ++ (gate_elements (name_at draft.names) draft.gates draft.sources
-    ++ map Output (names_at draft.names draft.outputs)))
 
 -- a draft has these elements, each kind of them in order
 pub record HasElements (elements : List Element) (draft : Drafted) : Type 0 where
   pub inputs : names_at draft.names draft.inputs ≡ input_names elements
-  pub cuts : cut_elements (name_at draft.names) (made_names draft) draft.cuts draft.cut_sources
-      ≡ cuts_among elements
+  pub cuts : names_at draft.names draft.cuts ≡ cut_names elements
+  pub cut_sources : map (source_name (name_at draft.names) (made_names draft)) draft.cut_sources
+      ≡ data_names elements
   pub gates : gate_elements (name_at draft.names) draft.gates draft.sources ≡ gates_among elements
   pub outputs : names_at draft.names draft.outputs ≡ output_names elements
 
@@ -115,13 +104,13 @@ HasOwnName names (role.Row row) output =
     (number : ℕ) → number < length names → name_at names number ≢ row_name output row
 HasOwnName names role.Output output = Unit {0}
 
--- a draft whose elements make a circuit, and in which no name has two numbers
-pub record IsBuildable (draft : Drafted) : Type 0 where
-  pub wired : AreWired (elements_of_draft draft)
+-- a draft of these elements, which make a circuit; no name has two numbers
+pub record IsBuildable (elements : List Element) (draft : Drafted) : Type 0 where
+  pub has : HasElements elements draft
+  pub wired : AreWired elements
   pub distinct : IsDistinct bytes_eq (seen_names draft.names)
   pub input_numbers : AreNumbers draft.names draft.inputs
   pub cut_numbers : AreNumbers draft.names draft.cuts
-  pub each : length draft.cut_sources ≡ length draft.cuts
   pub data_numbers : All (ReadsNameBelow (length draft.names)) draft.cut_sources
   pub data_gates : All (ReadsGateBelow (length draft.gates)) draft.cut_sources
   pub gate_numbers : All (λ gate. gate.output < length draft.names) draft.gates
@@ -136,17 +125,19 @@ pub record IsBuildable (draft : Drafted) : Type 0 where
 abbrev pub with_input_numbered : (ℕ → List ℕ) → Netlist → ℕ → Netlist
 with_input_numbered name netlist number = with_input netlist (name number)
 
--- such an input may be added
+-- such an input may be added: inputs come before cuts and gates
 abbrev pub MayAddInputNumbered : (ℕ → List ℕ) → Netlist → ℕ → Type 0
-MayAddInputNumbered name netlist number = MayAddInput netlist (Input (name number))
+MayAddInputNumbered name netlist number =
+    MayAddNode netlist (name number) × (netlist.cuts ≡ []) × (netlist.gates ≡ [])
 
 -- the circuit with a cut, without its data node
 abbrev pub with_cut_numbered : (ℕ → List ℕ) → Netlist → ℕ → Netlist
 with_cut_numbered name netlist number = with_cut netlist (name number)
 
--- such a cut may be added
+-- such a cut may be added: cuts come before gates
 abbrev pub MayAddCutNumbered : (ℕ → List ℕ) → Netlist → ℕ → Type 0
-MayAddCutNumbered name netlist number = MayAddCut netlist (Cut (name number) [])
+MayAddCutNumbered name netlist number =
+    MayAddNode netlist (name number) × (netlist.gates ≡ [])
 
 -- the circuit with a gate, without pins, if the names of the text are these by their numbers
 abbrev pub with_gate_entry : (ℕ → List ℕ) → Netlist → GateEntry → Netlist
@@ -179,23 +170,26 @@ MaySetDataBy netlist number (node ∷ nodes) =
 abbrev pub with_pins_by : Netlist → ℕ → List GateEntry → List ℕ → Netlist
 with_pins_by netlist number [] nodes = netlist
 with_pins_by netlist number (gate ∷ gates) nodes =
-    with_pins_by (fold (with_pin_from number) netlist (take gate.pins nodes)) (suc number) gates
+    with_pins_by (with_pins netlist number (take gate.pins nodes)) (suc number) gates
     (drop gate.pins nodes)
 
 -- the next gate may have the pins that read the first of these nodes
 pub record MayAddPinsOf (netlist : Netlist) (number : ℕ) (gate : GateEntry)
     (nodes : List ℕ) : Type 0 where
   pub enough : gate.pins ≤ length nodes
-  pub room : number < most_variables
-  pub pins : AreAdmissibleSteps (MayAddPinFrom number) (with_pin_from number) netlist
-      (take gate.pins nodes)
+  pub next : number < most_variables
+  pub gate_is : IsGateNumber netlist number
+  pub sources : All (λ node. node < length netlist.names) (take gate.pins nodes)
+  pub pins : length (gate_at netlist number).sources + length (take gate.pins nodes)
+      ≤ most_pins (gate_at netlist number).kind
+  pub room : variable_count netlist + length (take gate.pins nodes) ≤ most_variables
 
 -- such pins may be added
 abbrev pub MayAddPinsBy : Netlist → ℕ → List GateEntry → List ℕ → Type 0
 MayAddPinsBy netlist number [] nodes = Unit {0}
 MayAddPinsBy netlist number (gate ∷ gates) nodes =
     MayAddPinsOf netlist number gate nodes
-    × MayAddPinsBy (fold (with_pin_from number) netlist (take gate.pins nodes)) (suc number) gates
+    × MayAddPinsBy (with_pins netlist number (take gate.pins nodes)) (suc number) gates
     (drop gate.pins nodes)
 
 -- the nodes of names by their numbers, if these names are the nodes from this one on

@@ -7,15 +7,16 @@
 //! have names that are made of it. No text needs to name these, so they have no number in the table,
 //! and a pin reads them by their place among the gates.
 
-ghost use Rattle.std.specs.Prelude.{◌≡◌, ◌+◌, ◌++◌, ◌<◌, ◌≤◌, ℕ, All, decimal, IfOk, OnOk, fold, length, map};
+ghost use Rattle.std.specs.Prelude.{◌≡◌, ◌+◌, ◌++◌, ◌<◌, ◌≤◌, ℕ, All, List, decimal, IfOk, OnOk, fold, length, map};
 ghost use Rattle.hz_core.specs.Limits.{most_variables};
 ghost use Rattle.hz_core.specs.Netlist.{primary_inputs};
 ghost use Rattle.hz_netlist.specs.Build.{AreAdmissibleSteps};
 ghost use Rattle.hz_netlist.specs.Circuit.{circuit_of_elements};
-ghost use Rattle.hz_netlist.specs.Draft.{AreNodesBy, IsBuildable, MayAddCutNumbered, MayAddGateEntry, MayAddInputNumbered, MayAddPinsBy, MaySetDataBy, ReadsGateBelow, ReadsNameBelow, drafted, elements_of_draft, role_name, source_node, with_cut_numbered, with_data_by, with_gate_entry, with_gate_nodes, with_nodes_from, with_input_numbered, with_pins_by, with_role_node};
+ghost use Rattle.hz_netlist.specs.Draft.{AreNodesBy, IsBuildable, MayAddCutNumbered, MayAddGateEntry, MayAddInputNumbered, MayAddPinsBy, MaySetDataBy, ReadsGateBelow, ReadsNameBelow, drafted, source_node, with_cut_numbered, with_data_by, with_gate_entry, with_gate_nodes, with_nodes_from, with_input_numbered, with_pins_by, with_role_node};
+ghost use Rattle.hz_netlist.specs.Element.{Element};
 ghost use Rattle.hz_netlist.specs.Names.{AreNumbers, name_at};
 
-use crate::build::{add_outputs_and_data, connect_gate, resolve};
+use crate::build::{add_outputs_and_data, resolve};
 use crate::names::NameTable;
 use hz_core::{Circuit, Kind, Memory};
 use itoa::Buffer;
@@ -71,9 +72,9 @@ pub struct Draft<'d, 't> {
 
 /// The circuit of what was read of a text without a fault.
 pub fn build_draft(alloc: Global, draft: &Draft) -> Result<Circuit, Memory>
-    requires { IsBuildable (drafted draft.now) }
-    ensures { IfOk result (λ circuit.
-        circuit ≡ circuit_of_elements (elements_of_draft (drafted draft.now))) }
+    requires { (elements : List Element) × IsBuildable elements (drafted draft.now) }
+    ensures { (elements : List Element) → IsBuildable elements (drafted draft.now)
+        → IfOk result (λ circuit. circuit ≡ circuit_of_elements elements) }
 {
     let inputs = draft.inputs.len() + draft.cuts.len();
     let hashing = draft.names.hashing();
@@ -316,7 +317,7 @@ fn connect_gates(
     let mut left = pins;
     for gate in gates {
         let (sources, rest) = left.split_at(gate.pins);
-        match connect_gate(circuit, number, sources) {
+        match circuit.connect_all(number, sources) {
             Ok(()) => {}
             Err(Memory) => return Err(Memory),
         }

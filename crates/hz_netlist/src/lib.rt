@@ -9,13 +9,12 @@
 //! |---|---|
 //! | `names` | [`NameTable`]: names with their numbers, and the lines that define and use them first |
 //! | `draft` | [`Draft`]: what was read of a text; [`build_draft`]: its circuit |
-//! | `build` | steps of building |
+//! | `build` | outputs, and the nodes of names |
 #![tactic(auto)]
 
 mod build;
 mod draft;
 mod names;
 
-pub use build::{add_outputs, add_outputs_and_data, connect_gate, resolve};
 pub use draft::{Draft, Gate, Role, Source, build_draft};
 pub use names::{Definition, NameTable};

@@ -12,9 +12,12 @@ returns-in_err-statements-clause-exact c =
     ])
 
 pub returns-clause-circuit : goal.returns-clause-circuit
-returns-clause-circuit c = c.in-Ok.ensures ∙ c.in_ok-statements.ensures.circuit
+returns-clause-circuit c = c.in-Ok.ensures _ c.in_ok-statements.ensures.may
 
 pub returns-clause-whole : goal.returns-clause-whole
 returns-clause-whole c =
-    let is = c.in-Ok.ensures ∙ c.in_ok-statements.ensures.circuit in
+    let is = c.in-Ok.ensures _ c.in_ok-statements.ensures.may in
     rw is c.in_ok-statements.ensures.whole
+
+pub build-requires : goal.build-requires
+build-requires c = (_, c.in_ok-statements.ensures.may)
