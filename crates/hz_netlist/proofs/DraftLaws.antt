@@ -214,10 +214,10 @@ module _ (elements : List Element) (draft : Drafted) (can : IsBuildable elements
         subst (λ now. MayAddPinsBy now (gates_built draft).inputs draft.gates pins × (with_pins_by now (gates_built draft).inputs draft.gates pins ≡ record (with_data_nodes cut_sources) { gates = gates_of (node_names elements) elements })) (sym made.1)
         (subst (λ (number : ℕ). MayAddPinsBy (with_data_nodes cut_sources) number draft.gates pins × (with_pins_by (with_data_nodes cut_sources) number draft.gates pins ≡ record (with_data_nodes cut_sources) { gates = gates_of (node_names elements) elements }))
         (sym (ap (λ (now : Netlist). now.inputs) gates_added.1))
-        (let given = pins-given now now.inputs [] draft.gates pins (sym (add-zero now.inputs)) (omega (arith, ap length nodes_same, nodes_long)) (can.sized ∙ sym long)
+        (let taken = pins-given now now.inputs [] draft.gates pins (sym (add-zero now.inputs)) (omega (arith, ap length nodes_same, nodes_long)) (can.sized ∙ sym long)
         (entries-right (name_at draft.names) (made_names draft) draft.gates draft.sources can.sized (subst (AllByRecursion HasRightPins) (sym can.has.gates) (gates-all HasRightPins elements can.wired.pins)))
         (subst (λ all. All (λ node. node < length all) pins) nodes_same below) (omega (arith, ap length nodes_same, variables, count)) in
-        (given.0, given.1 ∙ ap (λ gates. record (with_data_nodes cut_sources) { gates = gates }) gates_are)))
+        (taken.0, taken.1 ∙ ap (λ gates. record (with_data_nodes cut_sources) { gates = gates }) gates_are)))
 
     pub build-pins : MayAddPinsBy given (gates_built draft).inputs draft.gates pins
     build-pins = pins_given.0
