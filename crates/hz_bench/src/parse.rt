@@ -136,6 +136,7 @@ impl<'a> Statements<'a> {
     }
 
     // Keeps a node, which defines the name with this number, and notes what it reads.
+    #[inline(always)]
     fn keep(&mut self, entry: &Entry<'a>, number: u32, words: &[&'a [u8]]) -> Result<(), Memory>
         requires { AreKept words.now entry.now.pins entry.now.sources.now }
         ensures { OnOk result (KeepsNode self.old entry.now.form entry.now.line entry.now.pins
@@ -196,6 +197,7 @@ fn note_again(again: &mut Option<Redefinition>, line: u32, first: Option<u32>)
 
 // Notes that a line uses the names that a node reads, and adds them to the sources. If not all of
 // them were kept, they are read again.
+#[inline(always)]
 fn use_sources<'a>(
     names: &mut NameTable<'a>,
     entry: &Entry<'a>,
@@ -264,6 +266,7 @@ fn use_names<'a>(
 }
 
 // Adds an item to a list.
+#[inline(always)]
 fn push<T: Drop>(items: &mut Vec<T>, item: T) -> Result<(), Memory>
     ensures { OnOk result (items.new.items ≡ items.old.items ++ item ∷ []) }
 {
