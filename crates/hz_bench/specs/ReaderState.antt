@@ -17,7 +17,7 @@ use Rattle.hz_bench.specs.FaultIn.{redefinition_fault}
 use Rattle.hz_bench.specs.FaultNotes.{notes_with, no_notes, notes_of}
 use Rattle.hz_bench.specs.Names.{are_names, definer_before, definitions_of, places, source_number, told, uses_of, with_statement, with_uses}
 use Rattle.hz_bench.specs.Netlist.{elements_of, kind_of}
-use Rattle.hz_bench.specs.Statement.{defined_name}
+use Rattle.hz_bench.specs.Statement.{Statement, defined_name}
 use Rattle.hz_bench.specs.Text.{plain}
 use Rattle.hz_bench.specs.Twice.{twice_fault}
 
