@@ -32,7 +32,7 @@ use Rattle.hz_bench.specs.Names.{are_names, places, source_number, told}
 use Rattle.hz_bench.specs.Netlist.{elements_of}
 use Rattle.hz_bench.specs.Pass.{IsParsed}
 use Rattle.hz_bench.specs.ReaderState.{HoldsNodes}
-use Rattle.hz_bench.specs.Statement.{has_long_name, has_unknown_kind, has_wrong_pins, statement_of, statement_pin_count}
+use Rattle.hz_bench.specs.Statement.{Statement, has_long_name, has_unknown_kind, has_wrong_pins, statement_of, statement_pin_count}
 use Rattle.hz_bench.specs.Text.{bench_statements, plain, statements_of}
 use Rattle.hz_bench.specs.Twice.{twice_fault}
 use Rattle.hz_bench.proofs.CheckedLemmas.{option_or-none}

@@ -158,11 +158,11 @@ told-same : (numbers more : List ℕ) → more ≡ numbers → told more ≡ tol
 told-same numbers more is = ap told is ∙ sym (append-nil (told numbers))
 
 -- the node of a statement that was kept
-form-added : (old new : Statements) (form : Form) (statement : Statement) (pins number : ℕ) (words : List (List ℕ)) → form_of statement ≡ Some form → has_wrong_pins statement ≡ false → words ≡ sources_of statement → pins ≡ length (sources_of statement)
-    → ((name : List ℕ) → defined_name statement ≡ Some name → place_in new.names name ≡ Some number) → KeepsForm old form pins words number new → AddsNodes (elements_of (statement ∷ [])) old new
-form-added old new form (Output name) pins number words is right read count at kept = cc
-form-added old new form (Input name) pins number words is right read count at kept =
-    let parts = subst (λ form. KeepsForm old form pins words number new) (Form-same form.Input form is) kept in
+form-added : (old new : Statements) (made : Form) (statement : Statement) (pins number : ℕ) (words : List (List ℕ)) → form_of statement ≡ Some made → has_wrong_pins statement ≡ false → words ≡ sources_of statement → pins ≡ length (sources_of statement)
+    → ((name : List ℕ) → defined_name statement ≡ Some name → place_in new.names name ≡ Some number) → KeepsForm old made pins words number new → AddsNodes (elements_of (statement ∷ [])) old new
+form-added old new made (Output name) pins number words is right read count at kept = cc
+form-added old new made (Input name) pins number words is right read count at kept =
+    let parts = subst (λ made. KeepsForm old made pins words number new) (Form-same form.Input made is) kept in
     record {
       inputs = told-one new.names old.inputs.items new.inputs.items number name parts.0 (at name refl);
       cuts = told-same old.cuts.items new.cuts.items parts.1.cuts;
@@ -173,8 +173,8 @@ form-added old new form (Input name) pins number words is right read count at ke
       sources = told-same (map source_number old.sources.items) (map source_number new.sources.items) (ap (map source_number) parts.2.sources);
       named = λ named. ap are_names parts.2.sources ∙ named;
     }
-form-added old new form (FlipFlop name sources) pins number words is right read count at kept =
-    let parts = subst (λ form. KeepsForm old form pins words number new) (Form-same form.FlipFlop form is) kept in
+form-added old new made (FlipFlop name sources) pins number words is right read count at kept =
+    let parts = subst (λ made. KeepsForm old made pins words number new) (Form-same form.FlipFlop made is) kept in
     record {
       inputs = told-same old.inputs.items new.inputs.items parts.0;
       cuts = told-one new.names old.cuts.items new.cuts.items number name parts.1 (at name refl);
@@ -185,8 +185,8 @@ form-added old new form (FlipFlop name sources) pins number words is right read 
       sources = told-same (map source_number old.sources.items) (map source_number new.sources.items) (ap (map source_number) parts.3.sources);
       named = λ named. ap are_names parts.3.sources ∙ named;
     }
-form-added old new form (Gate name kind sources) pins number words is right read count at kept =
-    let parts = subst (λ form. KeepsForm old form pins words number new) (Form-same (form.Gate kind) form is) kept in
+form-added old new made (Gate name kind sources) pins number words is right read count at kept =
+    let parts = subst (λ made. KeepsForm old made pins words number new) (Form-same (form.Gate kind) made is) kept in
     let gate : GateEntry = record { role = role.Output; kind = kind_of kind; output = number; pins = pins } in
     record {
       inputs = told-same old.inputs.items new.inputs.items parts.0;
@@ -207,6 +207,7 @@ pub node-added : (old new : Statements) (entry : Entry) (number : ℕ) (names : 
     → KeepsNode (record old { names = names; notes = notes; again = again }) entry.form entry.line entry.pins (words_in entry.sources.now) number new
     → AddsStatement old (numbered_of entry) new
 node-added old new entry number names notes again defined at noted told_again kept =
+    let begun : Statements = record old { names = names; notes = notes; again = again } in
     let statement = statement_of_entry entry in
     let formed : form_of statement ≡ Some entry.form = sym (entry-formed entry) in
     let one : defined_names (statement ∷ []) ≡ entry.name.now ∷ [] = names-more statement entry.name.now (entry-defines entry) in
@@ -221,7 +222,18 @@ node-added old new entry number names notes again defined at noted told_again ke
       names = kept.names ∙ ap (λ names. with_uses names entry.line (words_in entry.sources.now)) defined
           ∙ sym (ap (λ names. with_uses (with_definitions old.names entry.line names) entry.line (used_names statement)) one
           ∙ ap (with_uses (with_definition old.names entry.name.now entry.line) entry.line) words);
-      nodes = λ right few. form-added old new entry.form statement entry.pins number (words_in entry.sources.now) formed (right-here old.notes.wrong_pins (numbered_of entry) (sym wrong ∙ right)) entry.sourced entry.counted named (kept.kept few);
+      nodes = λ right few.
+          (let added = form-added begun new entry.form statement entry.pins number (words_in entry.sources.now) formed (right-here old.notes.wrong_pins (numbered_of entry) (sym wrong ∙ right)) entry.sourced entry.counted named (kept.kept few) in
+          record {
+            inputs = added.inputs;
+            cuts = added.cuts;
+            cut_sources = added.cut_sources;
+            data_named = added.data_named;
+            gates = added.gates;
+            shapes = added.shapes;
+            sources = added.sources;
+            named = added.named;
+          });
       outputs = ap told kept.outputs ∙ sym (append-nil (told old.outputs.items)) ∙ ap (λ names. told old.outputs.items ++ places new.names names) (sym (node-no_output entry.form statement formed));
       notes = all_notes;
       again = kept.again ∙ told_again ∙ ap (λ name. redefinition_with old.again entry.line (definer_before old.names name)) (sym (entry-defines entry));

@@ -132,7 +132,8 @@ impl<'a> Statements<'a> {
         self.notes.add(&entry);
         let definition = self.names.define_name(entry.name, entry.line)?;
         note_again(&mut self.again, entry.line, definition.first);
-        self.keep(&entry, definition.number, words)
+        self.keep(&entry, definition.number, words)?;
+        Ok(())
     }
 
     // Keeps a node, which defines the name with this number, and notes what it reads.
