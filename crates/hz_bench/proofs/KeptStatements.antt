@@ -1,11 +1,10 @@
 -- What was read of a text is the draft of its circuit, and has its first fault.
-use Rattle.std.proofs.Common.{◌≡◌, ◌∙◌, ℕ, suc, ◌+◌, ◌<◌, ◌≤◌, ◌++◌, true, false, List, [], ◌∷◌, Option, Some, None, option_map, length, map, take, drop, refl, ap, sym, subst, arith}
+use Rattle.std.proofs.Common.{◌≡◌, ◌∙◌, ℕ, ◌<◌, true, false, List, [], ◌∷◌, Option, Some, None, option_map, length, map, take, drop, refl, ap, sym, subst, arith}
 use Rattle.std.specs.Option.{option_or}
 use Rattle.std.specs.Prelude.{All, sum_by}
 use Rattle.std.proofs.lemmas.List.{drop-map, drop_at, length-append, length-map, take-map, take_at}
 use Rattle.std.proofs.lemmas.List.Elements.{All-cons, All-head, All-nil, All-tail}
 use Rattle.std.proofs.lemmas.List.Sums.{sum_by-cons}
-use Rattle.hz_core.specs.Limits.{most_variables}
 use Rattle.hz_line.specs.Line.{lines_of}
 use Rattle.hz_line.specs.Statement.{Numbered, first_passing_line}
 use Rattle.hz_line.proofs.StatementLemmas.{numbered_from-Ascends}
@@ -31,7 +30,6 @@ use Rattle.hz_bench.specs.FaultNotes.{notes_of, wrong_pins_of}
 use Rattle.hz_bench.specs.Names.{are_names, places, source_number, told}
 use Rattle.hz_bench.specs.Netlist.{elements_of}
 use Rattle.hz_bench.specs.Pass.{IsParsed}
-use Rattle.hz_bench.specs.ReaderState.{HoldsNodes}
 use Rattle.hz_bench.specs.Statement.{Statement, has_long_name, has_unknown_kind, has_wrong_pins, statement_of, statement_pin_count}
 use Rattle.hz_bench.specs.Text.{bench_statements, plain, statements_of}
 use Rattle.hz_bench.specs.Twice.{twice_fault}

@@ -1,5 +1,5 @@
 -- The draft of a circuit that statements are.
-use Rattle.std.specs.Prelude.{ℕ, List, [], ◌∷◌, length}
+use Rattle.std.specs.Prelude.{List, [], ◌∷◌, length}
 use Rattle.hz_netlist.specs.declared.draft.Gate.{Gate as GateEntry}
 use Rattle.hz_netlist.specs.declared.draft.Role.TheVariants as role
 use Rattle.hz_netlist.specs.Draft.{Drafted}

@@ -1,4 +1,4 @@
-use Rattle.std.proofs.Common.{◌∙◌, ap, inl, inr, Err}
+use Rattle.std.proofs.Common.{ap, inl, inr, Err}
 use Rattle.std.proofs.lemmas.Result.{err_from_is_err_and}
 use Rattle.hz_bench.proofs.ReadLaws.{answer-exact}
 use Rattle.hz_bench.proofs.reading.read.Goals as goal
