@@ -16,7 +16,7 @@ use Rattle.hz_netlist.specs.declared.draft.Source.{Source}
 use Rattle.hz_netlist.specs.Build.{Apart, AreAdmissibleSteps, AreKnown, HasNode, HasRightPins, UsesKnown, with_data_outputs}
 use Rattle.hz_netlist.specs.Circuit.{add_once, all_inputs, circuit_of_elements, data_nodes, each_once, gates_of, node_names, number_in}
 use Rattle.hz_netlist.specs.Draft.{AreNodesBy, Drafted, IsBuildable, MayAddCutNumbered, MayAddGateEntry, MayAddInputNumbered, MayAddPinsBy, MaySetDataBy, ReadsGateBelow, ReadsNameBelow, gate_name, made_names, source_name, source_node, with_cut_numbered, with_data_by, with_gate_entry, with_gate_nodes, with_nodes_from, with_input_numbered, with_pins_by}
-use Rattle.hz_netlist.specs.Element.{Element, cut_names, data_names, gate_names, gates_among, input_names, output_names}
+use Rattle.hz_netlist.specs.Element.{Element, cut_names, data_names, gate_names, input_names, output_names}
 use Rattle.hz_netlist.specs.Names.{name_at, names_at, node_of}
 
 -- the circuit with the inputs, with the cuts too, and with the gates

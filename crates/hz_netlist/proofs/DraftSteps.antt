@@ -1,13 +1,12 @@
 -- The steps in which the circuit of a draft is built: each may be taken, and where they lead.
 use Rattle.std.proofs.Common.{◌≡◌, ◌∙◌, refl, sym, ap, subst, ℕ, suc, ◌+◌, ◌-◌, ◌<◌, ◌≤◌, true, false, List, [], ◌∷◌, ◌++◌, Option, None, Some, length, map, take, drop, set, fold, get_or, length-drop, length-append, append_assoc, add-zero, arith}
-use Rattle.std.specs.Prelude.{All, position, sum_by}
+use Rattle.std.specs.Prelude.{All, sum_by}
 use Rattle.std.specs.List.{AllByRecursion, list_any}
 use Rattle.std.specs.Str.{bytes_eq}
 use Rattle.std.proofs.lemmas.List.{append-nil, at_drop_more, drop-map, get_or_at, length-map, length-take-le, set_at, take-append-drop, take-map}
 use Rattle.std.proofs.lemmas.List.Elements.{All-drop, All-head, All-tail, All-take}
 use Rattle.std.proofs.lemmas.List.Sums.{sum_by-append, sum_by-cons}
 use Rattle.std.proofs.lemmas.Simd.{map-map}
-use Rattle.hz_core.specs.declared.kind.Kind.{Kind}
 use Rattle.hz_core.specs.declared.kind.Kind.TheVariants.{And}
 use Rattle.hz_core.specs.Gate.{most_pins}
 use Rattle.hz_core.specs.Limits.{most_variables}

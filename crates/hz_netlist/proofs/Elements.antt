@@ -1,5 +1,5 @@
 -- The names of elements, one list of them after another.
-use Rattle.std.proofs.Common.{◌≡◌, ◌∙◌, refl, sym, ap, ℕ, List, [], ◌∷◌, ◌++◌, append_assoc}
+use Rattle.std.proofs.Common.{◌≡◌, ◌∙◌, refl, sym, ap, List, [], ◌∷◌, ◌++◌, append_assoc}
 use Rattle.std.proofs.lemmas.List.{append-nil}
 use Rattle.hz_netlist.specs.Element.{Element, Input, Cut, Gate, Output, input_names, cut_names, data_names, gate_names, output_names, source_names}
 

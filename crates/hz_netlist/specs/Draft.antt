@@ -14,7 +14,7 @@ use Rattle.hz_netlist.specs.declared.draft.Source.{Source}
 use Rattle.hz_netlist.specs.declared.draft.Source.TheVariants as source
 use Rattle.hz_netlist.specs.Build.{AreWired, MayAddNode}
 use Rattle.hz_netlist.specs.Element.{Element, Gate, cut_names, data_names, gates_among, input_names, output_names}
-use Rattle.hz_netlist.specs.Names.{Names, AreNumbers, name_at, names_at, node_of, seen_names}
+use Rattle.hz_netlist.specs.Names.{Names, AreNumbers, name_at, names_at, seen_names}
 
 -- the name of the inverter of a pin
 abbrev pub inverter_name : List ℕ → ℕ → List ℕ
