@@ -1,5 +1,5 @@
 -- What holds of statements in which the check found no fault.
-use Rattle.std.proofs.Common.{◌≡◌, ◌∙◌, ℕ, ◌≤◌, ◌++◌, ◌||◌, Bool, true, false, not, cond, List, [], ◌∷◌, Option, Some, None, is_some, refl, ap, sym, subst, arith, append_assoc}
+use Rattle.std.proofs.Common.{◌≡◌, ◌∙◌, ℕ, ◌≤◌, ◌++◌, ◌||◌, Bool, true, false, not, cond, List, [], ◌∷◌, Option, Some, None, is_some, refl, ap, sym, subst, arith}
 use Rattle.std.specs.Option.{option_or}
 use Rattle.std.specs.Prelude.{nat_lt}
 use Rattle.std.specs.List.{list_any, AllByRecursion}
@@ -234,7 +234,7 @@ fault_or-none : (kind : Numbered Statement → BenchFault) (answer : Option (Num
 fault_or-none kind None rest h = (refl, h)
 fault_or-none kind (Some found) rest h = cc
 
-option_or-none : (answer rest : Option BenchFault) → option_or answer rest ≡ None → (answer ≡ None) × (rest ≡ None)
+pub option_or-none : (answer rest : Option BenchFault) → option_or answer rest ≡ None → (answer ≡ None) × (rest ≡ None)
 option_or-none None rest h = (refl, h)
 option_or-none (Some found) rest h = cc
 
@@ -268,18 +268,3 @@ checked statements h =
       defined = each_known statements (plain statements) (each_fails (uses_undefined statements) statements f.0);
       few = few_enough (variable_total (elements_of (plain statements))) f.1;
     }
-
--- names that are apart, one list after the other
-Apart-append : (names front back : List (List ℕ)) → Apart names front → Apart (names ++ front) back → Apart names (front ++ back)
-Apart-append names [] back h more = subst (λ all. Apart all back) (append-nil names) more
-Apart-append names (first ∷ front) back h more =
-    (h.0, Apart-append (names ++ first ∷ []) front back h.1 (subst (λ all. Apart all back) (sym (append_assoc names (first ∷ []) front)) more))
-
--- where no name is defined twice, the names of the nodes are apart
-pub nodes_apart : (statements : List (Numbered Statement)) → twice_fault statements ≡ None → Apart [] (node_names (elements_of (plain statements)))
-nodes_apart statements h =
-    let apart = apart-from_twice [] statements h in
-    let inputs = Apart-append [] (input_names (elements_of (plain statements))) (cut_names (elements_of (plain statements)))
-    (inputs_apart [] [] (plain statements) (λ name away. away) apart) (cuts_apart (input_names (elements_of (plain statements))) [] (plain statements) (λ name away none. none) apart) in
-    Apart-append [] (all_inputs (elements_of (plain statements))) (gate_names (elements_of (plain statements)))
-    inputs (gates_apart (all_inputs (elements_of (plain statements))) [] (plain statements) (no_input (plain statements)) apart)

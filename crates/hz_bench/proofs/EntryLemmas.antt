@@ -1,14 +1,11 @@
 -- Entries as statements, and with their lines.
-use Rattle.std.proofs.Common.{◌≡◌, ℕ, List, [], ◌∷◌, Some, map, refl, ap}
-use Rattle.hz_line.specs.Statement.{Numbered}
+use Rattle.std.proofs.Common.{◌≡◌, ℕ, List, Some, refl}
 use Rattle.hz_bench.specs.declared.entry.Entry.{Entry}
 use Rattle.hz_bench.specs.declared.forms.Form.{Form}
 use Rattle.hz_bench.specs.declared.forms.Form.TheVariants as form
-use Rattle.hz_bench.specs.Elements.{element_list, element_of_entry}
-use Rattle.hz_bench.specs.Netlist.{elements_of}
-use Rattle.hz_bench.specs.Entry.{statement_of_entry, numbered_list, statement_list}
+use Rattle.hz_bench.specs.Entry.{statement_of_entry}
 use Rattle.hz_bench.specs.Form.{form_of, statement_with}
-use Rattle.hz_bench.specs.Statement.{Statement, defined_name, name_of}
+use Rattle.hz_bench.specs.Statement.{defined_name, name_of}
 
 -- a statement has the name and the form that it is made with
 name_of-statement_with : (name : List ℕ) (made : Form) (part : List ℕ) → name ≡ name_of (statement_with name made part)
@@ -36,13 +33,3 @@ defined_name-statement_with name (form.Gate kind) part = refl
 
 pub entry-defines : (entry : Entry) → defined_name (statement_of_entry entry) ≡ Some entry.name.now
 entry-defines entry = defined_name-statement_with entry.name.now entry.form entry.sources.now
-
--- the statements of entries with their lines
-pub statement_list-numbered : (entries : List Entry) → map (λ (numbered : Numbered Statement). numbered.statement) (numbered_list entries) ≡ statement_list entries
-statement_list-numbered [] = refl
-statement_list-numbered (entry ∷ rest) = ap (λ statements. statement_of_entry entry ∷ statements) (statement_list-numbered rest)
-
--- entries as elements are their statements as elements
-pub element_list-statements : (entries : List Entry) → element_list entries ≡ elements_of (statement_list entries)
-element_list-statements [] = refl
-element_list-statements (entry ∷ rest) = ap (λ elements. element_of_entry entry ∷ elements) (element_list-statements rest)

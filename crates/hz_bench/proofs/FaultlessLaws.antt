@@ -7,8 +7,7 @@ use Rattle.hz_line.specs.Statement.{Meaning, Nothing, Malformed, Means, Numbered
 use Rattle.hz_line.specs.Token.{TokenOf, tokens_of, IsWordToken, AreWordTokens}
 use Rattle.hz_line.proofs.TokenLemmas.{tokens_of-AreWordTokens}
 use Rattle.hz_netlist.specs.Build.{AreWired}
-use Rattle.hz_netlist.proofs.Admissible.{whole}
-use Rattle.hz_netlist.proofs.Circuits.{built_circuit}
+use Rattle.hz_netlist.proofs.Circuits.{built_circuit, whole}
 use Rattle.hz_bench.specs.declared.fault.BenchFault.{BenchFault}
 use Rattle.hz_bench.specs.declared.fault.BenchFault.TheVariants.{Form}
 use Rattle.hz_bench.specs.Check.{first_fault}

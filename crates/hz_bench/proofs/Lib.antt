@@ -1,9 +1,5 @@
--- When the node of an entry may be added
-pub mod BuildLemmas
 -- What holds of statements in which the check found no fault
 pub mod CheckedLemmas
--- Pins and outputs by the numbers of their nodes
-pub mod ConnectLemmas
 -- The table of names, statement by statement
 pub mod DefinitionLemmas
 -- The names of a text, statement by statement
@@ -20,8 +16,6 @@ pub mod ReaderLemmas
 pub mod ElementLemmas
 -- What is noted of statements, with one more
 pub mod NoteLemmas
--- The numbers of the nodes in the order of the text
-pub mod NumberLemmas
 -- Reading the statements of a text line by line
 pub mod ParseLemmas
 -- A printed text stands for its circuit
@@ -34,11 +28,9 @@ pub mod PrintedLemmas
 pub mod PrintedLines
 -- What the reader answers, by the law of faults
 pub mod ReadLaws
--- From all statements of a text to its nodes and its outputs, and back
+-- What was read of a text is the draft of its circuit, and has its first fault
 pub mod KeptStatements
 -- The statement that a line means, from the head of its tokens
 pub mod StatementLemmas
--- The nodes that names stand for, by their numbers
-pub mod UseLemmas
 -- The first line that uses a name which no statement defines, by the names of the text
 pub mod UndefinedNames

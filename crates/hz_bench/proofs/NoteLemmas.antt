@@ -1,17 +1,17 @@
 -- What is noted of statements, with one more.
-use Rattle.std.proofs.Common.{◌≡◌, ◌∙◌, ℕ, ◌+◌, ◌≤◌, length, length-append, Bool, true, false, List, [], ◌∷◌, ◌++◌, Option, Some, None, option_map, refl, ap, cond, arith}
+use Rattle.std.proofs.Common.{◌≡◌, ◌∙◌, ℕ, ◌+◌, Bool, true, false, List, [], ◌∷◌, ◌++◌, Option, Some, None, option_map, refl, ap, cond, arith}
 use Rattle.std.specs.Option.{option_or}
 use Rattle.std.proofs.lemmas.List.Folds.{find-append}
-use Rattle.std.proofs.lemmas.List.Sums.{sum_by-append, sum_by-cons}
+use Rattle.std.proofs.lemmas.List.Sums.{sum_by-append}
 use Rattle.std.proofs.lemmas.List.{map-append}
 use Rattle.hz_line.specs.Statement.{Numbered, first_passing_line}
 use Rattle.hz_bench.specs.declared.notes.Notes.{Notes}
 use Rattle.hz_bench.specs.declared.notes.WrongPins.{WrongPins}
 use Rattle.hz_bench.specs.Check.{first_that}
-use Rattle.hz_bench.specs.FaultNotes.{inputs_among, cuts_among, notes_of, notes_with, first_of, wrong_or, wrong_pins_of}
-use Rattle.hz_netlist.specs.Element.{input_names, cut_names, element_variables, variable_total}
+use Rattle.hz_bench.specs.FaultNotes.{notes_of, notes_with, first_of, wrong_or, wrong_pins_of}
+use Rattle.hz_netlist.specs.Element.{element_variables, variable_total}
 use Rattle.hz_bench.specs.Netlist.{element_of, elements_of}
-use Rattle.hz_bench.specs.Statement.{Statement, Input, Output, FlipFlop, Gate, has_long_name, has_unknown_kind, has_wrong_pins}
+use Rattle.hz_bench.specs.Statement.{Statement, has_long_name, has_unknown_kind, has_wrong_pins}
 use Rattle.hz_bench.specs.Text.{plain}
 
 -- the line of what was found, or of one more where it passes
@@ -45,50 +45,11 @@ variables-push statements one =
     let parts = ap (λ all. variable_total (elements_of all)) (map-append (λ (numbered : Numbered Statement). numbered.statement) statements (one ∷ [])) in
     omega (arith, parts, variable_total-append (plain statements) (one.statement ∷ []))
 
--- the inputs of statements with one more
-input_names-append : (statements more : List Statement) → input_names (elements_of (statements ++ more)) ≡ input_names (elements_of statements) ++ input_names (elements_of more)
-input_names-append [] more = refl
-input_names-append (Input name ∷ rest) more = ap (λ names. name ∷ names) (input_names-append rest more)
-input_names-append (Output name ∷ rest) more = input_names-append rest more
-input_names-append (FlipFlop name sources ∷ rest) more = input_names-append rest more
-input_names-append (Gate name kind sources ∷ rest) more = input_names-append rest more
-
-cut_names-append : (statements more : List Statement) → cut_names (elements_of (statements ++ more)) ≡ cut_names (elements_of statements) ++ cut_names (elements_of more)
-cut_names-append [] more = refl
-cut_names-append (Input name ∷ rest) more = cut_names-append rest more
-cut_names-append (Output name ∷ rest) more = cut_names-append rest more
-cut_names-append (FlipFlop name sources ∷ rest) more = ap (λ names. name ∷ names) (cut_names-append rest more)
-cut_names-append (Gate name kind sources ∷ rest) more = cut_names-append rest more
-
-inputs-push : (statements : List (Numbered Statement)) (one : Numbered Statement) → inputs_among (statements ++ one ∷ []) ≡ inputs_among statements + inputs_among (one ∷ [])
-inputs-push statements one =
-    ap (λ (all : List Statement). length (input_names (elements_of all))) (map-append (λ (numbered : Numbered Statement). numbered.statement) statements (one ∷ []))
-    ∙ ap length (input_names-append (plain statements) (one.statement ∷ []))
-    ∙ length-append (input_names (elements_of (plain statements))) (input_names (elements_of (one.statement ∷ [])))
-
-cuts-push : (statements : List (Numbered Statement)) (one : Numbered Statement) → cuts_among (statements ++ one ∷ []) ≡ cuts_among statements + cuts_among (one ∷ [])
-cuts-push statements one =
-    ap (λ (all : List Statement). length (cut_names (elements_of all))) (map-append (λ (numbered : Numbered Statement). numbered.statement) statements (one ∷ []))
-    ∙ ap length (cut_names-append (plain statements) (one.statement ∷ []))
-    ∙ length-append (cut_names (elements_of (plain statements))) (cut_names (elements_of (one.statement ∷ [])))
-
--- each input and each flip-flop is a variable
-pub inputs_few : (statements : List (Numbered Statement)) → inputs_among statements + cuts_among statements ≤ variable_total (elements_of (plain statements))
-inputs_few [] = omega arith
-inputs_few (first ∷ rest) = by_statement first.statement (inputs_few rest) (sum_by-cons element_variables (element_of first.statement) (elements_of (plain rest)))
-  where
-    by_statement : (statement : Statement) → inputs_among rest + cuts_among rest ≤ variable_total (elements_of (plain rest)) → variable_total (elements_of (plain (first ∷ rest))) ≡ element_variables (element_of statement) + variable_total (elements_of (plain rest))
-        → length (input_names (elements_of (statement ∷ plain rest))) + length (cut_names (elements_of (statement ∷ plain rest))) ≤ variable_total (elements_of (plain (first ∷ rest)))
-    by_statement (Input name) h e = omega (arith, h, e)
-    by_statement (Output name) h e = omega (arith, h, e)
-    by_statement (FlipFlop name sources) h e = omega (arith, h, e)
-    by_statement (Gate name kind sources) h e = omega (arith, h, e)
-
-notes_by_parts : {long unknown long' unknown' : Option ℕ} {wrong wrong' : Option WrongPins} {inputs inputs' cuts cuts' variables variables' : ℕ} → long ≡ long' → unknown ≡ unknown' → wrong ≡ wrong' → inputs ≡ inputs' → cuts ≡ cuts' → variables ≡ variables'
-    → ◌≡◌ {A = Notes} (record { long_name = long; unknown_kind = unknown; wrong_pins = wrong; inputs = inputs; cuts = cuts; variables = variables }) (record { long_name = long'; unknown_kind = unknown'; wrong_pins = wrong'; inputs = inputs'; cuts = cuts'; variables = variables' })
-notes_by_parts a b c d e f = cc
+notes_by_parts : {long unknown long' unknown' : Option ℕ} {wrong wrong' : Option WrongPins} {variables variables' : ℕ} → long ≡ long' → unknown ≡ unknown' → wrong ≡ wrong' → variables ≡ variables'
+    → ◌≡◌ {A = Notes} (record { long_name = long; unknown_kind = unknown; wrong_pins = wrong; variables = variables }) (record { long_name = long'; unknown_kind = unknown'; wrong_pins = wrong'; variables = variables' })
+notes_by_parts a b c d = cc
 
 -- the notes of statements with one more
 pub notes_of-push : (statements : List (Numbered Statement)) (one : Numbered Statement) → notes_of (statements ++ one ∷ []) ≡ notes_with (notes_of statements) one
 notes_of-push statements one =
-    notes_by_parts (first_passing_line-push has_long_name statements one) (first_passing_line-push has_unknown_kind statements one) (wrong_pins-push statements one) (inputs-push statements one) (cuts-push statements one) (variables-push statements one)
+    notes_by_parts (first_passing_line-push has_long_name statements one) (first_passing_line-push has_unknown_kind statements one) (wrong_pins-push statements one) (variables-push statements one)

@@ -1,5 +1,5 @@
 -- Reading the statements of a text line by line.
-use Rattle.std.proofs.Common.{◌≡◌, ◌∙◌, ℕ, ◌+◌, ◌≤◌, suc, List, [], ◌∷◌, ◌++◌, Option, Some, None, option_map, length, refl, sym, ap, arith, add-one, append_assoc, IfSome, is_some, lit≤, subst, Bool, true, false, cond}
+use Rattle.std.proofs.Common.{◌≡◌, ◌∙◌, ℕ, ◌+◌, ◌≤◌, suc, List, [], ◌∷◌, ◌++◌, Option, Some, None, option_map, length, map, refl, sym, ap, arith, add-one, append_assoc, IfSome, is_some, lit≤, subst, Bool, true, false, cond}
 use Rattle.std.specs.Borrow.{Bor}
 use Rattle.hz_netlist.specs.Names.{AreNamesOf, Names, seen_names}
 use Rattle.std.specs.List.{IsDistinct}
@@ -11,8 +11,9 @@ use Rattle.hz_line.specs.Token.{TokenOf, tokens_of}
 use Rattle.hz_line.proofs.TokenLemmas.{tokens_of-length}
 use Rattle.hz_bench.specs.declared.notes.Notes.{Notes}
 use Rattle.hz_bench.specs.declared.parse.Statements.{Statements}
-use Rattle.hz_bench.specs.Entry.{numbered_list}
-use Rattle.hz_bench.specs.Names.{told}
+use Rattle.hz_netlist.specs.declared.draft.Gate.{Gate as GateEntry}
+use Rattle.hz_bench.specs.Draft.{shape_of}
+use Rattle.hz_bench.specs.Names.{are_names, source_number, told}
 use Rattle.hz_bench.specs.ReaderState.{AreGathered, IsNothingRead, AddsStatement}
 use Rattle.hz_bench.specs.Pass.{IsParsed}
 use Rattle.hz_bench.specs.FaultIn.{redefinition_fault}
@@ -21,7 +22,7 @@ use Rattle.hz_bench.specs.Netlist.{element_of, elements_of}
 use Rattle.hz_bench.specs.Statement.{Statement, Input, Output, FlipFlop, Gate, statement_of, name_list_of, Port, InputPort, OutputPort, port_word, port_of, defined_by, is_flip_flop, kind_named, words_of}
 use Rattle.hz_bench.specs.Text.{bench_meaning, bench_statements, plain}
 use Rattle.hz_bench.proofs.ReaderLemmas.{gathered-more}
-use Rattle.hz_bench.proofs.NoteLemmas.{inputs_few, variables-push}
+use Rattle.hz_bench.proofs.NoteLemmas.{variables-push}
 use Rattle.hz_bench.proofs.StatementLemmas.{IsNameList-from_some, by_form}
 
 -- what was read so far, before the rest of the text
@@ -42,9 +43,16 @@ gathered-nothing : (statements : Statements) → IsNothingRead statements → Ar
 gathered-nothing statements nothing = record {
   names = subst (AreNamesOf [] []) (sym nothing.names) (record { definer = λ name. refl; user = λ name. refl });
   distinct = distinct-none statements.names nothing.names;
-  nodes = λ few. ap numbered_list nothing.nodes;
-  defined = λ few. ap told nothing.defined;
-  sources = λ few. ap told nothing.sources;
+  nodes = λ right few. record {
+    inputs = ap told nothing.inputs;
+    cuts = ap told nothing.cuts;
+    cut_sources = ap (λ sources. told (map source_number sources)) nothing.cut_sources;
+    data_named = ap are_names nothing.cut_sources;
+    gates = ap (λ (gates : List GateEntry). told (map (λ gate. gate.output) gates)) nothing.gates;
+    shapes = ap (map shape_of) nothing.gates;
+    sources = ap (λ sources. told (map source_number sources)) nothing.sources;
+    named = ap are_names nothing.sources;
+  };
   outputs = ap told nothing.outputs;
   notes = nothing.notes;
   again = ap (option_map redefinition_fault) nothing.again;
@@ -145,10 +153,6 @@ variables_fit text statements statement line first left whole was shorter meanin
     let counted : statements.notes.variables ≡ variable_total (elements_of (plain was.done)) = ap (λ (notes : Notes). notes.variables) was.gathered.notes in
     let v = was.variables in
     omega arith
-
--- no more inputs and flip-flops were noted than variables
-pub inputs_noted : (text : List ℕ) (statements : Statements) (line : ℕ) (left : Option (Bor (List ℕ))) → IsParsing text statements line left → statements.notes.inputs + statements.notes.cuts ≤ statements.notes.variables
-inputs_noted text statements line left was = rw (was.gathered.notes) (inputs_few was.done)
 
 -- a line with a statement
 pub IsParsing-statement : (text : List ℕ) (statements : Statements) (one : Numbered Statement) (more : Statements) (line : ℕ) (first : List ℕ) (left : Option (Bor (List ℕ))) (whole : Bor (List ℕ))

@@ -20,7 +20,7 @@ use Rattle.hz_bench.specs.Netlist.{circuit_of_statements, elements_of}
 use Rattle.hz_bench.specs.Statement.{InputPort, OutputPort, Statement, statement_of}
 use Rattle.hz_bench.specs.Text.{bench_meaning, statements_of}
 use Rattle.hz_bench.specs.Printed.{netlist_text}
-use Rattle.hz_netlist.proofs.BuiltCircuit.{each_once-append}
+use Rattle.hz_netlist.proofs.Circuits.{each_once-append}
 use Rattle.hz_bench.proofs.PrintedLines.{ports, cut_statements, gate_statements, statements_for, IsReadAs, printed-IsReadAs}
 
 -- the statements among what lines are

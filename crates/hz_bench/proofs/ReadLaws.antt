@@ -1,24 +1,21 @@
 -- What the reader answers, by the law of faults.
-use Rattle.std.proofs.Common.{◌≡◌, ◌∙◌, ℕ, List, Option, Some, None, refl, ap, sym, subst, inl, inr, arith, if◌then◌else◌, ◌==◌}
+use Rattle.std.proofs.Common.{◌≡◌, ◌∙◌, ℕ, List, Option, Some, None, refl, ap, sym, subst, inl, inr, if◌then◌else◌, ◌==◌}
 use Rattle.std.specs.Prelude.{◌⊎◌}
-use Rattle.hz_bench.specs.declared.notes.Notes.{Notes}
 use Rattle.hz_bench.specs.declared.parse.Statements.{Statements}
 use Rattle.hz_bench.specs.declared.fault.BenchFault.{BenchFault}
 use Rattle.hz_bench.specs.declared.fault.BenchFault.TheVariants.{Form, Name, KindUnknown, Twice, Pins, Undefined, TooMany, Memory}
 use Rattle.hz_line.proofs.LeastLaws.{both-first}
-use Rattle.hz_netlist.proofs.Admissible.{may_build}
 use Rattle.hz_netlist.specs.Element.{variable_total}
 use Rattle.hz_bench.specs.Netlist.{elements_of}
 use Rattle.hz_bench.specs.Fault.{Defines, HasFault, fault_number, fault_line_number, bench_faults, IsLeastFault, IsNetlistRefusal}
 use Rattle.hz_bench.specs.Pass.{IsParsed, IsParseFault, IsAccepted}
 use Rattle.hz_bench.specs.Statement.{defined_name, statement_pin_count}
 use Rattle.hz_bench.specs.Text.{bench_meaning_at, statement_meant, bench_statements, statements_of}
-use Rattle.hz_bench.specs.Twice.{IsFoundOrMemory, earlier_line}
-use Rattle.hz_bench.proofs.CheckedLemmas.{checked}
+use Rattle.hz_bench.specs.Twice.{earlier_line}
 use Rattle.hz_bench.proofs.FaultLaws.{Outcome, form-least, form-none, first_fault-outcome, second-first, line_found}
 use Rattle.hz_bench.proofs.FaultlessLaws.{whole_text, wired_text}
 use Rattle.hz_bench.specs.FaultIn.{fault_in}
-use Rattle.hz_bench.proofs.KeptStatements.{buildable, fault_in-first, outputs_read}
+use Rattle.hz_bench.proofs.KeptStatements.{built, fault_in-first}
 
 -- why a text was not parsed
 pub parse-answer : (text : List ℕ) (fault : BenchFault) → IsParseFault text fault → IsNetlistRefusal text fault
@@ -36,23 +33,15 @@ check-outcome : (text : List ℕ) (statements : Statements) (answer : Option Ben
 check-outcome text statements answer parsed e =
     subst (Outcome text) (sym (fault_in-first text statements parsed) ∙ e) (first_fault-outcome text (form-none text parsed.formed))
 
-pub check-answer : (text : List ℕ) (statements : Statements) (fault : BenchFault) → IsParsed text statements → IsFoundOrMemory (fault_in statements) fault → IsNetlistRefusal text fault
-check-answer text statements fault parsed (inl memory) = inl memory
-check-answer text statements fault parsed (inr first) = inr (check-outcome text statements (Some fault) parsed first)
+pub check-answer : (text : List ℕ) (statements : Statements) (fault : BenchFault) → IsParsed text statements → fault_in statements ≡ Some fault → IsNetlistRefusal text fault
+check-answer text statements fault parsed first = inr (check-outcome text statements (Some fault) parsed first)
 
 pub accepted : (text : List ℕ) (statements : Statements) → IsParsed text statements → fault_in statements ≡ None → IsAccepted text statements
 accepted text statements parsed e =
     let none = sym (fault_in-first text statements parsed) ∙ e in
-    let fine = checked (bench_statements text) none in
-    let few = fine.few in
-    let gathered = parsed.gathered in
-    let outputs = outputs_read text statements parsed in
-    let nodes = gathered.nodes (omega (arith, ap (λ (notes : Notes). notes.variables) gathered.notes, few)) in
     record {
-      nodes = nodes;
-      outputs = outputs;
       faultless = check-outcome text statements None parsed e;
-      may = buildable text statements nodes outputs (may_build (elements_of (statements_of text)) (wired_text text none)) fine.pins;
+      may = built text statements parsed e (wired_text text none);
       whole = whole_text text none;
     }
 

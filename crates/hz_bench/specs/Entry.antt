@@ -1,5 +1,4 @@
 -- The statement of an entry.
-use Rattle.std.specs.Prelude.{List, map}
 use Rattle.hz_line.specs.Statement.{Numbered}
 use Rattle.hz_bench.specs.declared.entry.Entry.{Entry}
 use Rattle.hz_bench.specs.declared.entry.Line.{Line}
@@ -15,14 +14,6 @@ statement_of_entry entry = statement_with entry.name.now entry.form entry.source
 -- an entry as a statement with its line
 abbrev pub numbered_of : Entry → Numbered Statement
 numbered_of entry = record { line = entry.line; statement = statement_of_entry entry }
-
--- entries as the statements of a text
-abbrev pub numbered_list : List Entry → List (Numbered Statement)
-numbered_list entries = map numbered_of entries
-
--- the statements of entries
-abbrev pub statement_list : List Entry → List Statement
-statement_list entries = map statement_of_entry entries
 
 -- a line of an output as a statement with its line
 abbrev pub numbered_output : OutputLine → Numbered Statement

@@ -1,10 +1,10 @@
 -- What is noted of statements while they are read.
-use Rattle.std.specs.Prelude.{ℕ, ◌+◌, Bool, List, [], ◌∷◌, length, Option, Some, None, option_map, if◌then◌else◌}
+use Rattle.std.specs.Prelude.{ℕ, ◌+◌, Bool, List, Option, Some, None, option_map, if◌then◌else◌}
 use Rattle.hz_line.specs.Statement.{Numbered, first_passing_line}
 use Rattle.hz_bench.specs.declared.notes.Notes.{Notes}
 use Rattle.hz_bench.specs.declared.notes.WrongPins.{WrongPins}
 use Rattle.hz_bench.specs.Check.{first_that}
-use Rattle.hz_netlist.specs.Element.{input_names, cut_names, element_variables, variable_total}
+use Rattle.hz_netlist.specs.Element.{element_variables, variable_total}
 use Rattle.hz_bench.specs.Netlist.{element_of, elements_of}
 use Rattle.hz_bench.specs.Statement.{Statement, has_long_name, has_unknown_kind, has_wrong_pins, statement_pin_count}
 use Rattle.hz_bench.specs.Text.{plain}
@@ -14,23 +14,12 @@ abbrev pub wrong_pins_of : Numbered Statement → WrongPins
 wrong_pins_of numbered =
     record { line = numbered.line; count = statement_pin_count numbered.statement }
 
--- how many inputs are among the statements
-abbrev pub inputs_among : List (Numbered Statement) → ℕ
-inputs_among statements = length (input_names (elements_of (plain statements)))
-
--- how many flip-flops are among the statements
-abbrev pub cuts_among : List (Numbered Statement) → ℕ
-cuts_among statements = length (cut_names (elements_of (plain statements)))
-
--- the notes are those of these statements: the first line of each fault of a single statement, how many inputs and flip-flops there
--- are, and the sum of all variables
+-- the notes are those of these statements: the first line of each fault of a single statement, and the sum of all variables
 abbrev pub notes_of : List (Numbered Statement) → Notes
 notes_of statements = record {
   long_name = first_passing_line has_long_name statements;
   unknown_kind = first_passing_line has_unknown_kind statements;
   wrong_pins = option_map wrong_pins_of (first_that has_wrong_pins statements);
-  inputs = inputs_among statements;
-  cuts = cuts_among statements;
   variables = variable_total (elements_of (plain statements));
 }
 
@@ -41,8 +30,6 @@ no_notes =
       long_name = None;
       unknown_kind = None;
       wrong_pins = None;
-      inputs = 0;
-      cuts = 0;
       variables = 0;
     }
 
@@ -63,7 +50,5 @@ notes_with notes numbered = record {
   long_name = first_of notes.long_name (has_long_name numbered.statement) numbered.line;
   unknown_kind = first_of notes.unknown_kind (has_unknown_kind numbered.statement) numbered.line;
   wrong_pins = wrong_or notes.wrong_pins numbered;
-  inputs = notes.inputs + inputs_among (numbered ∷ []);
-  cuts = notes.cuts + cuts_among (numbered ∷ []);
   variables = notes.variables + element_variables (element_of numbered.statement);
 }

@@ -24,7 +24,7 @@
 -- AddsStatement old next new: what the pass does with one statement
 -- fault_in statements: the first fault of what was kept
 -- IsAccepted text statements: a text without a fault
--- AreUses nodes outputs uses: the numbers of the names that are used
+-- drafted_of statements: what was read, as the draft that all formats have
 
 pub mod Statement
 pub mod Form
@@ -41,6 +41,5 @@ pub mod FaultIn
 pub mod ReaderState
 pub mod Fault
 pub mod Netlist
-pub mod Elements
+pub mod Draft
 pub mod Printed
-pub mod Uses

@@ -1,9 +1,12 @@
 -- The names that statements define and use, with their numbers.
-use Rattle.std.specs.Prelude.{ℕ, List, [], ◌∷◌, ◌++◌, map, Option, Some, None}
+use Rattle.std.specs.Prelude.{ℕ, Bool, true, false, List, [], ◌∷◌, ◌++◌, map, Option, Some, None}
+use Rattle.std.specs.List.{list_all}
 use Rattle.hz_line.specs.Statement.{Numbered}
+use Rattle.hz_netlist.specs.declared.draft.Source.{Source}
+use Rattle.hz_netlist.specs.declared.draft.Source.TheVariants as source
 use Rattle.hz_netlist.specs.Names.{Names, definer_in, on_line, place_in, with_definition, with_use}
 use Rattle.hz_bench.specs.Definition.{defined_names}
-use Rattle.hz_bench.specs.Statement.{Statement, sources_of, used_names}
+use Rattle.hz_bench.specs.Statement.{Statement, used_names}
 
 -- the names that statements define, with their lines
 abbrev pub definitions_of : List (Numbered Statement) → List (Numbered (List ℕ))
@@ -15,11 +18,6 @@ definitions_of (first ∷ rest) =
 abbrev pub uses_of : List (Numbered Statement) → List (Numbered (List ℕ))
 uses_of [] = []
 uses_of (first ∷ rest) = on_line first.line (used_names first.statement) ++ uses_of rest
-
--- the names that flip-flops and gates read, in order
-abbrev pub read_names : List Statement → List (List ℕ)
-read_names [] = []
-read_names (first ∷ rest) = sources_of first ++ read_names rest
 
 -- names of which a line defines these
 abbrev pub with_definitions : Names → ℕ → List (List ℕ) → Names
@@ -50,3 +48,16 @@ places names words = map (place_in names) words
 -- numbers of names that were seen
 abbrev pub told : List ℕ → List (Option ℕ)
 told numbers = map Some numbers
+
+-- the number of the name that a source reads, if it reads one
+abbrev pub source_number : Source → ℕ
+source_number (source.Name number) = number
+source_number (source.Gate gate) = 0
+
+-- each source reads a name
+abbrev pub is_name : Source → Bool
+is_name (source.Name number) = true
+is_name (source.Gate gate) = false
+
+abbrev pub are_names : List Source → Bool
+are_names sources = list_all is_name sources

@@ -3,18 +3,17 @@ use Rattle.std.specs.Prelude.{◌≡◌, ℕ, ◌+◌, ◌≤◌, List, length, 
 use Rattle.hz_line.specs.Line.{lines_of}
 use Rattle.hz_line.specs.Statement.{first_malformed}
 use Rattle.hz_core.specs.Netlist.{IsWhole}
-use Rattle.hz_netlist.specs.Element.{output_names, variable_total}
+use Rattle.hz_netlist.specs.Draft.{IsBuildable}
+use Rattle.hz_netlist.specs.Element.{variable_total}
 use Rattle.hz_bench.specs.declared.parse.Statements.{Statements}
 use Rattle.hz_bench.specs.declared.fault.BenchFault.{BenchFault}
 use Rattle.hz_bench.specs.declared.fault.BenchFault.TheVariants.{Form, Name, KindUnknown, Twice, Pins, Undefined, TooMany, Memory}
-use Rattle.hz_bench.specs.Elements.{IsBuildable}
-use Rattle.hz_bench.specs.Entry.{numbered_list}
+use Rattle.hz_bench.specs.Draft.{drafted_of}
 use Rattle.hz_bench.specs.Fault.{IsFaultless}
 use Rattle.hz_bench.specs.ReaderState.{AreGathered}
 use Rattle.hz_bench.specs.Netlist.{circuit_of_statements, elements_of}
 use Rattle.hz_bench.specs.Statement.{statement_of}
-use Rattle.hz_bench.specs.Text.{bench_statements, nodes_among, statements_of}
-use Rattle.hz_bench.specs.Uses.{output_words}
+use Rattle.hz_bench.specs.Text.{bench_statements, statements_of}
 
 -- the statements are those of a text without a malformed line
 pub record IsParsed (text : List ℕ) (statements : Statements) : Type 0 where
@@ -33,10 +32,8 @@ IsParseFault text (Undefined at) = ⊥
 IsParseFault text (TooMany variables) = ⊥
 IsParseFault text Memory = Unit {0}
 
--- the statements are those of a text in which no fault stands; their circuit may be built, and is whole
+-- the statements are those of a text in which no fault stands; the circuit of the text may be built of them, and is whole
 pub record IsAccepted (text : List ℕ) (statements : Statements) : Type 0 where
-  pub nodes : numbered_list statements.nodes.items ≡ nodes_among (bench_statements text)
-  pub outputs : output_words statements ≡ output_names (elements_of (statements_of text))
   pub faultless : IsFaultless text
-  pub may : IsBuildable statements.nodes.items (output_words statements)
+  pub may : IsBuildable (elements_of (statements_of text)) (drafted_of statements)
   pub whole : IsWhole (circuit_of_statements (statements_of text))

@@ -1,8 +1,8 @@
 -- The statements of a netlist's text, by their lines.
-use Rattle.std.specs.Prelude.{ℕ, List, [], map, filter}
+use Rattle.std.specs.Prelude.{ℕ, List, [], map}
 use Rattle.hz_line.specs.Statement as grammar
 use Rattle.hz_line.specs.Statement.{Meaning, Nothing, Malformed, Means, Numbered}
-use Rattle.hz_bench.specs.Statement.{Statement, Output, statement_of, defines_node}
+use Rattle.hz_bench.specs.Statement.{Statement, Output, statement_of}
 
 -- what a line is
 abbrev pub bench_meaning : List ℕ → Meaning Statement
@@ -29,7 +29,3 @@ bench_statements text = grammar.numbered_statements statement_of text
 -- the statements of a text
 abbrev pub statements_of : List ℕ → List Statement
 statements_of text = plain (bench_statements text)
-
--- the inputs and gates among statements
-abbrev pub nodes_among : List (Numbered Statement) → List (Numbered Statement)
-nodes_among statements = filter (λ numbered. defines_node numbered.statement) statements

@@ -1,9 +1,8 @@
 -- Names that are defined twice.
-use Rattle.std.specs.Prelude.{◌≡◌, ℕ, List, [], ◌∷◌, ◌++◌, Option, Some, None}
-use Rattle.hz_line.specs.OrThat.{OrThat}
+use Rattle.std.specs.Prelude.{ℕ, List, [], ◌∷◌, ◌++◌, Option, Some, None}
 use Rattle.hz_line.specs.Statement.{Numbered}
 use Rattle.hz_bench.specs.declared.fault.BenchFault.{BenchFault}
-use Rattle.hz_bench.specs.declared.fault.BenchFault.TheVariants.{Twice, Memory}
+use Rattle.hz_bench.specs.declared.fault.BenchFault.TheVariants.{Twice}
 use Rattle.hz_bench.specs.Statement.{Statement, defined_name}
 use Rattle.hz_bench.specs.Definition.{definer}
 
@@ -27,7 +26,3 @@ twice_after seen (first ∷ rest) =
 -- the first statement that defines a name which an earlier one defines
 abbrev pub twice_fault : List (Numbered Statement) → Option BenchFault
 twice_fault statements = twice_after [] statements
-
--- the fault is this one, if memory did not run out
-abbrev pub IsFoundOrMemory : Option BenchFault → BenchFault → Type 0
-IsFoundOrMemory found fault = OrThat Memory (λ first. found ≡ Some first) fault

@@ -6,16 +6,13 @@
 //! | `parse` | the one pass over the lines: what is kept of each statement |
 //! | `statement` | the statement of a line |
 //! | `forms` | what a statement is, without its names |
-//! | `entry` | statements as the passes keep them |
+//! | `entry` | the statement of a line, as it is read |
 //! | `notes` | what is kept for the faults of a single line, and the counts |
-//! | `uses` | the numbers of the nodes that names stand for |
-//! | `build` | the circuit of the statements, step by step |
 //! | `printing` | [`print`]: the text of a circuit |
 //! | `fault` | [`BenchFault`]: why a text is no netlist |
 //! | `laws` | the law that a text without a fault is the text of a circuit |
 #![tactic(auto)]
 
-mod build;
 mod entry;
 mod fault;
 mod forms;
@@ -25,7 +22,6 @@ mod parse;
 mod printing;
 mod reading;
 mod statement;
-mod uses;
 
 pub use fault::BenchFault;
 pub use laws::faultless_text_is_circuit;

@@ -1,6 +1,6 @@
 // What is noted of statements while they are read.
 
-ghost use Rattle.std.specs.Prelude.{◌≡◌, ◌+◌, ◌<◌, ◌≤◌, ◌^◌, None, Some};
+ghost use Rattle.std.specs.Prelude.{◌≡◌, ◌+◌, ◌<◌, ◌^◌, None, Some};
 ghost use Rattle.hz_bench.specs.Entry.{statement_of_entry, numbered_of, numbered_output};
 ghost use Rattle.hz_bench.specs.FaultNotes.{notes_with, no_notes, first_of, wrong_or};
 ghost use Rattle.hz_bench.specs.Netlist.{element_of};
@@ -26,15 +26,12 @@ pub struct Redefinition {
 }
 
 /// What is known of the statements of a text once they are read: the first line with each fault of
-/// a single statement, how many inputs and flip-flops there are, and how many inputs, flip-flops,
-/// gates and pins of gates in all.
+/// a single statement, and how many inputs, flip-flops, gates and pins of gates there are in all.
 #[derive(Clone, Copy, Debug)]
 pub struct Notes {
     pub long_name: Option<u32>,
     pub unknown_kind: Option<u32>,
     pub wrong_pins: Option<WrongPins>,
-    pub inputs: u32,
-    pub cuts: u32,
     pub variables: u32,
 }
 
@@ -47,16 +44,13 @@ impl Notes {
             long_name: None,
             unknown_kind: None,
             wrong_pins: None,
-            inputs: 0,
-            cuts: 0,
             variables: 0,
         }
     }
 
     // Notes one input, flip-flop or gate more.
     pub(crate) fn add(&mut self, entry: &Entry)
-        requires inputs { self.old.inputs + self.old.cuts ≤ self.old.variables }
-        requires variables { self.old.variables
+        requires { self.old.variables
             + element_variables (element_of (statement_of_entry entry.now)) < 2 ^ 32 }
         ensures { self.new ≡ notes_with self.old (numbered_of entry.now) }
     {
@@ -65,14 +59,7 @@ impl Notes {
         note_line(&mut self.unknown_kind, form.is_unknown(), entry.line);
         note_pins(&mut self.wrong_pins, entry);
         match form {
-            Form::Input => {
-                self.inputs += 1;
-                self.variables += 1;
-            }
-            Form::FlipFlop => {
-                self.cuts += 1;
-                self.variables += 1;
-            }
+            Form::Input | Form::FlipFlop => self.variables += 1,
             Form::Gate(_) => self.variables += 1 + entry.pins as u32,
         }
     }

@@ -1,22 +1,23 @@
 // Reading a netlist.
 
-ghost use Rattle.std.specs.Prelude.{◌≡◌, ◌≤◌, ◌⊎◌, IfOk, IfErr, OnOk, IsErrOf, MatchResult, None, length};
+ghost use Rattle.std.specs.Prelude.{◌≡◌, ◌≤◌, ◌⊎◌, List, IfOk, IfErr, OnOk, IsErrOf, MatchResult, None, Some, length};
 ghost use Rattle.hz_core.specs.Netlist.{IsWhole};
 ghost use Rattle.hz_bench.specs.Fault.{IsNetlistRefusal, IsFaultless, IsLeastFault};
 ghost use Rattle.hz_bench.specs.Netlist.{circuit_of_statements};
 ghost use Rattle.hz_bench.specs.Pass.{IsAccepted};
 ghost use Rattle.hz_bench.specs.FaultIn.{fault_in};
 ghost use Rattle.hz_bench.specs.Text.{statements_of};
-ghost use Rattle.hz_bench.specs.Twice.{IsFoundOrMemory};
-ghost use Rattle.hz_bench.specs.Uses.{AreUsesOf, IsReady};
+ghost use Rattle.hz_bench.specs.Draft.{drafted_of};
+ghost use Rattle.hz_netlist.specs.Circuit.{circuit_of_elements};
+ghost use Rattle.hz_netlist.specs.Draft.{IsBuildable};
+ghost use Rattle.hz_netlist.specs.Element.{Element};
 ghost use Rattle.hz_line.specs.Line.{most_text_bytes};
 
-use crate::build::build;
 use crate::fault::BenchFault;
 use crate::notes::{Redefinition, WrongPins};
 use crate::parse::{Statements, parse};
-use crate::uses::{Uses, resolve};
 use hz_core::{Circuit, MAX_VARIABLES, Memory};
+use hz_netlist::{Draft, build_draft};
 use std::alloc::Global;
 
 /// Reads a netlist in the .bench format.
@@ -37,39 +38,47 @@ pub fn read(alloc: Global, text: &[u8]) -> Result<Circuit, BenchFault>
     ensures exact { (fault : BenchFault) → IsLeastFault text.now fault
         → IsErrOf result fault ⊎ IsErrOf result BenchFault.Memory }
 {
-    let accepted = read_accepted(alloc, text)?;
-    let Ok(circuit) = build(alloc, &accepted.statements, &accepted.uses) else {
+    let statements = read_accepted(alloc, text)?;
+    let Ok(circuit) = build(alloc, &statements) else {
         return Err(BenchFault::Memory);
     };
     Ok(circuit)
 }
 
-// The statements of a text in which no fault stands, and the nodes that they use.
-#[derive(Drop)]
-struct Accepted<'a> {
-    statements: Statements<'a>,
-    uses: Uses,
-}
-
 // Reads and checks the statements of a text.
-fn read_accepted<'a>(alloc: Global, text: &'a [u8]) -> Result<Accepted<'a>, BenchFault>
+fn read_accepted<'a>(alloc: Global, text: &'a [u8]) -> Result<Statements<'a>, BenchFault>
     requires { length text.now ≤ most_text_bytes }
     ensures { MatchResult result
-        (λ accepted. IsAccepted text.now accepted.statements
-        × AreUsesOf accepted.statements accepted.uses)
+        (λ statements. IsAccepted text.now statements)
         (λ fault. IsNetlistRefusal text.now fault) }
 {
     let statements = parse(alloc, text)?;
-    let uses = check(alloc, &statements)?;
-    Ok(Accepted { statements, uses })
+    check(&statements)?;
+    Ok(statements)
 }
 
-// Checks the statements, in the order of the faults, and returns the nodes that they use.
-fn check(alloc: Global, statements: &Statements) -> Result<Uses, BenchFault>
-    requires { IsReady statements.now }
-    ensures { MatchResult result
-        (λ uses. (fault_in statements.now ≡ None) × AreUsesOf statements.now uses)
-        (λ fault. IsFoundOrMemory (fault_in statements.now) fault) }
+// The circuit of the statements of a text in which no fault stands.
+fn build(alloc: Global, statements: &Statements) -> Result<Circuit, Memory>
+    requires { (elements : List Element) × IsBuildable elements (drafted_of statements.now) }
+    ensures { (elements : List Element) → IsBuildable elements (drafted_of statements.now)
+        → IfOk result (λ circuit. circuit ≡ circuit_of_elements elements) }
+{
+    let draft = Draft {
+        names: &statements.names,
+        inputs: statements.inputs.as_slice(),
+        cuts: statements.cuts.as_slice(),
+        cut_sources: statements.cut_sources.as_slice(),
+        gates: statements.gates.as_slice(),
+        sources: statements.sources.as_slice(),
+        outputs: statements.outputs.as_slice(),
+    };
+    build_draft(alloc, &draft)
+}
+
+// Checks the statements, in the order of the faults.
+fn check(statements: &Statements) -> Result<(), BenchFault>
+    ensures { MatchResult result (λ done. fault_in statements.now ≡ None)
+        (λ fault. fault_in statements.now ≡ Some fault) }
 {
     let notes = statements.notes;
     if let Some(line) = notes.long_name {
@@ -91,8 +100,5 @@ fn check(alloc: Global, statements: &Statements) -> Result<Uses, BenchFault>
         let variables = notes.variables;
         return Err(BenchFault::TooMany { variables });
     }
-    match resolve(alloc, statements) {
-        Ok(uses) => Ok(uses),
-        Err(Memory) => Err(BenchFault::Memory),
-    }
+    Ok(())
 }

@@ -10,14 +10,15 @@ use Rattle.std.proofs.lemmas.List.Folds.{list_all_at, list_any_at}
 use Rattle.hz_core.specs.declared.kind.Kind.{Kind}
 use Rattle.hz_core.specs.declared.kind.Kind.TheVariants.{And, Nand, Or, Nor, Not, Buff}
 use Rattle.hz_netlist.specs.Element.{Element, Gate}
+use Rattle.hz_netlist.specs.Draft.{ReadsGateBelow, ReadsNameBelow, gate_name, inverter_name, row_name, source_name}
 use Rattle.hz_blif.specs.declared.cover.Cover.{Cover}
-use Rattle.hz_blif.specs.declared.gates.Gate.{Gate as GateEntry}
+use Rattle.hz_netlist.specs.declared.draft.Gate.{Gate as GateEntry}
 use Rattle.hz_blif.specs.declared.gates.Literal.{Literal as LiteralRead}
-use Rattle.hz_blif.specs.declared.gates.Source.{Source}
-use Rattle.hz_blif.specs.declared.gates.Source.TheVariants as source
+use Rattle.hz_netlist.specs.declared.draft.Source.{Source}
+use Rattle.hz_netlist.specs.declared.draft.Source.TheVariants as source
 use Rattle.hz_blif.specs.Cover.{has_literal}
-use Rattle.hz_blif.specs.Entries.{IsPlane, IsWholeCover, ReadAs, ReadsGateBelow, ReadsNameBelow, column_by, cover_by, gate_name, inverted_by, inverted_from, inverters_by, literal_at, literal_sources, literals_by, planes_by, row_gate_by, row_gates_by, source_name, term_by, terms_by}
-use Rattle.hz_blif.specs.Gates.{Literal, gates_of_row, gates_of_rows, has_zero, inverter_name, inverters_from, literal_gate, literal_name, literal_names, literals_from, row_gate_with, row_gates_from, row_name, term, terms_from}
+use Rattle.hz_blif.specs.Entries.{IsPlane, IsWholeCover, ReadAs, column_by, cover_by, inverted_by, inverted_from, inverters_by, literal_at, literal_sources, literals_by, planes_by, row_gate_by, row_gates_by, term_by, terms_by}
+use Rattle.hz_blif.specs.Gates.{Literal, gates_of_row, gates_of_rows, has_zero, inverters_from, literal_gate, literal_name, literal_names, literals_from, row_gate_with, row_gates_from, term, terms_from}
 
 -- one pin more
 pub inverters-more : (output : List ℕ) (planes : List (List ℕ)) (before : ℕ) (pins : List (List ℕ)) (pin : List ℕ)

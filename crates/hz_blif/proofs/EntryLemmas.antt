@@ -6,12 +6,13 @@ use Rattle.std.proofs.lemmas.List.{append-nil, drop-append-le, get_or_append_lef
 use Rattle.std.proofs.lemmas.List.Elements.{All-append, All-drop, All-head, All-nil, All-push, All-tail, All-take, All-weaker, All-contains}
 use Rattle.std.proofs.lemmas.List.Sums.{sum_by-append, sum_by-cons, sum_by_push}
 use Rattle.hz_netlist.specs.Element.{Element, Gate, element_variables, variable_total}
+use Rattle.hz_netlist.specs.Draft.{ReadsGateBelow, ReadsNameBelow, elements_from, gate_name, role_name, source_name}
 use Rattle.hz_blif.specs.declared.cover.Cover.{Cover}
-use Rattle.hz_blif.specs.declared.gates.Gate.{Gate as GateEntry}
+use Rattle.hz_netlist.specs.declared.draft.Gate.{Gate as GateEntry}
 use Rattle.hz_blif.specs.declared.gates.Gates.{Gates}
-use Rattle.hz_blif.specs.declared.gates.Source.{Source}
-use Rattle.hz_blif.specs.declared.gates.Source.TheVariants as source
-use Rattle.hz_blif.specs.Entries.{AreNamed, GrowBy, HoldsGates, IsPrefix, ReadAs, ReadsGateBelow, ReadsNameBelow, elements_by, elements_from, gate_name, role_name, source_name, variables_of}
+use Rattle.hz_netlist.specs.declared.draft.Source.{Source}
+use Rattle.hz_netlist.specs.declared.draft.Source.TheVariants as source
+use Rattle.hz_blif.specs.Entries.{AreNamed, GrowBy, HoldsGates, IsPrefix, ReadAs, elements_by, variables_of}
 
 -- how many pins gates have
 abbrev pub pin_total : List GateEntry → ℕ

@@ -4,12 +4,12 @@ use Rattle.std.specs.List.{flat_map}
 use Rattle.hz_core.specs.Netlist.{variable_count}
 use Rattle.hz_core.specs.declared.kind.Kind.TheVariants.{And, Nand, Or, Nor, Not, Buff}
 use Rattle.hz_netlist.specs.Element.{Gate, Input, Output}
+use Rattle.hz_netlist.specs.Draft.{inverter_name, row_name}
 use Rattle.hz_blif.specs.declared.fault.BlifFault.TheVariants as fault
 use Rattle.hz_blif.specs.Check.{first_fault}
 use Rattle.hz_blif.specs.Line.{lines_in, Names, Row, Construct}
 use Rattle.hz_blif.specs.Cover.{kept_covers}
 use Rattle.hz_blif.specs.Circuit.{blif_circuit, elements_of}
-use Rattle.hz_blif.specs.Gates.{inverter_name, row_name}
 
 abbrev mux : List ℕ
 mux = codes ".model mux\n.inputs s x y\n.outputs z\n.names s x y z\n11- 1\n0-1 1\n.end\n"

@@ -12,6 +12,7 @@ use Rattle.std.proofs.lemmas.List.Sums.{sum_by-append, sum_by-cons}
 use Rattle.hz_core.specs.Limits.{most_gate_pins, most_variables}
 use Rattle.hz_line.specs.Statement.{Numbered, first_passing_line}
 use Rattle.hz_netlist.specs.Element.{Element, Gate, element_variables, variable_total}
+use Rattle.hz_netlist.specs.Draft.{inverter_name, row_name}
 use Rattle.hz_netlist.specs.Names.{Names, on_line, names_at, name_at}
 use Rattle.hz_netlist.proofs.Tests.{either, not-false}
 use Rattle.hz_blif.specs.declared.cover.Cover.{Cover as CoverRead}
@@ -22,7 +23,7 @@ use Rattle.hz_blif.specs.Cover.{Cover, column_of, has_literal, is_constant, is_p
 use Rattle.hz_blif.specs.Draft.{Holds, HoldsClosed, HoldsCover, Read, covers_with, cover_room, varying}
 use Rattle.hz_blif.specs.Entries.{AreNamed, HasNamesBelow, HoldsGates, IsWholeCover, cover_by, elements_by}
 use Rattle.hz_core.specs.declared.kind.Kind.TheVariants.{And, Nand, Or, Nor, Not, Buff}
-use Rattle.hz_blif.specs.Gates.{Literal, inverter_name, literal_name, row_name, cover_gates, gates_of_row, gates_of_rows, has_zero, inverters_from, literal_gate, literal_names, literals_from, literals_of, row_gates_from, terms_from}
+use Rattle.hz_blif.specs.Gates.{Literal, literal_name, cover_gates, gates_of_row, gates_of_rows, has_zero, inverters_from, literal_gate, literal_names, literals_from, literals_of, row_gates_from, terms_from}
 use Rattle.hz_blif.specs.Reading.{bytes_of, planes_in}
 use Rattle.hz_blif.specs.Text.{is_some_list}
 use Rattle.hz_blif.proofs.Closing.{held-cover, holds-grown}

@@ -62,11 +62,7 @@ pub mod WiredGates
 pub mod WiredText
 -- Texts whose circuits and faults are computed
 pub mod Examples
--- The nodes of names: the table of nodes tells the number of each name that a node has
-pub mod NodeLemmas
--- The elements of a draft: their names, and the steps in which they are built
-pub mod DraftElements
--- The circuit of a draft that can be built is that of its elements
+-- A draft that can be built is one that every format builds
 pub mod BuildLaws
 -- The elements of a draft of a text without fault are those of the text, and the draft can be built
 pub mod DraftText

@@ -3,8 +3,8 @@ use Rattle.std.proofs.Common.{◌≡◌, refl, ℕ, suc, ◌+◌, ◌<◌, Bool,
 use Rattle.std.specs.Prelude.{◌==◌}
 use Rattle.std.proofs.lemmas.List.{drop_more, drop_all}
 use Rattle.hz_blif.specs.declared.gates.Literal.{Literal as LiteralRead}
-use Rattle.hz_blif.specs.declared.gates.Source.{Source}
-use Rattle.hz_blif.specs.declared.gates.Source.TheVariants as source
+use Rattle.hz_netlist.specs.declared.draft.Source.{Source}
+use Rattle.hz_netlist.specs.declared.draft.Source.TheVariants as source
 use Rattle.hz_blif.specs.Entries.{literal_at, literal_source_with, literal_sources}
 use Rattle.hz_blif.specs.Gates.{Literal, literal_with, literals_from}
 

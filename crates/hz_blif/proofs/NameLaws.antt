@@ -7,11 +7,13 @@ use Rattle.std.specs.Prelude.{if◌then◌else◌}
 use Rattle.std.specs.List.{flat_map}
 use Rattle.hz_blif.specs.Cover.{Cover, planes_of, column_of}
 use Rattle.std.specs.List.{AllByRecursion}
-use Rattle.hz_blif.proofs.Lists.{all-append, all-as}
+use Rattle.hz_netlist.proofs.Lists.{all-append}
+use Rattle.hz_blif.proofs.Lists.{all-as}
 use Rattle.hz_core.specs.declared.kind.Kind.TheVariants.{And, Nand, Or, Nor, Not, Buff}
 use Rattle.hz_netlist.specs.Element.{Element, Input, Cut, Gate, Output, gate_names}
+use Rattle.hz_netlist.specs.Draft.{inverter_name, row_name}
 use Rattle.hz_blif.specs.Plain.{IsPlain}
-use Rattle.hz_blif.specs.Gates.{Literal, inverter_name, row_name, has_zero, inverters_from, row_gate_with, row_gates_from, literal_names, literals_of, literal_gate, terms_from, gates_of_row, gates_of_rows, cover_gates}
+use Rattle.hz_blif.specs.Gates.{Literal, has_zero, inverters_from, row_gate_with, row_gates_from, literal_names, literals_of, literal_gate, terms_from, gates_of_row, gates_of_rows, cover_gates}
 
 first-same : (one other : ℕ) (rest more : List ℕ) → one ∷ rest ≡ other ∷ more → (one ≡ other) × (rest ≡ more)
 first-same one other rest more h = (cc, cc)

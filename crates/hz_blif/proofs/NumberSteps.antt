@@ -1,15 +1,15 @@
 -- Names keep their numbers while more of them are seen, defined and used.
 use Rattle.std.proofs.Common.{◌≡◌, ◌∙◌, refl, sym, ap, subst, ℕ, zero, suc, ◌<◌, ◌≤◌, Bool, true, false, cond, List, [], ◌∷◌, ◌++◌, map, length, get_or, position, is_some, Option, Some, None, arith, length-append}
-use Rattle.std.specs.List.{All, AllByRecursion, IsDistinct}
+use Rattle.std.specs.List.{All, IsDistinct}
 use Rattle.std.specs.Str.{bytes_eq}
 use Rattle.std.specs.Cmp.Lexicographic.{nat_list_eq_equiv}
 use Rattle.std.proofs.lemmas.List.{append-nil, get_or_append_left, length-map, map-append}
 use Rattle.std.proofs.lemmas.List.Elements.{All-head, All-tail, All-weaker}
-use Rattle.std.proofs.lemmas.List.Quantifiers.{position-Some}
 use Rattle.std.proofs.lemmas.Map.Keys.{IsDistinct-head, IsDistinct-push, IsDistinct-tail}
 use Rattle.std.proofs.lemmas.Slice.Eq.{bytes_eq-Decides}
 use Rattle.hz_core.proofs.ListLemmas.{list_any-from_position_none}
 use Rattle.hz_line.specs.Statement.{Numbered}
+use Rattle.hz_netlist.proofs.NameTableLemmas.{apart-at}
 use Rattle.hz_netlist.specs.Names.{Names, Seen, AreNamesOf, definer_in, first_line, fresh, seen_at, seen_names, user_in, with_change, with_definition, with_sight, with_use, AreNumbers, names_at, name_at}
 use Rattle.hz_blif.specs.declared.draft.Constant.{Constant}
 use Rattle.hz_blif.specs.Draft.{constant_by}
@@ -106,14 +106,6 @@ sight-named definitions uses old name are = by_place (position (bytes_eq name) (
       user = λ other. user-fresh old name other ∙ are.user other;
     }
 
--- the number of a name that was seen
-pub sight-number : (names : Names) (name : List ℕ) (number : ℕ) → position (bytes_eq name) (seen_names names) ≡ Some number → (number < length names) × (name_at names number ≡ name)
-sight-number names name number at =
-    let found = position-Some (bytes_eq name) (seen_names names) number [] at in (
-      omega (arith, found.0, seen-length names),
-      name_at-get names number ∙ sym ((bytes_eq-Decides name (get_or (seen_names names) number [])).0 found.1),
-    )
-
 -- a change of what is known of a name that was seen leaves the names
 change-names : (change : Seen → Seen) (names : Names) (number : ℕ) → ((seen : Seen) → (change seen).name ≡ seen.name) → number < length names
     → seen_names (with_change change names (name_at names number)) ≡ seen_names names
@@ -136,11 +128,6 @@ pub use-names : (names : Names) (number line : ℕ) → number < length names �
 use-names names number line few = change-names (λ seen. record seen { user = first_line seen.user line }) names number (λ seen. refl) few
 
 -- what is known of a name is known of its number
-apart-at : (name : List ℕ) (names : Names) (number : ℕ) → AllByRecursion (λ other. bytes_eq name other ≡ false) (seen_names names) → number < length names → bytes_eq name (name_at names number) ≡ false
-apart-at name [] number all few = absurd (omega (arith, few))
-apart-at name (seen ∷ rest) zero all few = all.0
-apart-at name (seen ∷ rest) (suc number) all few = apart-at name rest number all.1 (omega (arith, few))
-
 told-at : (told : Names → List ℕ → Option ℕ) (of : Seen → Option ℕ) → ((seen : Seen) (rest : Names) (name : List ℕ) → told (seen ∷ rest) name ≡ cond (bytes_eq seen.name name) (of seen) (told rest name))
     → (names : Names) (number : ℕ) → IsDistinct bytes_eq (seen_names names) → number < length names → of (seen_at names number) ≡ told names (name_at names number)
 told-at told of next [] number distinct few = absurd (omega (arith, few))
@@ -155,16 +142,3 @@ definer-at = told-at definer_in (λ (seen : Seen). seen.definer) (λ seen rest n
 
 pub user-at : (names : Names) (number : ℕ) → IsDistinct bytes_eq (seen_names names) → number < length names → (seen_at names number).user ≡ user_in names (name_at names number)
 user-at = told-at user_in (λ (seen : Seen). seen.user) (λ seen rest name. refl)
-
--- two numbers of one name are one
-pub one-number : (names : Names) (one other : ℕ) → IsDistinct bytes_eq (seen_names names) → one < length names → other < length names → name_at names one ≡ name_at names other → one ≡ other
-one-number [] one other distinct few few' same = absurd (omega (arith, few))
-one-number (seen ∷ rest) zero zero distinct few few' same = refl
-one-number (seen ∷ rest) zero (suc other) distinct few few' same =
-    let apart = apart-at seen.name rest other (IsDistinct-head bytes_eq seen.name (seen_names rest) distinct) (omega (arith, few')) in
-    absurd (let e : true ≡ false = sym ((bytes_eq-Decides seen.name (name_at rest other)).1 same) ∙ apart in cc)
-one-number (seen ∷ rest) (suc one) zero distinct few few' same =
-    let apart = apart-at seen.name rest one (IsDistinct-head bytes_eq seen.name (seen_names rest) distinct) (omega (arith, few)) in
-    absurd (let e : true ≡ false = sym ((bytes_eq-Decides seen.name (name_at rest one)).1 (sym same)) ∙ apart in cc)
-one-number (seen ∷ rest) (suc one) (suc other) distinct few few' same =
-    ap suc (one-number rest one other (IsDistinct-tail bytes_eq seen.name (seen_names rest) distinct) (omega (arith, few)) (omega (arith, few')) same)

@@ -5,7 +5,7 @@ use Rattle.std.specs.List.{AllByRecursion}
 use Rattle.std.specs.Str.{bytes_eq}
 use Rattle.std.proofs.lemmas.List.{map-append}
 use Rattle.hz_netlist.specs.Names.{Names, Seen, first_line, fresh, seen_at, seen_names, with_change, with_definition, with_sight, with_use}
-use Rattle.hz_blif.proofs.Lists.{all-append}
+use Rattle.hz_netlist.proofs.Lists.{all-append}
 
 pub all-at : (P : List ℕ → Type 0) (names : Names) → AllByRecursion P (seen_names names) → (number : ℕ) → number < length names → P (seen_at names number).name
 all-at P [] all number few = absurd (omega (arith, few))

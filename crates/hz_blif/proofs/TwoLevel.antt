@@ -6,9 +6,10 @@ use Rattle.std.proofs.lemmas.List.Folds.{list_all-map, list_any-append}
 use Rattle.hz_core.specs.declared.kind.Kind.TheVariants.{And, Nand, Or, Nor, Not, Buff}
 use Rattle.hz_core.specs.Gate.{gate_value, every_pin, some_pin}
 use Rattle.hz_netlist.specs.Element.{Element, Input, Cut, Gate, Output}
+use Rattle.hz_netlist.specs.Draft.{inverter_name}
 use Rattle.hz_blif.specs.Cover.{Cover, planes_of, column_of}
 use Rattle.hz_blif.specs.Function.{pins_agree, cover_value}
-use Rattle.hz_blif.specs.Gates.{Literal, literals_from, literals_of, inverter_name, literal_name, literal_names, has_zero, inverters_from, row_gates_from, terms_from, gates_of_row, gates_of_rows, cover_gates}
+use Rattle.hz_blif.specs.Gates.{Literal, literals_from, literals_of, literal_name, literal_names, has_zero, inverters_from, row_gates_from, terms_from, gates_of_row, gates_of_rows, cover_gates}
 
 -- the names' values agree with an element: a gate's name has its gate function of its sources
 abbrev pub Agrees : (List ℕ → Bool) → Element → Type 0

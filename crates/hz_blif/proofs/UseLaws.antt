@@ -13,7 +13,7 @@ use Rattle.hz_netlist.specs.Names.{Names, seen_names, is_among, names_of, on_lin
 use Rattle.hz_blif.specs.Cover.{Cover, all_but_last, cover_of_line, covers_of, is_constant, is_skipped, is_used, last_token, leading_rows, outputs_of, outputs_with}
 use Rattle.hz_blif.specs.Draft.{cover_uses, output_on, uses_in_order, varying}
 use Rattle.hz_blif.specs.Line.{Line, Blank, Model, Inputs, Outputs, Names as NamesLine, Row, End, Construct}
-use Rattle.hz_blif.proofs.NumberSteps.{one-number}
+use Rattle.hz_netlist.proofs.NameTableLemmas.{same-number}
 
 abbrev uses_name : List ℕ → List (Numbered (List ℕ)) → Bool
 uses_name name uses = list_any (λ (one : Numbered (List ℕ)). bytes_eq name one.statement) uses
@@ -132,7 +132,7 @@ number-among names number (first ∷ rest) distinct few are =
         let e : bytes_eq (name_at names number) (name_at names first) ≡ true = (bytes_eq-Decides (name_at names number) (name_at names first)).1 (ap (name_at names) same) in
         sym e ∙ q
     by_test false true p q here =
-        let same : number ≡ first = one-number names number first distinct few here ((bytes_eq-Decides (name_at names number) (name_at names first)).0 q) in
+        let same : number ≡ first = same-number names number first distinct few here ((bytes_eq-Decides (name_at names number) (name_at names first)).0 q) in
         absurd (grind (arith, nat_tests, p, same))
 
 -- the first constant cover that is used

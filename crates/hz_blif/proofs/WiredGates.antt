@@ -12,11 +12,12 @@ use Rattle.hz_core.specs.Limits.{most_gate_pins}
 use Rattle.hz_core.specs.Netlist.{IsName, is_name_byte}
 use Rattle.hz_core.specs.declared.kind.Kind.TheVariants.{And, Nand, Or, Nor, Not, Buff}
 use Rattle.hz_netlist.specs.Build.{HasNodeName}
+use Rattle.hz_netlist.specs.Draft.{inverter_name}
 use Rattle.hz_netlist.specs.Element.{Element, Input, Cut, Gate, Output, gate_names}
 use Rattle.hz_line.specs.Statement.{Numbered}
 use Rattle.hz_blif.specs.Cover.{Cover, column_of, plane_of, planes_of}
-use Rattle.hz_blif.specs.Gates.{Literal, cover_gates, gates_of_row, gates_of_rows, has_zero, inverter_name, inverters_from, literal_gate, literal_names, literals_from, literals_of, row_gates_from, terms_from}
-use Rattle.hz_blif.proofs.Lists.{all-append, all-cut}
+use Rattle.hz_blif.specs.Gates.{Literal, cover_gates, gates_of_row, gates_of_rows, has_zero, inverters_from, literal_gate, literal_names, literals_from, literals_of, row_gates_from, terms_from}
+use Rattle.hz_netlist.proofs.Lists.{all-append, all-cut}
 use Rattle.hz_blif.proofs.NameLaws.{gate_names-append}
 use Rattle.hz_blif.proofs.TwoLevel.{HaveLiterals, IsSomeList}
 use Rattle.hz_blif.proofs.WiredNames.{IsTextName}

@@ -8,7 +8,8 @@ use Rattle.hz_blif.specs.declared.fault.BlifFault.TheVariants as fault
 use Rattle.hz_blif.specs.Cover.{Cover, all_but_last, cover_of_line, covers_of, definitions_of, definitions_with, inputs_of, inputs_with, last_token, leading_rows}
 use Rattle.hz_blif.specs.Fault.{IsFaultless}
 use Rattle.hz_blif.specs.Line.{Line, Blank, Model, Inputs, Outputs, Names, Row, End, Construct, lines_in, names_in}
-use Rattle.hz_blif.proofs.Lists.{all-append, all-as, all-cut}
+use Rattle.hz_netlist.proofs.Lists.{all-append, all-cut}
+use Rattle.hz_blif.proofs.Lists.{all-as}
 use Rattle.hz_blif.proofs.NameLaws.{AreApart, HaveApartOutputs}
 use Rattle.hz_netlist.specs.Names.{names_of, on_line}
 

@@ -8,13 +8,15 @@ use Rattle.hz_core.specs.declared.kind.Kind.TheVariants.{And, Nand, Or, Nor, Not
 use Rattle.hz_core.specs.Limits.{most_gate_pins, most_variables}
 use Rattle.hz_line.specs.Statement.{Numbered}
 use Rattle.hz_netlist.specs.Build.{HasRightPins}
+use Rattle.hz_netlist.specs.Draft.{inverter_name}
 use Rattle.hz_netlist.specs.Element.{Element, Input, Cut, Gate, Output, variable_total}
-use Rattle.hz_blif.proofs.Lists.{all-append, all-contained, all-kept}
+use Rattle.hz_netlist.proofs.Lists.{all-append}
+use Rattle.hz_blif.proofs.Lists.{all-contained, all-kept}
 use Rattle.hz_blif.specs.declared.fault.BlifFault.TheVariants as fault
 use Rattle.hz_blif.specs.Circuit.{elements_of}
 use Rattle.hz_blif.specs.Cover.{Cover, covers_of, inputs_of, is_skipped, kept_covers, outputs_of, plane_of, planes_of, column_of}
 use Rattle.hz_blif.specs.Fault.{HasCover, IsFaultless}
-use Rattle.hz_blif.specs.Gates.{Literal, cover_gates, gates_of_row, gates_of_rows, inverter_name, inverters_from, has_zero, literal_name, literal_names, literals_from, literals_of, row_gates_from, terms_from}
+use Rattle.hz_blif.specs.Gates.{Literal, cover_gates, gates_of_row, gates_of_rows, inverters_from, has_zero, literal_name, literal_names, literals_from, literals_of, row_gates_from, terms_from}
 use Rattle.hz_blif.specs.Line.{lines_in}
 
 -- an element is a gate that has a pin, and no more than its kind takes

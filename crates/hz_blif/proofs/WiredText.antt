@@ -17,7 +17,8 @@ use Rattle.hz_blif.specs.Fault.{IsFaultless}
 use Rattle.hz_blif.specs.Gates.{cover_gates}
 use Rattle.hz_blif.specs.Line.{Line, Blank, Model, Inputs, Outputs, Names, Row, End, Construct, lines_in}
 use Rattle.hz_blif.proofs.KeptCovers.{HasTerms, kept-terms}
-use Rattle.hz_blif.proofs.Lists.{all-append, all-as, all-both, all-contained, all-cut, all-kept, kept-passing, passing-kept}
+use Rattle.hz_netlist.proofs.Lists.{all-append, all-cut}
+use Rattle.hz_blif.proofs.Lists.{all-as, all-both, all-contained, all-kept, kept-passing, passing-kept}
 use Rattle.hz_blif.proofs.NameLaws.{AreApart, HaveApartOutputs, IsNameOf, IsSmallCover, covers-apart, gate_names-append, later-names, names-differ}
 use Rattle.hz_blif.proofs.WiredGates.{ReadsThat, cover-node, cover-output, cover-read, rows-long}
 use Rattle.hz_blif.proofs.WiredLines.{DifferFromOutputs, HaveNames, covers-have, inputs-have, join-apart, lined, text-apart}

@@ -1,63 +1,27 @@
 -- What the entries of gates stand for: their elements, with names that are known by their numbers.
-use Rattle.std.specs.Prelude.{◌≡◌, ◌≢◌, ℕ, suc, ◌+◌, ◌<◌, ◌≤◌, ◌==◌, Bool, true, List, [], ◌∷◌, ◌++◌, length, map, take, drop, Contains, Option, Some, None, if◌then◌else◌}
+use Rattle.std.specs.Prelude.{◌≡◌, ◌≢◌, ℕ, suc, ◌+◌, ◌<◌, ◌≤◌, ◌==◌, Bool, true, List, [], ◌∷◌, ◌++◌, length, map, Contains, Option, Some, None, if◌then◌else◌}
 use Rattle.std.specs.List.{All, list_all, slice_index_or, sum_by}
 use Rattle.std.specs.Str.{bytes_eq}
 use Rattle.hz_core.specs.Limits.{most_gate_pins}
-use Rattle.hz_netlist.specs.Element.{Element, Gate}
+use Rattle.hz_netlist.specs.Element.{Element}
+use Rattle.hz_netlist.specs.Draft.{ReadsGateBelow, ReadsNameBelow, gate_elements, gate_name, inverter_name, source_name}
 use Rattle.hz_blif.specs.declared.cover.Cover.{Cover}
-use Rattle.hz_blif.specs.declared.gates.Gate.{Gate as GateEntry}
+use Rattle.hz_netlist.specs.declared.draft.Gate.{Gate as GateEntry}
 use Rattle.hz_blif.specs.declared.gates.Gates.{Gates}
 use Rattle.hz_blif.specs.declared.gates.Literal.{Literal as LiteralRead}
-use Rattle.hz_blif.specs.declared.gates.Role.{Role}
-use Rattle.hz_blif.specs.declared.gates.Role.TheVariants.{Inverter, Row, Output}
-use Rattle.hz_blif.specs.declared.gates.Source.{Source}
-use Rattle.hz_blif.specs.declared.gates.Source.TheVariants as source
+use Rattle.hz_netlist.specs.declared.draft.Source.{Source}
+use Rattle.hz_netlist.specs.declared.draft.Source.TheVariants as source
 use Rattle.hz_blif.specs.Cover.{has_literal}
-use Rattle.hz_blif.specs.Gates.{Literal, gates_of_rows, has_zero, inverter_name, inverters_from, literals_of, row_gate_with, row_gates_from, row_name, term, terms_from}
+use Rattle.hz_blif.specs.Gates.{Literal, gates_of_rows, has_zero, inverters_from, literals_of, row_gate_with, row_gates_from, term, terms_from}
 use Rattle.hz_blif.specs.Reading.{bytes_of}
-
--- the name of a gate, by its role and the name of its cover's output
-abbrev pub role_name : Role → List ℕ → List ℕ
-role_name (Inverter pin) output = inverter_name output pin
-role_name (Row row) output = row_name output row
-role_name Output output = output
-
--- the name of a gate, if the names of the text are these by their numbers
-abbrev pub gate_name : (ℕ → List ℕ) → GateEntry → List ℕ
-gate_name name gate = role_name gate.role (name gate.output)
-
--- the node that a pin reads, if the gates have these names
-abbrev pub source_name : (ℕ → List ℕ) → List (List ℕ) → Source → List ℕ
-source_name name made (source.Name number) = name number
-source_name name made (source.Gate number) = slice_index_or made number []
-
--- the elements of gates that read these sources, gate after gate, if all gates have these names
-abbrev pub elements_from : (ℕ → List ℕ) → List (List ℕ) → List GateEntry → List Source →
-    List Element
-elements_from name made [] sources = []
-elements_from name made (gate ∷ gates) sources =
-    Gate (gate_name name gate) gate.kind (map (source_name name made) (take gate.pins sources))
-    ∷ elements_from name made gates (drop gate.pins sources)
 
 -- the elements for which gates stand, if the names of the text are these by their numbers
 abbrev pub elements_by : (ℕ → List ℕ) → Gates → List Element
-elements_by name gates =
-    elements_from name (map (gate_name name) gates.gates.items) gates.gates.items
-    gates.sources.items
+elements_by name gates = gate_elements name gates.gates.items gates.sources.items
 
 -- how many gates and pins there are
 abbrev pub variables_of : Gates → ℕ
 variables_of gates = length gates.gates.items + length gates.sources.items
-
--- a source is a name of the text, or one of so many gates
-abbrev pub ReadsGateBelow : ℕ → Source → Type 0
-ReadsGateBelow gates (source.Name number) = Unit {0}
-ReadsGateBelow gates (source.Gate number) = number < gates
-
--- a source is one of so many names, or a gate
-abbrev pub ReadsNameBelow : ℕ → Source → Type 0
-ReadsNameBelow names (source.Name number) = number < names
-ReadsNameBelow names (source.Gate number) = Unit {0}
 
 -- each source is a pin of a gate, and those that are gates are among these gates
 pub record HoldsGates (gates : Gates) : Type 0 where

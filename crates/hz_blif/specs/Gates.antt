@@ -1,8 +1,9 @@
 -- The gates of a cover.
-use Rattle.std.specs.Prelude.{ℕ, suc, Bool, not, ◌==◌, List, [], ◌∷◌, ◌++◌, map, codes, decimal, if◌then◌else◌}
+use Rattle.std.specs.Prelude.{ℕ, suc, Bool, not, ◌==◌, List, [], ◌∷◌, ◌++◌, map, if◌then◌else◌}
 use Rattle.std.specs.List.{list_any, slice_index_or}
 use Rattle.hz_core.specs.declared.kind.Kind.TheVariants.{And, Nand, Or, Nor, Not, Buff}
 use Rattle.hz_netlist.specs.Element.{Element, Gate}
+use Rattle.hz_netlist.specs.Draft.{inverter_name, row_name}
 use Rattle.hz_blif.specs.Cover.{Cover, planes_of, column_of}
 
 -- a literal: the number of its pin, from 1, the pin's name, and whether it stands for the pin, or else for the pin's inverter
@@ -27,14 +28,6 @@ literals_from place (pin ∷ pins) (byte ∷ plane) =
 -- the literals of a row
 abbrev pub literals_of : List (List ℕ) → List ℕ → List Literal
 literals_of pins plane = literals_from 1 pins plane
-
--- the name of the inverter of a pin
-abbrev pub inverter_name : List ℕ → ℕ → List ℕ
-inverter_name output place = output ++ codes "\\n" ++ decimal place
-
--- the name of the gate of a row
-abbrev pub row_name : List ℕ → ℕ → List ℕ
-row_name output row = output ++ codes "\\r" ++ decimal row
 
 -- the node for which a literal stands
 abbrev pub literal_name : List ℕ → Literal → List ℕ

@@ -7,7 +7,7 @@
 ghost use Rattle.std.specs.Prelude.{◌≡◌, ◌+◌, ◌<◌, ◌≤◌, ◌++◌, ◌∷◌, [], ℕ, Contains, IfOk, List, OnOk, length, map, if◌then◌else◌};
 ghost use Rattle.hz_core.specs.declared.kind.Kind.TheVariants.{And, Nand, Or, Nor, Not, Buff};
 ghost use Rattle.std.specs.List.{slice_index_or};
-ghost use Rattle.hz_blif.specs.declared.gates.Source.TheVariants.{Name};
+ghost use Rattle.hz_netlist.specs.declared.draft.Source.TheVariants.{Name};
 ghost use Rattle.hz_core.specs.Limits.{most_gate_pins};
 ghost use Rattle.hz_netlist.specs.Element.{variable_total};
 ghost use Rattle.hz_blif.specs.Entries.{AreNamed, GrowBy, HasNamesBelow, HoldsGates, IsOnlyLiteral, IsPlane, IsPrefix, IsWholeCover, ReadAs};
@@ -17,38 +17,8 @@ ghost use Rattle.hz_blif.specs.Reading.{bytes_of};
 
 use crate::cover::Cover;
 use hz_core::{Kind, Memory};
+use hz_netlist::{Gate, Role, Source};
 use std::alloc::Global;
-
-/// Which gate of its cover a gate is.
-#[derive(Clone, Copy)]
-pub(crate) enum Role {
-    /// The inverter of the pin with this number, counted from 1.
-    Inverter(u32),
-    /// The gate of the row with this number, counted from 1.
-    Row(u32),
-    /// The gate with the cover's own name.
-    Output,
-}
-
-/// A gate of a cover.
-#[derive(Clone, Copy)]
-pub(crate) struct Gate {
-    pub(crate) role: Role,
-    pub(crate) kind: Kind,
-    /// The name of the cover's output, by its number.
-    pub(crate) output: u32,
-    /// How many pins it has.
-    pub(crate) pins: usize,
-}
-
-/// What a pin reads.
-#[derive(Clone, Copy)]
-pub(crate) enum Source {
-    /// The node with a name of the text, by the name's number.
-    Name(u32),
-    /// A gate, counted from 0 among all gates.
-    Gate(usize),
-}
 
 /// The gates of covers, in the order of the text.
 #[derive(Drop)]

@@ -15,12 +15,10 @@
 //! | `cover` | a cover while its rows are read |
 //! | `gates` | the gates of a cover |
 //! | `notes` | what is kept for the faults, and the count of variables |
-//! | `build` | the circuit of a draft |
 //! | `fault` | [`BlifFault`]: why a text is no netlist |
 //! | `laws` | the laws that a text without a fault is the text of a circuit, and that stable states keep its covers |
 #![tactic(auto)]
 
-mod build;
 mod cover;
 mod draft;
 mod fault;

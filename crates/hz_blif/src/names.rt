@@ -6,7 +6,7 @@ ghost use Rattle.std.specs.Str.{bytes_eq};
 ghost use Rattle.hz_netlist.specs.Names.{first_undefined, seen_at, seen_names, with_definition, with_sight, with_use};
 ghost use Rattle.hz_blif.specs.Plain.{IsPlain};
 
-use hz_core::{Memory, NameHashing};
+use hz_core::Memory;
 use hz_netlist::NameTable;
 use std::alloc::Global;
 use std::marker::Model;
@@ -42,23 +42,17 @@ impl<'t> TextNames<'t> {
 
     /// How many names there are.
     pub(crate) fn len(&self) -> usize
-        ensures length { result ≡ length self.now }
-        ensures plain { AllByRecursion IsPlain (seen_names self.now) }
+        ensures { result ≡ length self.now }
     {
         self.table.len()
     }
 
-    /// How the names are hashed.
-    pub(crate) fn hashing(&self) -> NameHashing {
-        self.table.hashing()
-    }
-
-    /// The name with this number.
-    pub(crate) fn name(&self, number: u32) -> &'t [u8]
-        requires { number < length self.now }
-        ensures { result.now ≡ (seen_at self.now number).name }
+    /// The table of the names.
+    pub(crate) fn table(&self) -> &NameTable<'t>
+        ensures table { result.now ≡ self.now }
+        ensures plain { AllByRecursion IsPlain (seen_names self.now) }
     {
-        self.table.name(number)
+        &self.table
     }
 
     /// The first line that uses the name with this number.

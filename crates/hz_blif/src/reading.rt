@@ -4,17 +4,19 @@ ghost use Rattle.std.specs.Prelude.{◌≡◌, ◌<◌, ◌≤◌, ◌⊎◌, fa
 ghost use Rattle.std.specs.List.{All, list_any, slice_index_or};
 ghost use Rattle.hz_core.specs.Netlist.{IsWhole};
 ghost use Rattle.hz_line.specs.Line.{most_text_bytes};
+ghost use Rattle.hz_netlist.specs.Circuit.{circuit_of_elements};
+ghost use Rattle.hz_blif.specs.Built.{IsBuildable, elements_of_draft};
 ghost use Rattle.hz_blif.specs.Circuit.{blif_circuit};
 ghost use Rattle.hz_blif.specs.Draft.{IsClean, IsDraftOf, IsDraftOfSome, first_used};
 ghost use Rattle.hz_blif.specs.Fault.{IsBlifRefusal, IsFaultless, IsLeastFault};
 ghost use Rattle.hz_netlist.specs.Names.{AreNumbers};
 
-use crate::build::build;
 use crate::draft::Draft;
 use crate::fault::BlifFault;
 use crate::line::{Course, line_of};
 use crate::lines::read_line;
 use hz_core::{Circuit, MAX_VARIABLES, Memory};
+use hz_netlist::{Draft as Drafted, build_draft};
 use std::alloc::Global;
 
 /// Reads a netlist in BLIF.
@@ -75,6 +77,23 @@ fn read_draft<'t>(alloc: Global, text: &'t [u8]) -> Result<Draft<'t>, BlifFault>
         Ok(()) => Ok(draft),
         Err(Memory) => Err(BlifFault::Memory),
     }
+}
+
+// The circuit of what was read of a text without a fault.
+fn build(alloc: Global, draft: &Draft) -> Result<Circuit, Memory>
+    requires { IsBuildable draft.now }
+    ensures { IfOk result (λ circuit. circuit ≡ circuit_of_elements (elements_of_draft draft.now)) }
+{
+    let drafted = Drafted {
+        names: draft.names.table(),
+        inputs: draft.inputs.as_slice(),
+        cuts: &[],
+        cut_sources: &[],
+        gates: draft.gates.as_slice(),
+        sources: draft.gates.sources(),
+        outputs: draft.outputs.as_slice(),
+    };
+    build_draft(alloc, &drafted)
 }
 
 // The least fault of what was kept, in the order of the faults.

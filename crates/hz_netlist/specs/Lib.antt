@@ -8,7 +8,10 @@
 -- Names: names in the order of first sight, each with the lines that define and use it first
 -- AreNamesOf definitions uses names: the names are those of these definitions and uses
 -- first_undefined names: the first line that uses a name which no line defines
--- MayAddPinFrom, AreAdmissibleSteps: the steps of building that may be taken
+-- AreWired elements: elements that make a circuit
+-- AreAdmissibleSteps: the steps of building that may be taken
+-- Drafted: what a draft has, by the numbers of names
+-- IsBuildable elements draft: a draft of these elements, which make a circuit
 -- HoldsNames fields: what the fields of a table of names keep
 
 pub mod Element
@@ -16,3 +19,4 @@ pub mod Circuit
 pub mod Names
 pub mod Table
 pub mod Build
+pub mod Draft

@@ -2,16 +2,19 @@
 //!
 //! A reader gives each name a number at first sight, and notes the lines that define and use it
 //! first: so the first name that is defined twice, and the first that is defined nowhere, need no
-//! second pass over the text.
+//! second pass over the text. What it reads is a draft, by these numbers, and the circuit of a draft
+//! is built here.
 //!
 //! | Module | What lives in it |
 //! |---|---|
 //! | `names` | [`NameTable`]: names with their numbers, and the lines that define and use them first |
-//! | `build` | [`resolve`], [`connect_gate`], [`add_outputs`], [`add_outputs_and_data`]: the steps of building that every format takes |
+//! | `draft` | [`Draft`]: what was read of a text; [`build_draft`]: its circuit |
+//! | `build` | outputs, and the nodes of names |
 #![tactic(auto)]
 
 mod build;
+mod draft;
 mod names;
 
-pub use build::{add_outputs, add_outputs_and_data, connect_gate, resolve};
+pub use draft::{Draft, Gate, Role, Source, build_draft};
 pub use names::{Definition, NameTable};

@@ -1,7 +1,7 @@
 use Rattle.std.proofs.Common.{ℕ, List, subst, Option, Some, arith}
 use Rattle.std.specs.Borrow.{Bor}
 use Rattle.hz_bench.specs.Entry.{numbered_line}
-use Rattle.hz_bench.proofs.ParseLemmas.{IsParsing, IsParsing-begin, IsParsing-roomier, IsParsing-statement, inputs_noted, variables_fit}
+use Rattle.hz_bench.proofs.ParseLemmas.{IsParsing, IsParsing-begin, IsParsing-roomier, IsParsing-statement, variables_fit}
 use Rattle.hz_bench.proofs.parse.parse.Goals as goal
 
 pub loop-left-init : goal.loop-left-init
@@ -13,9 +13,6 @@ add-requires-clause-variables c =
     let one = numbered_line c.in-Some-statement_of.statement in
     let fits = variables_fit c.args.text.now c.loop-left.statements one.statement c.loop-left.line c.split_line-cut.result.line.now c.split_line-cut.result.rest c.in-Some.rest was c.split_line-cut.ensures.within c.in-Some-statement_of.ensures.meant.1 in
     omega (arith, fits, c.requires)
-
-pub add-requires-clause-inputs : goal.add-requires-clause-inputs
-add-requires-clause-inputs c = inputs_noted c.args.text.now c.loop-left.statements c.loop-left.line c.loop-left.left c.loop-left.invariant
 
 pub loop-left-preserved-in-Ok-add : goal.loop-left-preserved-in-Ok-add
 loop-left-preserved-in-Ok-add c =

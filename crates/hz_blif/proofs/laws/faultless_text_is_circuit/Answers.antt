@@ -1,5 +1,4 @@
-use Rattle.hz_netlist.proofs.Admissible.{whole}
-use Rattle.hz_netlist.proofs.Circuits.{built_circuit}
+use Rattle.hz_netlist.proofs.Circuits.{built_circuit, whole}
 use Rattle.hz_blif.specs.Circuit.{elements_of}
 use Rattle.hz_blif.specs.Line.{lines_in}
 use Rattle.hz_blif.proofs.WiredText.{wired-text}

@@ -1,7 +1,7 @@
 use Rattle.std.proofs.Common.{◌∙◌, ap, inl, inr, subst, sym, Err}
 use Rattle.std.proofs.lemmas.Result.{err_from_is_err_and}
 use Rattle.hz_core.specs.Netlist.{IsWhole, Netlist}
-use Rattle.hz_netlist.proofs.Admissible.{whole}
+use Rattle.hz_netlist.proofs.Circuits.{whole}
 use Rattle.hz_blif.specs.Circuit.{elements_of}
 use Rattle.hz_blif.specs.Line.{lines_in}
 use Rattle.hz_blif.proofs.DraftHolds.{text-built}

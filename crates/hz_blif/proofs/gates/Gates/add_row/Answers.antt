@@ -1,10 +1,10 @@
 use Rattle.std.proofs.Common.{◌≡◌, ◌∙◌, [], ◌∷◌, ◌++◌, ◌<◌, ℕ, List, ap, get_or, length, map, refl, subst, sym, take, arith}
 use Rattle.std.proofs.lemmas.List.{length-map, take_at}
 use Rattle.hz_core.specs.declared.kind.Kind.TheVariants.{And}
-use Rattle.hz_blif.specs.declared.gates.Gate.{Gate as GateEntry}
-use Rattle.hz_blif.specs.declared.gates.Role.TheVariants.{Row}
-use Rattle.hz_blif.specs.declared.gates.Source.{Source}
-use Rattle.hz_blif.specs.declared.gates.Source.TheVariants as source
+use Rattle.hz_netlist.specs.declared.draft.Gate.{Gate as GateEntry}
+use Rattle.hz_netlist.specs.declared.draft.Role.TheVariants.{Row}
+use Rattle.hz_netlist.specs.declared.draft.Source.{Source}
+use Rattle.hz_netlist.specs.declared.draft.Source.TheVariants as source
 use Rattle.hz_blif.specs.Entries.{ReadAs, literal_sources, literals_by, term_by}
 use Rattle.hz_blif.specs.Gates.{literal_names}
 use Rattle.hz_blif.proofs.CoverEntries.{literals-read, one-source, reads-long, row-several, row-single, some-literal, sources-long}

@@ -5,8 +5,8 @@ use Rattle.std.proofs.lemmas.Result.{on_ok_weaker}
 use Rattle.hz_core.specs.declared.kind.Kind.{Kind}
 use Rattle.hz_core.specs.declared.kind.Kind.TheVariants.{Or, Nor}
 use Rattle.hz_netlist.specs.Element.{Gate}
-use Rattle.hz_blif.specs.declared.gates.Gate.{Gate as GateEntry}
-use Rattle.hz_blif.specs.declared.gates.Role.TheVariants.{Output}
+use Rattle.hz_netlist.specs.declared.draft.Gate.{Gate as GateEntry}
+use Rattle.hz_netlist.specs.declared.draft.Role.TheVariants.{Output}
 use Rattle.hz_blif.specs.Entries.{column_by, inverters_by, planes_by, row_gates_by, terms_by}
 use Rattle.hz_blif.specs.Reading.{bytes_of}
 use Rattle.hz_blif.proofs.CoverEntries.{gates-rows, terms-long}

@@ -4,8 +4,8 @@ use Rattle.std.proofs.lemmas.Result.{on_ok_weaker}
 use Rattle.hz_core.specs.declared.kind.Kind.{Kind}
 use Rattle.hz_core.specs.declared.kind.Kind.TheVariants.{And, Nand}
 use Rattle.hz_netlist.specs.Element.{Gate}
-use Rattle.hz_blif.specs.declared.gates.Gate.{Gate as GateEntry}
-use Rattle.hz_blif.specs.declared.gates.Role.TheVariants.{Output}
+use Rattle.hz_netlist.specs.declared.draft.Gate.{Gate as GateEntry}
+use Rattle.hz_netlist.specs.declared.draft.Role.TheVariants.{Output}
 use Rattle.hz_blif.specs.Entries.{inverters_by, literal_sources, literals_by}
 use Rattle.hz_blif.specs.Gates.{literal_names}
 use Rattle.hz_blif.proofs.CoverEntries.{gates-literal, gates-several, literals-read, plane-long, plane-some, reads-long, single-plane}

@@ -1,6 +1,6 @@
 use Rattle.std.proofs.Common.{[], ◌∷◌, ◌++◌, ◌∙◌, ap, refl, subst, sym, List}
 use Rattle.std.proofs.lemmas.Result.{on_ok_weaker}
-use Rattle.hz_blif.specs.declared.gates.Source.{Source}
+use Rattle.hz_netlist.specs.declared.draft.Source.{Source}
 use Rattle.hz_blif.specs.Entries.{ReadAs, inverted_from, planes_by}
 use Rattle.hz_blif.proofs.EntryLemmas.{grow-kept, reads-append, reads-later}
 use Rattle.hz_blif.proofs.gates.Gates.invert_pin.Goals as goal

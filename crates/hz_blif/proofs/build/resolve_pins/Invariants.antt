@@ -1,6 +1,0 @@
-use Rattle.std.proofs.Common.{◌≡◌, ◌++◌, drop, map}
-use Rattle.hz_blif.specs.Built.{source_node}
-use Rattle.hz_blif.proofs.build.resolve_pins.Given as goal
-
-abbrev pub invariant-loop-source : goal.invariant-loop-source
-invariant-loop-source l = l.pins.items ++ map (source_node l.nodes l.inputs) (drop l.source-index l.sources) ≡ map (source_node l.nodes l.inputs) l.sources
