@@ -1,0 +1,22 @@
+use Rattle.std.proofs.Common.{◌∙◌, ap, arith}
+use Rattle.hz_core.specs.Netlist.{Netlist}
+use Rattle.hz_net.proofs.Parts.{gates-counted, wires-kept}
+use Rattle.hz_net.proofs.Fields.{circuit_of, parts_of}
+use Rattle.hz_net.proofs.net.Net.gate_kind.Goals as goal
+
+pub index-requires : goal.index-requires
+index-requires c =
+    omega (
+      arith,
+      gates-counted c.args.self.now _ _ _ (parts_of c.self.inside c.args.self.now c.self.view_is c.self.invariant),
+      (circuit_of c.self.inside c.args.self.now c.self.view_is c.self.invariant).nodes,
+      ap (λ (n : Netlist). n.inputs) c.self.view_is,
+      c.requires.1,
+    )
+
+pub returns-clause-kind : goal.returns-clause-kind
+returns-clause-kind c =
+    let netlist = c.args.self.now in
+    let circuit = circuit_of c.self.inside netlist c.self.view_is c.self.invariant in
+    (wires-kept netlist _ _ _ (parts_of c.self.inside netlist c.self.view_is c.self.invariant) c.args.gate c.inputs.result c.index.result.now circuit
+    c.requires (c.inputs.ensures.inputs ∙ ap (λ (n : Netlist). n.inputs) c.self.view_is) c.index.ensures).kind
