@@ -189,6 +189,6 @@ fn extend(net: &Net, gate: u32, values: &[Tri]) -> Tri
     ensures { result ≡ gate_extension net.now values.now gate }
 {
     let (first, pins) = net.wires_in(gate);
-    let kind = net.gate_kind(gate);
+    let kind = net.circuit().kind(gate);
     kind.eval3(&values[first as usize..(first + pins) as usize])
 }

@@ -72,7 +72,7 @@ fn mark_pattern(net: &Net, gate: u32, free: &[bool], scratch: &mut Scratch)
     ensures state { scratch.new.state ≡ scratch.old.state }
     ensures sorted { scratch.new.sorted ≡ scratch.old.sorted }
 {
-    let kind = net.gate_kind(gate);
+    let kind = net.circuit().kind(gate);
     let (first, pins) = net.wires_in(gate);
     let mut room = [false; MAX_PINS];
     let pattern = &mut room[..free.len()];
