@@ -10,7 +10,7 @@ ghost use Rattle.hz_core.specs.Limits.{most_variables};
 use crate::VarKind;
 use crate::entry::{Entry, Parts};
 use crate::fan_out::{FanOut, list_fan_out};
-use hz_core::{Circuit, Kind, Memory, Tri};
+use hz_core::{Circuit, Memory, Tri};
 use hz_lists::{Steps, part};
 use std::alloc::Global;
 use std::marker::Model;
@@ -111,15 +111,6 @@ impl Net {
     {
         let wires = self.parts.gates[(gate - self.circuit.inputs()) as usize];
         (wires.first, wires.pins as u32)
-    }
-
-    /// The kind of a gate.
-    pub fn gate_kind(&self, gate: u32) -> Kind
-        requires { IsGateNumber self.now gate }
-        ensures kind { result ≡ (gate_at self.now gate).kind }
-        ensures circuit { IsCircuit self.now }
-    {
-        self.parts.gates[(gate - self.circuit.inputs()) as usize].kind
     }
 
     /// The wires whose source is the node, ascending.
