@@ -2,14 +2,14 @@
 use Rattle.std.proofs.Common.{◌≡◌, ◌∙◌, sym, ap, ℕ, ◌+◌, suc, ◌<◌, ◌≤◌, List, [], ◌∷◌, length, Some, slice_get, get_or, arith, subst}
 use Rattle.std.proofs.lemmas.List.{get_or_default}
 use Rattle.hz_core.specs.Netlist.{Netlist, IsCircuit, IsWhole, variable_count}
-use Rattle.hz_net.specs.Network.{network_of, driver_at}
+use Rattle.hz_net.specs.Network.{wires_of, network_of, driver_at}
 use Rattle.hz_net.specs.Variables.{variable_kinds, fan_out_of}
-use Rattle.hz_net.specs.Entries.{driver_of, entry_kind, entries_of, IsEntryAt}
+use Rattle.hz_net.specs.Entries.{driver_of, entry_kind, entries_of, IsEntryAt, AreParts}
 use Rattle.hz_net.specs.FanOuts.{IsSplit, readers_by_node}
 use Rattle.hz_net.specs.Inside.{HoldsNetwork}
 use Rattle.hz_net.specs.declared.net.Net.TheInside.{Inside}
 use Rattle.hz_net.specs.declared.entry.Entry.{Entry}
-use Rattle.hz_net.proofs.Places.{length-entries_of, length-network_of, driver_at-entry, variable_kinds-entry, IsEntryAt-entries_of}
+use Rattle.hz_net.proofs.Places.{length-network_of, driver_at-entry, variable_kinds-entry, IsEntryAt-entries_of}
 use Rattle.hz_lists.proofs.PartLemmas.{length-parts_from, IsPart, is_part}
 use Rattle.hz_net.proofs.FanOutLemmas.{length-readers_by_node, at-readers_by_node}
 use Rattle.hz_core.specs.Limits.{most_variables}
@@ -21,15 +21,11 @@ circuit_of fields netlist same holds = subst IsCircuit same holds.circuit
 pub whole_of : (fields : Inside) (netlist : Netlist) → fields.circuit ≡ netlist → HoldsNetwork fields → IsWhole netlist
 whole_of fields netlist same holds = subst IsWhole same holds.whole
 
-pub entries_are :
-    (fields : Inside) (netlist : Netlist) → fields.circuit ≡ netlist → HoldsNetwork fields → fields.entries.items ≡ entries_of netlist
-entries_are fields netlist same holds = holds.entries ∙ ap entries_of same
-
-pub length_is :
+pub parts_of :
     (fields : Inside) (netlist : Netlist) → fields.circuit ≡ netlist → HoldsNetwork fields →
-    length fields.entries.items ≡ variable_count netlist
-length_is fields netlist same holds =
-    ap length (entries_are fields netlist same holds) ∙ length-entries_of netlist (circuit_of fields netlist same holds)
+    AreParts netlist fields.parts.gates.items fields.parts.goes.items fields.parts.comes.items
+parts_of fields netlist same holds =
+    subst (λ n. AreParts n fields.parts.gates.items fields.parts.goes.items fields.parts.comes.items) same holds.parts
 
 pub network_length_is :
     (fields : Inside) (netlist : Netlist) → fields.circuit ≡ netlist → HoldsNetwork fields →
@@ -42,19 +38,11 @@ network_bound_is fields netlist same holds =
     let circuit : IsCircuit netlist = circuit_of fields netlist same holds in
     omega (arith, length-network_of netlist circuit, circuit.variables)
 
--- a variable of the network has its entry
-pub entry_inside :
-    (fields : Inside) (netlist : Netlist) → fields.circuit ≡ netlist → HoldsNetwork fields → (var : ℕ) →
-    var < length (network_of netlist) → var < length fields.entries.items
-entry_inside fields netlist same holds var inside =
-    omega (arith, length_is fields netlist same holds, network_length_is fields netlist same holds, inside)
-
 -- an entry as it is read
 read_is :
-    (fields : Inside) (netlist : Netlist) → fields.circuit ≡ netlist → HoldsNetwork fields → (var : ℕ) (entry : Entry) →
-    entry ≡ get_or fields.entries.items var entry → entry ≡ get_or (entries_of netlist) var entry
-read_is fields netlist same holds var entry read =
-    read ∙ ap (λ entries. get_or entries var entry) (entries_are fields netlist same holds)
+    (fields : Inside) (netlist : Netlist) → fields.circuit ≡ netlist → (var : ℕ) (entry : Entry) →
+    entry ≡ get_or (entries_of fields.circuit) var entry → entry ≡ get_or (entries_of netlist) var entry
+read_is fields netlist same var entry read = read ∙ ap (λ n. get_or (entries_of n) var entry) same
 
 -- a variable of the network is one of the circuit
 pub within_is :
@@ -64,33 +52,31 @@ within_is fields netlist same holds var inside = omega (arith, network_length_is
 
 pub driver_is :
     (fields : Inside) (netlist : Netlist) → fields.circuit ≡ netlist → HoldsNetwork fields → (var : ℕ) (entry : Entry) →
-    var < length (network_of netlist) → entry ≡ get_or fields.entries.items var entry → driver_at (network_of netlist) var ≡ driver_of entry
+    var < length (network_of netlist) → entry ≡ get_or (entries_of fields.circuit) var entry → driver_at (network_of netlist) var ≡ driver_of entry
 driver_is fields netlist same holds var entry inside read =
-    driver_at-entry netlist var entry (circuit_of fields netlist same holds) (within_is fields netlist same holds var inside) (read_is fields netlist same holds var entry read)
+    driver_at-entry netlist var entry (circuit_of fields netlist same holds) (within_is fields netlist same holds var inside) (read_is fields netlist same var entry read)
 
 pub seen_is :
     (fields : Inside) (netlist : Netlist) → fields.circuit ≡ netlist → HoldsNetwork fields → (var : ℕ) (entry : Entry) →
-    var < length (network_of netlist) → entry ≡ get_or fields.entries.items var entry →
+    var < length (network_of netlist) → entry ≡ get_or (entries_of fields.circuit) var entry →
     slice_get (variable_kinds netlist) var ≡ Some (entry_kind entry)
 seen_is fields netlist same holds var entry inside read =
-    variable_kinds-entry netlist var entry (circuit_of fields netlist same holds) (within_is fields netlist same holds var inside) (read_is fields netlist same holds var entry read)
+    variable_kinds-entry netlist var entry (circuit_of fields netlist same holds) (within_is fields netlist same holds var inside) (read_is fields netlist same var entry read)
 
 pub place_is :
     (fields : Inside) (netlist : Netlist) → fields.circuit ≡ netlist → HoldsNetwork fields → (var : ℕ) (entry : Entry) →
-    var < variable_count netlist → entry ≡ get_or fields.entries.items var entry → IsEntryAt netlist var entry
+    var < variable_count netlist → entry ≡ get_or (entries_of fields.circuit) var entry → IsEntryAt netlist var entry
 place_is fields netlist same holds var entry within read =
-    subst (IsEntryAt netlist var) (sym (read_is fields netlist same holds var entry read))
+    subst (IsEntryAt netlist var) (sym (read_is fields netlist same var entry read))
     (IsEntryAt-entries_of netlist var entry (circuit_of fields netlist same holds) (whole_of fields netlist same holds) within)
 
 -- the fan-out that the fields hold
 split_of :
     (fields : Inside) (netlist : Netlist) → fields.circuit ≡ netlist → HoldsNetwork fields →
-    IsSplit fields.fan_out.starts.items fields.fan_out.readers.items (readers_by_node (length netlist.names) (entries_of netlist))
+    IsSplit fields.fan_out.starts.items fields.fan_out.readers.items (readers_by_node (length netlist.names) fields.parts.comes.items)
 split_of fields netlist same holds =
-    subst (IsSplit fields.fan_out.starts.items fields.fan_out.readers.items)
-    (ap (λ (n : Netlist). readers_by_node (length n.names) fields.entries.items) same ∙
-    ap (readers_by_node (length netlist.names)) (entries_are fields netlist same holds))
-    holds.fan_out
+    subst (λ (n : Netlist). IsSplit fields.fan_out.starts.items fields.fan_out.readers.items (readers_by_node (length n.names) fields.parts.comes.items))
+    same holds.fan_out
 
 pub starts_counted :
     (fields : Inside) (netlist : Netlist) → fields.circuit ≡ netlist → HoldsNetwork fields →
@@ -102,7 +88,7 @@ starts_counted fields netlist same holds =
       ap length split.starts_are,
       length-parts_from 0 split.ends fields.fan_out.readers.items,
       ap length split.parts_are,
-      length-readers_by_node (length netlist.names) (entries_of netlist),
+      length-readers_by_node (length netlist.names) fields.parts.comes.items,
     )
 
 -- the part of the list that holds the fan-out of a node
@@ -128,5 +114,6 @@ fan_out_is fields netlist same holds node start end within read_start read_end =
       inside = omega (arith, ends_at, part.inside);
       same = rw (begins, ends_at)
           (part.same ∙ ap (λ (parts : List (List ℕ)). get_or parts node []) split.parts_are ∙
-          at-readers_by_node netlist (length netlist.names) node (circuit_of fields netlist same holds) within);
+          at-readers_by_node (length netlist.names) node fields.parts.comes.items (wires_of netlist) within
+          (parts_of fields netlist same holds).comes);
     }

@@ -2,6 +2,8 @@
 pub mod Places
 -- The fan-outs of all nodes: how they are gathered, and that they are those of the circuit
 pub mod FanOutLemmas
+-- The gates and wires of a circuit in three lists: how they are listed, and what they tell of each variable
+pub mod Parts
 -- What a network's fields tell of each variable
 pub mod Fields
 -- Excitations of all variables at once: place by place, and against refinement and the order of ternary states

@@ -1,8 +1,8 @@
 -- Where each variable of a circuit's network stands, and what drives it there.
-use Rattle.std.proofs.Common.{◌≡◌, ◌∙◌, sym, ap, refl, suc, zero, ℕ, ◌+◌, ◌-◌, ◌<◌, ◌≤◌, Bool, false, List, [], ◌∷◌, ◌++◌, length, Some, All, get_or, map, take, drop, arith, subst, slice_get, add-zero, length-append, append_assoc, inl, inr}
+use Rattle.std.proofs.Common.{◌≡◌, ◌∙◌, sym, ap, refl, suc, zero, ℕ, ◌+◌, ◌-◌, ◌<◌, ◌≤◌, Bool, false, List, [], ◌∷◌, ◌++◌, length, Some, All, get_or, map, take, drop, arith, subst, slice_get, add-zero, length-append, inl, inr}
 use Rattle.std.specs.List.{sum_by, range_with_len}
 use Rattle.std.proofs.lemmas.Simd.{map-map}
-use Rattle.std.proofs.lemmas.List.{length-map, map-append, get_or-map, get_or_append_left, get_or-append_right, drop-drop, drop_at, take_at, drop_more, drop_all, get_or-drop, get_or-take, append-nil}
+use Rattle.std.proofs.lemmas.List.{length-map, map-append, get_or-map, get_or_append_left, get_or-append_right, drop-drop, drop_at, take_at, get_or-drop, get_or-take}
 use Rattle.std.proofs.lemmas.List.FromFn.{length-map-range_with_len, get_or-map-range_with_len}
 use Rattle.std.proofs.lemmas.List.Sums.{sum_by-cons, sum_by_more, sum_by-take-le}
 use Rattle.std.proofs.lemmas.List.Elements.{All-nil, All-cons, All-head, All-tail, All-append}
@@ -50,7 +50,7 @@ pub length-wires_of : (netlist : Netlist) → length (wires_of netlist) ≡ pin_
 unfolding wires_of
 length-wires_of netlist = length-wires_from netlist.inputs netlist.gates
 
-length-gate_entries : (first : ℕ) (gates : List Gate) → length (gate_entries first gates) ≡ length gates
+pub length-gate_entries : (first : ℕ) (gates : List Gate) → length (gate_entries first gates) ≡ length gates
 length-gate_entries first [] = refl
 length-gate_entries first (gate ∷ gates) = ap suc (length-gate_entries (first + length gate.sources) gates)
 
@@ -114,7 +114,7 @@ variable_kinds-entry netlist var entry circuit within read =
     ap Some (get_or-map entry_kind (entries_of netlist) var entry (entry_kind entry) inside ∙ ap entry_kind (sym read))
 
 -- the entry of the k-th gate
-at-gate_entries :
+pub at-gate_entries :
     (gates : List Gate) (first k : ℕ) (d : Entry) → k < length gates →
     get_or (gate_entries first gates) k d ≡
     GateEntry (get_or gates k no_gate).kind (first + sum_by pins_of (take k gates)) (length (get_or gates k no_gate).sources)
@@ -191,34 +191,6 @@ first_wire-bound netlist node circuit is_gate =
     let k = node - netlist.inputs in
     let within : k < length netlist.gates = omega (arith, circuit.nodes) in
     omega (arith, sum_by_more pins_of netlist.gates k no_gate within, sum_by-take-le pins_of netlist.gates (k + 1))
-
--- a gate's wires are pushed behind those of the earlier gates
-pub wires_step :
-    (list : List Entry) (gates : List Gate) (gate k : ℕ) → k < length gates →
-    (list ++ map wire_entry (gate_wires gate 0 (get_or gates k no_gate).sources)) ++ map wire_entry (wires_from (gate + 1) (drop (k + 1) gates)) ≡
-    list ++ map wire_entry (wires_from gate (drop k gates))
-wires_step list gates gate k within =
-    append_assoc list (map wire_entry (gate_wires gate 0 (get_or gates k no_gate).sources)) (map wire_entry (wires_from (gate + 1) (drop (k + 1) gates))) ∙
-    ap (λ rest. list ++ rest)
-    (sym (map-append wire_entry (gate_wires gate 0 (get_or gates k no_gate).sources) (wires_from (gate + 1) (drop (k + 1) gates))) ∙
-    ap (λ left. map wire_entry (wires_from gate left)) (sym (drop_more gates k no_gate within)))
-
--- behind the last gate no wire is left
-pub wires_end :
-    (list start : List Entry) (netlist : Netlist) (gate k : ℕ) → length netlist.gates ≤ k →
-    list ++ map wire_entry (wires_from gate (drop k netlist.gates)) ≡ start ++ map wire_entry (wires_from netlist.inputs netlist.gates) →
-    list ≡ start ++ map wire_entry (wires_of netlist)
-unfolding wires_of
-wires_end list start netlist gate k end whole =
-    sym (append-nil list) ∙ ap (λ left. list ++ map wire_entry (wires_from gate left)) (sym (drop_all k netlist.gates end)) ∙ whole
-
--- inputs, gates and wires are the entries
-pub entries_of-parts :
-    (netlist : Netlist) (none list inputs gates : List Entry) → none ≡ [] → inputs ≡ none ++ map InputEntry (range_with_len 0 netlist.inputs) →
-    gates ≡ inputs ++ gate_entries (length netlist.names) netlist.gates → list ≡ gates ++ map wire_entry (wires_of netlist) →
-    list ≡ entries_of netlist
-unfolding entries_of
-entries_of-parts netlist none list inputs gates e f g h = cc
 
 pub at-entries_of-input :
     (netlist : Netlist) (var : ℕ) (d : Entry) → var < netlist.inputs → get_or (entries_of netlist) var d ≡ InputEntry var

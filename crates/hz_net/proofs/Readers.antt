@@ -1,6 +1,6 @@
 -- What a driver asks for depends on what it reads alone; and the readers of a variable are the wires from a node, or the gate
 -- of a wire.
-use Rattle.std.proofs.Common.{◌≡◌, ℕ, zero, suc, ◌+◌, ◌-◌, ◌<◌, ◌≤◌, ◌⊎◌, Bool, false, List, [], ◌∷◌, length, get_or, All, Some, refl, sym, ap, ◌∙◌, subst, arith, inl, inr}
+use Rattle.std.proofs.Common.{◌≡◌, ℕ, zero, suc, ◌+◌, ◌-◌, ◌<◌, ◌≤◌, ◌⊎◌, Bool, false, List, [], ◌∷◌, length, get_or, All, refl, sym, ap, subst, arith, inl, inr}
 use Rattle.std.specs.Prelude.{Contains}
 use Rattle.std.proofs.lemmas.Bool.{cases_lt, cases_eq}
 use Rattle.std.proofs.lemmas.List.{get_or_past}
@@ -13,15 +13,10 @@ use Rattle.hz_core.specs.Extension.{extension}
 use Rattle.hz_net.specs.Network.{Driver, External, Function, Source, network_of, wires_of, driver_at, driver_value, driver_value3, bit_at, value_at}
 use Rattle.hz_net.specs.Variables.{first_wire, fan_out_of}
 use Rattle.hz_net.specs.Reads.{Reads, AreReaders, readers_by, readers_of, IsWireInto}
-use Rattle.hz_net.specs.Entries.{entry_kind, IsEntryAt}
-use Rattle.hz_net.specs.declared.entry.Entry.{Entry}
 use Rattle.hz_net.specs.declared.entry.Entry.TheVariants.{Input as InputEntry, Gate as GateEntry}
 use Rattle.hz_lists.proofs.PartLemmas.{same-parts}
 use Rattle.hz_net.proofs.Places.{no_wire, length-network_of, driver_at-input, driver_at-gate, driver_at-wire, first_wire-bound, at-entries_of-input, at-entries_of-gate, variable_kinds-entry}
 use Rattle.hz_net.proofs.Wires.{IsWireFrom, IsWireFrom-node, IsWireFrom-fan_out_of, Contains-fan_out_of, driver_at-IsWireFrom, variable_kinds-wire}
-use Rattle.hz_net.specs.Inside.{HoldsNetwork}
-use Rattle.hz_net.specs.declared.net.Net.TheInside.{Inside}
-use Rattle.hz_net.proofs.Fields.{circuit_of, seen_is, within_is, place_is}
 use Rattle.hz_net.proofs.Wired.{gate-named, named-into, pin-into}
 
 -- a driver reads a variable or not
@@ -141,21 +136,3 @@ module _ (netlist : Netlist) (circuit : IsCircuit netlist) where
         | inl inside ↦ inside
         | inr out ↦ absurd (subst (λ (d : Driver). Reads d i) (get_or_past (network_of netlist) reader (External 0) out) reads)
       ]
-
--- what the fields of a network tell of the readers of a variable
-pub record AreReadersBy (netlist : Netlist) (var : ℕ) (entry : Entry) : Type 0 where
-  pub place : IsEntryAt netlist var entry
-  pub readers : readers_of netlist var ≡ readers_by netlist var (Some (entry_kind entry))
-  pub inside : All (λ reader. reader < length (network_of netlist)) (readers_by netlist var (Some (entry_kind entry)))
-
-pub readers_are :
-    (fields : Inside) (netlist : Netlist) → fields.circuit ≡ netlist → HoldsNetwork fields → (var : ℕ) (read entry : Entry) →
-    var < length (network_of netlist) → read ≡ get_or fields.entries.items var read → read ≡ entry → AreReadersBy netlist var entry
-readers_are fields netlist same holds var read entry few at is =
-    let circuit : IsCircuit netlist = circuit_of fields netlist same holds in
-    let told = ap (readers_by netlist var) (seen_is fields netlist same holds var read few at) ∙ ap (λ (e : Entry). readers_by netlist var (Some (entry_kind e))) is in
-    record {
-      place = subst (IsEntryAt netlist var) is (place_is fields netlist same holds var read (within_is fields netlist same holds var few) at);
-      readers = told;
-      inside = subst (All (λ reader. reader < length (network_of netlist))) told (readers-inside netlist circuit var few);
-    }

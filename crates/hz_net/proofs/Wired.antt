@@ -52,6 +52,12 @@ pin-place (gate ∷ gates) place few =
       | inr beyond ↦ later-gate gate gates place beyond (pin-place gates (place - pins_of gate) (omega (arith, few, beyond, sum_by-cons pins_of gate gates)))
     ]
 
+-- a wire stands at its pin, behind the first wire of its gate
+pub record IsPlaced (netlist : Netlist) (var : ℕ) (wire : Wire) : Type 0 where
+  pub is_gate : IsGateNumber netlist wire.gate
+  pub is_pin : wire.pin < length (gate_at netlist wire.gate).sources
+  pub stands : first_wire netlist wire.gate + wire.pin ≡ var
+
 module _ (netlist : Netlist) (circuit : IsCircuit netlist) where
   -- the variable at a pin of a gate goes into the gate
   pub pin-into : (gate pin wire : ℕ) → IsGateNumber netlist gate → pin < length (gate_at netlist gate).sources → first_wire netlist gate + pin ≡ wire → IsWireInto (network_of netlist) gate wire
@@ -124,6 +130,14 @@ module _ (netlist : Netlist) (circuit : IsCircuit netlist) where
       ap (λ (k : ℕ). sum_by pins_of (take k netlist.gates)) same in
       let stands : wire - nodes ≡ sum_by pins_of (take at.gate netlist.gates) + at.pin = at.stands in
       (gate, pin-into gate at.pin wire is_gate few_pins (omega (arith, stands, sum, above)))
+
+  -- and it stands there at its pin
+  pub wire-place : (wire : ℕ) → length netlist.names ≤ wire → wire < variable_count netlist → IsPlaced netlist wire (get_or (wires_of netlist) (wire - length netlist.names) no_wire)
+  wire-place wire above below =
+      let into = wire-into wire above below in
+      let pin = pin-of into.0 wire into.1 in
+      let same = ap (λ (n : ℕ). get_or (wires_of netlist) (n - length netlist.names) no_wire) (sym pin.2) ∙ wire_at-pin netlist into.0 (wire - into.1.first) circuit pin.0 pin.1 in
+      subst (IsPlaced netlist wire) (sym same) (record { is_gate = pin.0; is_pin = pin.1; stands = pin.2 })
 
   -- and into the gate that it names
   pub named-into : (wire gate pin source : ℕ) → length netlist.names ≤ wire → wire < variable_count netlist → slice_get (variable_kinds netlist) wire ≡ Some (WireKind gate pin source) → IsWireInto (network_of netlist) gate wire

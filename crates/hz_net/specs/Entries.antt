@@ -7,6 +7,7 @@ use Rattle.hz_net.specs.Network.{Wire, wires_of, Driver, External, Function, Sou
 use Rattle.hz_net.specs.Variables.{first_wire}
 use Rattle.hz_net.specs.declared.variable.VarKind.{VarKind}
 use Rattle.hz_net.specs.declared.variable.VarKind.TheVariants.{Input as InputKind, Gate as GateKind, Wire as WireKind}
+use Rattle.hz_net.specs.declared.entry.GateWires.{GateWires}
 use Rattle.hz_net.specs.declared.entry.Entry.{Entry}
 use Rattle.hz_net.specs.declared.entry.Entry.TheVariants.{Input as InputEntry, Gate as GateEntry, Wire as WireEntry}
 
@@ -39,6 +40,16 @@ entries_of netlist =
     map InputEntry (range_with_len 0 netlist.inputs)
     ++ gate_entries (length netlist.names) netlist.gates
     ++ map wire_entry (wires_of netlist)
+
+-- the entry of a gate as it is kept
+abbrev pub gate_entry : GateWires → Entry
+gate_entry kept = GateEntry kept.kind kept.first kept.pins
+
+-- three lists hold the gates and wires of a circuit: each gate with its wires, and of each wire its gate and its source
+pub record AreParts (netlist : Netlist) (kept : List GateWires) (into from : List ℕ) : Type 0 where
+  pub gates : map gate_entry kept ≡ gate_entries (length netlist.names) netlist.gates
+  pub goes : into ≡ map (λ wire. wire.gate) (wires_of netlist)
+  pub comes : from ≡ map (λ wire. wire.source) (wires_of netlist)
 
 -- an entry is right for a variable of a whole circuit, and all that it names is there
 abbrev pub IsEntryAt : Netlist → ℕ → Entry → Type 0

@@ -8,7 +8,7 @@ ghost use Rattle.hz_net.specs.Entries.{driver_of, entry_kind, IsEntryAt};
 ghost use Rattle.hz_core.specs.Limits.{most_variables};
 
 use crate::VarKind;
-use crate::entry::{Entry, list_entries};
+use crate::entry::{Entry, Parts};
 use crate::fan_out::{FanOut, list_fan_out};
 use hz_core::{Circuit, Memory, Tri};
 use hz_lists::{Steps, part};
@@ -25,7 +25,7 @@ use std::sync::ledger::Ledger;
 #[derive(Debug, Drop)]
 pub struct Net {
     circuit: Circuit,
-    entries: Vec<Entry>,
+    parts: Parts,
     fan_out: FanOut,
 }
 
@@ -47,11 +47,11 @@ impl Net {
         requires { IsWhole circuit }
         ensures ok { IfOk result (λ net. net ≡ circuit) }
     {
-        let entries = list_entries(alloc, &circuit)?;
-        let fan_out = list_fan_out(alloc, circuit.nodes(), entries.as_slice())?;
+        let parts = Parts::of(alloc, &circuit)?;
+        let fan_out = list_fan_out(alloc, circuit.nodes(), parts.comes.as_slice())?;
         Ok(Net {
             circuit,
-            entries,
+            parts,
             fan_out,
         })
     }
@@ -109,11 +109,8 @@ impl Net {
         ensures pins { result.1 ≡ length (gate_at self.now gate).sources }
         ensures inside { result.0 + result.1 ≤ length (network_of self.now) }
     {
-        match self.entries[gate as usize] {
-            Entry::Gate { first, pins, .. } => (first, pins as u32),
-            Entry::Input { .. } => unreachable!(),
-            Entry::Wire { .. } => unreachable!(),
-        }
+        let wires = self.parts.gates[(gate - self.circuit.inputs()) as usize];
+        (wires.first, wires.pins as u32)
     }
 
     /// The wires whose source is the node, ascending.
@@ -132,11 +129,11 @@ impl Net {
         ensures readers { result.now ≡ readers_of self.now var }
         ensures inside { All (IsVariable self.now) result.now }
     {
-        match &self.entries[var as usize] {
-            Entry::Input { .. } => self.fan_out(var),
-            Entry::Gate { .. } => self.fan_out(var),
-            Entry::Wire { gate, .. } => slice::from_ref(gate),
+        let nodes = self.circuit.nodes();
+        if var < nodes {
+            return self.fan_out(var);
         }
+        slice::from_ref(&self.parts.goes[(var - nodes) as usize])
     }
 
     /// The excitation of a variable: the external input for an input, the gate function of its own wires for a gate, the
@@ -227,6 +224,6 @@ impl Net {
         ensures bound { length (network_of self.now) ≤ most_variables }
         ensures circuit { IsCircuit self.now }
     {
-        self.entries[var as usize]
+        self.parts.at(&self.circuit, var)
     }
 }
