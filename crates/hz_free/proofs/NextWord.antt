@@ -10,11 +10,10 @@ use Rattle.hz_core.specs.Netlist.{Netlist, IsCircuit, IsWhole, variable_count}
 use Rattle.hz_net.specs.Network.{Driver, External, Function, network_of, driver_at, bit_at}
 use Rattle.hz_net.specs.Reads.{Reads}
 use Rattle.hz_net.specs.Variables.{variable_kinds, first_wire}
-use Rattle.hz_net.specs.Entries.{driver_of, entry_kind, entries_of, IsEntryAt}
-use Rattle.hz_net.specs.declared.entry.Entry.{Entry}
-use Rattle.hz_net.specs.declared.entry.Entry.TheVariants.{Input as InputEntry, Gate as GateEntry, Wire as WireEntry}
+use Rattle.hz_net.specs.Driven.{IsDrivenAs as IsDrivenInNet}
 use Rattle.hz_net.specs.declared.variable.VarKind.{VarKind}
-use Rattle.hz_net.proofs.Places.{length-network_of, length-entries_of, driver_at-entry, variable_kinds-entry, IsEntryAt-entries_of}
+use Rattle.hz_net.specs.declared.variable.VarKind.TheVariants.{Input as InputKind, Gate as GateKind, Wire as WireKind}
+use Rattle.hz_net.proofs.DrivenLemmas.{driven-as as net-driven-as}
 use Rattle.hz_lists.proofs.PartLemmas.{length-part, at-part}
 use Rattle.hz_word.proofs.Stretched.{counted-capped_count}
 use Rattle.hz_word.specs.declared.word.Word.{Word}
@@ -31,33 +30,15 @@ default-same [] k d e few = absurd (omega arith)
 default-same (x ∷ xs) zero d e few = refl
 default-same (x ∷ xs) (suc k) d e few = default-same xs k d e (omega arith)
 
--- how a variable is driven, by its entry
-driven-entry : (netlist : Netlist) (var : ℕ) (entry : Entry) → IsCircuit netlist → IsEntryAt netlist var entry → driver_at (network_of netlist) var ≡ driver_of entry → var < length (network_of netlist) → IsDrivenAs netlist var (entry_kind entry)
-driven-entry netlist var (InputEntry number) circuit at driven within =
-    (driven, subst (λ (n : ℕ). n < netlist.inputs) (sym at.0) at.1)
-driven-entry netlist var (GateEntry kind first pins) circuit at driven within = (
-  at.0,
-  driven ∙ (ap (λ (n : ℕ). Function kind n pins) at.1 ∙ ap (λ (n : ℕ). Function kind (first_wire netlist var) n) at.2),
-  subst (λ (n : ℕ). first_wire netlist var + n ≤ length (network_of netlist)) at.2 (subst (λ (n : ℕ). n + pins ≤ length (network_of netlist)) at.1 at.3),
-  subst (λ (n : ℕ). IsTrue (takes kind n)) at.2 at.4,
-)
-driven-entry netlist var (WireEntry pin gate source) circuit at driven within =
-    (driven, let inside = at.1 in omega (arith, inside, at.0, within))
-
-some-same : (a b : VarKind) → Some a ≡ Some b → a ≡ b
-some-same a b e = cc
-
+-- how a variable is driven, by what it is, in the words of this crate
 pub driven-as : (netlist : Netlist) (var : ℕ) (kind : VarKind) → IsCircuit netlist → IsWhole netlist → var < length (network_of netlist) → slice_get (variable_kinds netlist) var ≡ Some kind → IsDrivenAs netlist var kind
-driven-as netlist var kind circuit whole within seen =
-    let few : var < variable_count netlist = omega (arith, length-network_of netlist circuit) in
-    let read : get_or (entries_of netlist) var (InputEntry 0) ≡ get_or (entries_of netlist) var (get_or (entries_of netlist) var (InputEntry 0)) =
-    default-same (entries_of netlist) var (InputEntry 0) (get_or (entries_of netlist) var (InputEntry 0)) (omega (arith, length-entries_of netlist circuit)) in
-    subst (IsDrivenAs netlist var)
-    (some-same (entry_kind (get_or (entries_of netlist) var (InputEntry 0))) kind
-    (sym (variable_kinds-entry netlist var (get_or (entries_of netlist) var (InputEntry 0)) circuit few read) ∙ seen))
-    (driven-entry netlist var (get_or (entries_of netlist) var (InputEntry 0)) circuit
-    (IsEntryAt-entries_of netlist var (InputEntry 0) circuit whole few)
-    (driver_at-entry netlist var (get_or (entries_of netlist) var (InputEntry 0)) circuit few read) within)
+driven-as netlist var kind circuit whole within seen = here kind (net-driven-as netlist var kind circuit whole within seen)
+  where
+    here : (kind : VarKind) → IsDrivenInNet netlist var kind → IsDrivenAs netlist var kind
+    here (InputKind number) is = (is.driven, is.is_input)
+    here (GateKind kind) is = (is.is_gate, is.driven, is.inside, is.takes_pins)
+    here (WireKind gate pin source) is =
+        (is.driven, let node = is.from_node in let above = is.above in omega (arith, node, above, within))
 
 -- how a node is driven, by what it is
 pub node-driven : (folding : Folding) (node : ℕ) (kind : VarKind) → CanBeFolded folding → node < length folding.net.now.names → slice_get (variable_kinds folding.net.now) node ≡ Some kind → IsDrivenAs folding.net.now node kind

@@ -3,19 +3,17 @@ use Rattle.std.proofs.Common.{◌≡◌, ◌∙◌, sym, ap, subst, refl, suc, �
 use Rattle.std.specs.Prelude.{sum_by}
 use Rattle.std.proofs.lemmas.Bool.{cases_lt}
 use Rattle.std.proofs.lemmas.Fmt.{decimal_digit}
-use Rattle.std.proofs.lemmas.List.{get_or-map, get_or_append_left, get_or-append_right, get_or_default}
+use Rattle.std.proofs.lemmas.List.{get_or-map, get_or_append_left, get_or-append_right}
 use Rattle.std.proofs.lemmas.List.Sums.{sum_by-cons}
 use Rattle.std.proofs.lemmas.Option.{same_Some, get_or_from_slice_get}
 use Rattle.hz_core.proofs.CircuitLemmas.{most_pins-bound}
 use Rattle.hz_core.specs.Netlist.{Gate, Netlist, IsCircuit, IsWhole, IsGateNumber, gate_at, variable_count, node_name}
 use Rattle.hz_net.specs.Network.{Wire, wires_of, network_of}
 use Rattle.hz_net.specs.Variables.{variable_kinds, first_wire}
-use Rattle.hz_net.specs.Entries.{entry_kind, entries_of, IsEntryAt}
-use Rattle.hz_net.specs.declared.entry.Entry.{Entry}
-use Rattle.hz_net.specs.declared.entry.Entry.TheVariants.{Input as InputEntry, Gate as GateEntry, Wire as WireEntry}
 use Rattle.hz_net.specs.declared.variable.VarKind.{VarKind}
 use Rattle.hz_net.specs.declared.variable.VarKind.TheVariants.{Input as InputKind, Gate as GateKind, Wire as WireKind}
-use Rattle.hz_net.proofs.Places.{no_gate, no_wire, pins_of, length-wires_of, length-network_of, length-entries_of, variable_kinds-entry, IsEntryAt-entries_of, wire_at-pin}
+use Rattle.hz_net.proofs.DrivenLemmas.{driven-as}
+use Rattle.hz_net.proofs.Places.{no_gate, no_wire, pins_of, length-wires_of, length-network_of, wire_at-pin}
 use Rattle.hz_net.proofs.Wires.{variable_kinds-wire}
 use Rattle.hz_text.specs.VariableWord.{wire_word, variable_word}
 use Rattle.hz_core.specs.Limits.{most_gate_pins}
@@ -117,18 +115,10 @@ pub wire_is_told :
     (length netlist.names ≤ var) × ((wire_at netlist var).gate ≡ gate) × ((wire_at netlist var).pin ≡ pin)
 wire_is_told netlist var gate pin source circuit whole there told =
     let below : var < variable_count netlist = omega (arith, there, length-network_of netlist circuit) in
-    let d : Entry = InputEntry 0 in
-    let entry = get_or (entries_of netlist) var d in
-    let same : entry ≡ get_or (entries_of netlist) var entry = get_or_default (entries_of netlist) var d entry (omega (arith, below, length-entries_of netlist circuit)) in
-    let above = by_entry entry (IsEntryAt-entries_of netlist var d circuit whole below) (same_Some _ _ (sym (variable_kinds-entry netlist var entry circuit below same) ∙ told)) in
+    let above = (driven-as netlist var (WireKind gate pin source) circuit whole there told).above in
     let wire : WireKind gate pin source ≡ WireKind (wire_at netlist var).gate (wire_at netlist var).pin (wire_at netlist var).source =
     same_Some _ _ (sym told ∙ variable_kinds-wire netlist var circuit above below) in
     (above, cc, cc)
-  where
-    by_entry : (entry : Entry) → IsEntryAt netlist var entry → entry_kind entry ≡ WireKind gate pin source → length netlist.names ≤ var
-    by_entry (InputEntry number) at e = cc
-    by_entry (GateEntry kind first pins) at e = cc
-    by_entry (WireEntry gate' pin' source') at e = at.0
 
 -- the word of a node, by its name
 pub named_word : (netlist : Netlist) (var : ℕ) (name : List ℕ) → var < length netlist.names → slice_get netlist.names var ≡ Some name → variable_word netlist var ≡ name
