@@ -24,12 +24,12 @@ use Rattle.hz_bounds.specs.declared.telling.Telling.{Telling}
 use Rattle.hz_bounds.specs.Telling.{CanBeTold, known_word, known_at, known_or, AllHave, AreStill}
 use Rattle.hz_bounds.proofs.Still.{known-or, constant-capped, still-enough}
 
-still-word : (start : Bool) (value : Tri) → IsKnown value → known_word start value None ≡ Some (constant_word start)
+pub still-word : (start : Bool) (value : Tri) → IsKnown value → known_word start value None ≡ Some (constant_word start)
 still-word start Zero known = refl
 still-word start One known = refl
 still-word start Unknown known = absurd (known refl)
 
-within-word : (cap : ℕ) (start : Bool) (value : Tri) (word : Word) → IsWithinCap cap word.changes → IsWithinCap cap (known_or (known_word start value None) word).changes
+pub within-word : (cap : ℕ) (start : Bool) (value : Tri) (word : Word) → IsWithinCap cap word.changes → IsWithinCap cap (known_or (known_word start value None) word).changes
 within-word cap start Zero word within = omega arith
 within-word cap start One word within = omega arith
 within-word cap start Unknown word within = within

@@ -4,6 +4,8 @@ pub mod Still
 pub mod Given
 -- What is known, what is told many changes, and what keeps what is known
 pub mod Known
+-- Words for all variables that are inductive
+pub mod WordsTold
 -- A gate that is pushed one way by pins that change at most once changes at most once
 pub mod OneWayFold
 -- A gate that is pushed two ways changes at least twice along some walk

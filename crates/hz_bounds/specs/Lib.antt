@@ -7,7 +7,9 @@
 -- edge_class_of start end range: what a range comes to
 -- CanBeTold telling: what words are told from, a start, an input and a cap, is right for its network
 -- AreToldSoFar telling told: words of all variables in the making
+-- WordsAreTold: every change can be told words that are inductive
 
 pub mod OneWay
 pub mod Ranges
 pub mod Telling
+pub mod Existence

@@ -5,6 +5,7 @@
 //! | `telling` | [`tell`]: words of all variables, each of which covers every run |
 //! | `driven` | the word that its driver gives a variable, and whether what it is told is enough |
 //! | `component` | the order in which words are raised |
+//! | `existence` | the law that every change can be told words |
 //! | `range` | [`range_of`] and [`edge_class`]: both bounds of a variable, and their class |
 #![tactic(auto)]
 
@@ -25,9 +26,11 @@ ghost use Rattle.hz_bounds.specs.Ranges.{IsMostChanges};
 
 mod component;
 mod driven;
+mod existence;
 mod range;
 mod telling;
 
+pub use existence::words_are_told;
 pub use range::{EdgeClass, Range, edge_class, range_of};
 pub use telling::tell;
 

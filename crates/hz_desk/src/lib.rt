@@ -28,4 +28,5 @@ pub use class::{Class, one_class};
 pub use desk::Desk;
 pub use existence::findings_exist;
 pub use finding::{Bits, Finding, Rest, Row, Rows};
+pub use passes::{Passes, Rounds};
 pub use rests::Rests;

@@ -13,11 +13,12 @@ use std::alloc::Global;
 use std::marker::Brand;
 use std::sync::ledger::{Blank, Ledger};
 
-/// The ranks and the settling rounds, and room for a pass.
+/// The ranks and the settling rounds that both passes leave of a change, and the memory that a pass takes.
 #[derive(Drop)]
-pub(crate) struct Passes {
+pub struct Passes {
+    /// The round of Algorithm A that made each variable X, 0 for one that it keeps.
     pub ranks: Vec<u32>,
-    /// In which round of Algorithm B each variable settles.
+    /// The round of Algorithm B in which each variable settles, 0 for one that was not X or stays X.
     pub when: Vec<u32>,
     pub work: Vec<Tri>,
     pub front: Front,
@@ -25,14 +26,16 @@ pub(crate) struct Passes {
 
 /// The rounds of Algorithms A and B.
 #[derive(Clone, Copy)]
-pub(crate) struct Rounds {
+pub struct Rounds {
+    /// Those of Algorithm A, the last one included, which changes nothing.
     pub a: u32,
+    /// Those of Algorithm B, the last one included.
     pub b: u32,
 }
 
 impl Passes {
-    // Room for the passes over a network.
-    pub(crate) fn new(alloc: Global, net: &Net) -> Result<Passes, Memory>
+    /// Memory for the passes over a network.
+    pub fn new(alloc: Global, net: &Net) -> Result<Passes, Memory>
         ensures { IfOk result (HavePassRoom net.now) }
     {
         let variables = net.len() as usize;
@@ -44,8 +47,9 @@ impl Passes {
         })
     }
 
-    // Runs both passes of a change, and writes their results.
-    pub(crate) fn make(&mut self, change: &Change, a: &mut [Tri], b: &mut [Tri]) -> Rounds
+    /// Runs both passes of a change from a start that is stable under its own inputs, and writes their results into `a` and `b`. It takes no
+    /// memory.
+    pub fn make(&mut self, change: &Change, a: &mut [Tri], b: &mut [Tri]) -> Rounds
         requires start { IsStableStart change.now.net.now change.now.start.now }
         requires input { IsInput change.now.net.now change.now.input.now }
         requires room { HavePassRoom change.now.net.now self.old }

@@ -70,9 +70,9 @@ pub fn write_stopped<K: Sink>(
     write_stop(writer, net, var);
 }
 
-// Gives what a change assigns.
+/// Gives what a change assigns, in the order of the script. Changes are counted from 1.
 #[tactic(auto, using(hz_write::proofs::Writers::writes_then), unfolding(crate::specs::Report::change_line, hz_text::specs::Printed::statement_text))]
-fn write_assigned<K: Sink>(
+pub fn write_assigned<K: Sink>(
     writer: &mut Writer<'_, K>,
     net: &Net,
     number: u32,

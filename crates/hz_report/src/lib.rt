@@ -20,7 +20,8 @@ mod plate;
 mod rows;
 mod summary;
 
-pub use change::{write_change, write_stopped};
+pub use change::{write_assigned, write_change, write_stopped};
 pub use head::write_head;
 pub use plate::Plate;
+pub use rows::shown_count;
 pub use summary::write_summary;

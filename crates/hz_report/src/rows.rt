@@ -221,8 +221,8 @@ fn bytes_between(text: &[u8], begin: usize, end: usize) -> &[u8]
     &text[begin..end]
 }
 
-// How many variables are shown. The nodes come first.
-fn shown_count(net: &Net, show: Show) -> u32
+/// How many variables are shown. The nodes come first.
+pub fn shown_count(net: &Net, show: Show) -> u32
     ensures shown { result ≡ shown_count net.now show }
     ensures circuit { IsCircuit net.now }
 {

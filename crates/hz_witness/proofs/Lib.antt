@@ -6,3 +6,5 @@ pub mod Tried
 pub mod Counted
 -- What was tried is a witness, if it shows the nodes and has settled
 pub mod Shown
+-- Every change has a witness
+pub mod WitnessExists

@@ -6,5 +6,7 @@
 -- AreSettled net input b state: what must settle has settled
 -- ShowsNodes net a steps: the same of a run
 -- IsWitness net input start a b steps counts: one run that shows the change of each node that can change, and settles
+-- WitnessesExist: every change has one
 
 pub mod Witness
+pub mod Existence

@@ -10,6 +10,7 @@
 //! | `plan` | the plan of a run in which as many gates as possible are turned back |
 //! | `moving` | what moves in a change, and what turns a gate |
 //! | `components` | [`components_of`]: the cycles of what moves, in an order in which each comes after what it reads |
+//! | `existence` | the law that every change has a witness |
 //! | `tables` | numbers that are read and set without a fault |
 #![tactic(auto)]
 
@@ -17,10 +18,12 @@ mod attempt;
 mod check;
 mod components;
 mod counting;
+mod existence;
 mod moving;
 mod plan;
 mod tables;
 mod witness;
 
 pub use components::components_of;
+pub use existence::witnesses_exist;
 pub use witness::witness_run;

@@ -196,6 +196,16 @@ impl<'k, K: Sink> Writer<'k, K> {
         self.fault.is_some()
     }
 
+    /// Gives up: nothing more is put, as after a put for which memory was too short. So a caller says that its own work ran out of memory.
+    pub fn give_up(&mut self)
+        ensures gave { Writes K.output K.faults [] self.old self.new }
+        ensures failed { has_failed self.new ≡ true }
+    {
+        if self.fault.is_none() {
+            self.fault = Some(PutFault::Memory);
+        }
+    }
+
     /// Puts what waits, and returns the first fault.
     pub fn finish(self) -> Result<(), PutFault>
         ensures { Finishes K.output K.faults self.entry self.exit.0.now result }
