@@ -118,7 +118,10 @@ pub(crate) fn known(telling: &Telling, var: u32) -> Option<Word>
     match (telling.words[place].get(), telling.a[place]) {
         (Some(word), _) => Some(word),
         (None, Tri::Unknown) => None,
-        (None, Tri::Zero | Tri::One) => Some(Word::constant(telling.start[place])),
+        (None, Tri::Zero | Tri::One) => Some(Word {
+            first: telling.start[place],
+            changes: Count::Exact(0),
+        }),
     }
 }
 

@@ -15,7 +15,7 @@ use hz_pass::Front;
 use hz_reach::{Change, Scratch};
 use hz_samples::{HOLDING, LATCH, MULTIPLEXER, letter_of, net_of, runs_of};
 use hz_witness::witness_run;
-use hz_word::Word;
+use hz_word::{Count, Word};
 use std::alloc::Global;
 use std::marker::Brand;
 use std::sync::ledger::Blank;
@@ -81,7 +81,11 @@ fn bounds(alloc: Global, change: &Change, results: &Results) -> Result<String, F
     let mut counts = vec![in alloc; 0u32; variables]?;
     witness_run(alloc, change, results, &mut scratch, &mut run, &mut counts)?;
     let free = Free::build(alloc, change.net)?;
-    let mut told = vec![in alloc; Word::constant(false); variables]?;
+    let at_rest = Word {
+        first: false,
+        changes: Count::Exact(0),
+    };
+    let mut told = vec![in alloc; at_rest; variables]?;
     tell(
         alloc,
         change.net,
