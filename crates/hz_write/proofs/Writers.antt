@@ -7,10 +7,11 @@ use Rattle.std.proofs.lemmas.List.FromFn.{map-range_with_len_more}
 use Rattle.std.proofs.lemmas.Option.{same_Some, get_or_from_slice_get, slice_get_within}
 use Rattle.hz_outside.specs.WrittenText.{extended_text, Output, settled, Took}
 use Rattle.hz_outside.specs.declared.fault.PutFault.{PutFault}
+use Rattle.hz_outside.specs.declared.fault.PutFault.TheVariants.{Memory}
 use Rattle.hz_write.specs.declared.writer.Writer.{Writer}
 use Rattle.hz_write.specs.Writes.{Puts, Stops, Wrote, IsBuffered}
 use Rattle.hz_write.specs.Writer.{Given, Begins, Writes, Finishes}
-use Rattle.hz_write.proofs.Writing.{IsBuffered-start, IsBuffered-append, Puts-waiting, Stops-longer, Stops-waiting, Wrote-ended}
+use Rattle.hz_write.proofs.Writing.{IsBuffered-start, IsBuffered-append, Puts-waiting, Stops-before, Stops-longer, Stops-waiting, Wrote-ended}
 
 -- one number more of a range from 0
 pub flat_map_of_range : (text_of : ℕ → List ℕ) (n : ℕ) → flat_map text_of (range_with_len 0 (n + 1)) ≡ flat_map text_of (range_with_len 0 n) ++ text_of n
@@ -133,6 +134,11 @@ module _ {S : Type 0} {output : S → Output} {faults : S → ℕ} where
     sink = sink;
     gave = λ start before given. rw now (Stops-waiting text (rw (no_fault a.fault was) at given) stops);
   }
+
+  -- memory ran out elsewhere: what waits is not put
+  pub writes_given_up : {a b : Writer S} → b.out.ghost_name ≡ a.out.ghost_name → b.out.now ≡ a.out.now → is_some a.fault ≡ false → b.fault ≡ Some Memory
+      → Writes output faults [] a b
+  writes_given_up {a} sink out was now = writes_stopped [] sink was now (rw out (Stops-before (a.line ++ []) a.out.now))
 
 -- the answers of writers: here all is explicit, since an answer computes
 module _ {S : Type 0} (output : S → Output) (faults : S → ℕ) where

@@ -13,6 +13,15 @@ module _ {S : Type 0} {output : S → Output} {faults : S → ℕ} where
   pub Puts-nil : (out : S) → Puts output faults [] out out
   Puts-nil out = record { grew = Took-nothing (output out); quiet = refl }
 
+  -- memory ran out before anything was put
+  pub Stops-before : (text : List ℕ) (out : S) → Stops output faults Memory text out out
+  Stops-before text out = record {
+    front = TookPrefix-longer text (Took-prefix (Took-nothing (output out)));
+    cause = λ e. absurd (cc);
+    quiet = λ other. refl;
+    never_fell = omega arith;
+  }
+
   -- a text after a text
   pub Puts-append : {xs ys : List ℕ} {a b c : S} → Puts output faults xs a b → Puts output faults ys b c → Puts output faults (xs ++ ys) a c
   Puts-append p q = record { grew = Took-append p.grew q.grew; quiet = q.quiet ∙ p.quiet }

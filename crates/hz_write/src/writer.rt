@@ -1,5 +1,5 @@
 //! A writer of lines, which keeps its first fault.
-ghost use Rattle.std.specs.Prelude.{◌≡◌, [], ◌++◌, map, decimal};
+ghost use Rattle.std.specs.Prelude.{true, ◌≡◌, [], ◌++◌, map, decimal};
 ghost use Rattle.std.specs.List.{flat_map};
 ghost use Rattle.hz_write.specs.Pieces.{piece_text};
 ghost use Rattle.hz_write.specs.Writer.{Begins, Writes, NoneWaits, Finishes, has_failed};
@@ -201,9 +201,10 @@ impl<'k, K: Sink> Writer<'k, K> {
         ensures gave { Writes K.output K.faults [] self.old self.new }
         ensures failed { has_failed self.new ≡ true }
     {
-        if self.fault.is_none() {
-            self.fault = Some(PutFault::Memory);
+        if self.fault.is_some() {
+            return;
         }
+        self.fault = Some(PutFault::Memory);
     }
 
     /// Puts what waits, and returns the first fault.
