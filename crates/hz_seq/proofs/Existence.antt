@@ -57,7 +57,7 @@ module _ (netlist : Netlist) (cap : ℕ) (circuit : IsCircuit netlist) (has : Ha
         | inr first ↦ (Found found.0 ∷ all_stopped first.0 changes, (found.1, inr (first.0, first.1, refl)))
       ]
 
-  later-exist : (later : List (List (ℕ × Bool))) (start : List Bool) (stopped : Option ℕ) → (stopped ≡ None → IsStableStart netlist start) → (more : List Analysis) × AreLaterAnalyses netlist cap start stopped later more
+  pub later-exist : (later : List (List (ℕ × Bool))) (start : List Bool) (stopped : Option ℕ) → (stopped ≡ None → IsStableStart netlist start) → (more : List Analysis) × AreLaterAnalyses netlist cap start stopped later more
   later-exist later start None stable = exists-analyses later start (stable refl)
   later-exist later start (Some var) stable = (all_stopped var later, refl)
 
