@@ -38,13 +38,15 @@ bound_text least (Some most) =
 abbrev pub range_word : Range → List ℕ
 range_word range = decimal range.least ++ bound_text range.least range.most
 
--- what stands after the variable in its line: its value at the start, that of Algorithm B, its range and its class
+-- the values of a variable: at the start, and that of Algorithm B
+abbrev pub values_text : Bool → Tri → List ℕ
+values_text start end =
+    codes " start " ++ (letter_of start ∷ []) ++ codes " end " ++ tri_letter end ++ codes " edges "
+
+-- what stands after the variable in its line: its values, its range and its class
 abbrev pub edge_row_text : Bool → Tri → Range → List ℕ
 edge_row_text start end range =
-    codes " start " ++ (letter_of start ∷ [])
-    ++ codes " end " ++ tri_letter end
-    ++ codes " edges " ++ range_word range
-    ++ 32 ∷ edge_class_word (edge_class_of start end range)
+    values_text start end ++ range_word range ++ 32 ∷ edge_class_word (edge_class_of start end range)
 
 -- a variable and what is found of its edges
 unfoldable pub edge_line : Netlist → ℕ → Bool → Tri → Range → List ℕ

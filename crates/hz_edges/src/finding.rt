@@ -6,14 +6,19 @@ ghost use Rattle.hz_net.specs.Starts.{IsStableStart};
 ghost use Rattle.hz_word.specs.Capped.{greatest_cap};
 ghost use Rattle.hz_free.specs.FreePart.{IsFreePart};
 ghost use Rattle.hz_desk.specs.Finding.{finding_of, values_a, values_b};
+ghost use Rattle.hz_core.specs.Netlist.{IsCircuit};
+ghost use Rattle.hz_cycle.specs.Cycles.{AreResultsOfBoth};
+ghost use Rattle.hz_free.specs.Inductive.{AreFreeWords, IsInductive};
+ghost use Rattle.hz_bounds.specs.Telling.{AreStill};
+ghost use Rattle.hz_witness.specs.Witness.{IsWitness};
 ghost use Rattle.hz_edges.specs.Edges.{AreRightEdges, begin_of, range_at};
 ghost use Rattle.hz_edges.specs.Room.{edges_of, IsEdgeRoom};
 
-use hz_bounds::{Range, met_bounds_are_exact, range_of, tell};
+use hz_bounds::{Range, range_of, tell};
 use hz_core::{Memory, Tri};
 use hz_cycle::Results;
 use hz_desk::{Finding, Passes};
-use hz_free::{Free, inductive_covers};
+use hz_free::Free;
 use hz_gmw::Run;
 use hz_net::Net;
 use hz_reach::{Change, Scratch};
@@ -94,8 +99,6 @@ impl EdgeRoom {
         ensures room { IsEdgeRoom net.now self.new }
     {
         net.keeps_shape();
-        inductive_covers();
-        met_bounds_are_exact();
         let change = Change {
             net,
             start: finding.rows.starts(),
@@ -113,7 +116,26 @@ impl EdgeRoom {
         change: &Change,
         free: &Free,
         cap: u64,
-    ) -> Result<(), Memory> {
+    ) -> Result<(), Memory>
+        requires circuit { IsCircuit change.now.net.now }
+        requires room { IsEdgeRoom change.now.net.now self.old }
+        requires free { IsFreePart change.now.net.now free.now }
+        requires results { AreResultsOfBoth change.now.net.now change.now.start.now
+            change.now.input.now self.old.a.items self.old.passes.ranks.items self.old.b.items
+            self.old.passes.when.items }
+        requires cap_low { 1 ≤ cap }
+        requires cap_high { cap ≤ greatest_cap }
+        ensures inductive { OnOk result (IsInductive (network_of change.now.net.now)
+            change.now.input.now change.now.start.now cap self.new.told.items) }
+        ensures free { OnOk result (AreFreeWords (network_of change.now.net.now)
+            change.now.input.now change.now.start.now cap self.new.told.items) }
+        ensures still { OnOk result (AreStill (network_of change.now.net.now) change.now.start.now
+            self.old.a.items self.new.told.items) }
+        ensures witness { OnOk result (IsWitness (network_of change.now.net.now)
+            change.now.input.now change.now.start.now self.old.a.items self.old.b.items
+            self.new.run.steps self.new.counts.items) }
+        ensures room { IsEdgeRoom change.now.net.now self.new }
+    {
         tell(
             alloc,
             change.net,

@@ -1,16 +1,14 @@
 //! The lines of one change.
-ghost use Rattle.std.specs.Prelude.{◌≡◌, ◌<◌, ◌∷◌, ◌++◌, length, codes, decimal, All};
-ghost use Rattle.std.specs.List.{slice_get};
+ghost use Rattle.std.specs.Prelude.{◌≡◌, ◌<◌, [], ◌∷◌, length, All};
 ghost use Rattle.hz_net.specs.Network.{AreByVariable, IsInput, IsVariable};
 ghost use Rattle.hz_core.specs.Letters.{tri_letter};
 ghost use Rattle.hz_text.specs.Printed.{letter_of};
 ghost use Rattle.hz_run_text.specs.RunPrinted.{run_text_printed};
 ghost use Rattle.hz_write.specs.Writer.{Writes, NoneWaits};
-ghost use Rattle.hz_desk.specs.declared.finding.Row.{Row};
 ghost use Rattle.hz_desk.specs.Finding.{finding_of};
 ghost use Rattle.hz_report.specs.Report.{shown_rows};
-ghost use Rattle.hz_edges.specs.EdgeText.{bound_text, edge_class_word, edge_line, edge_lines, edges_text, range_word, run_of_edges};
-ghost use Rattle.hz_edges.specs.Room.{edges_of, IsEdgeRoom, range_in};
+ghost use Rattle.hz_edges.specs.EdgeText.{bound_text, edge_class_word, edge_line, edge_lines, edges_text, range_word, run_of_edges, values_text};
+ghost use Rattle.hz_edges.specs.Room.{edges_of, IsEdgeRoom};
 
 use crate::finding::EdgeRoom;
 use hz_bounds::{EdgeClass, Range, edge_class, range_of};
@@ -95,24 +93,38 @@ fn write_line<K: Sink>(writer: &mut Writer<'_, K>, net: &Net, var: u32, row: Row
     ensures none_waits { NoneWaits writer.new }
 {
     write_variable(writer, net, var);
-    writer.text(values_text(row.start, row.b));
+    write_values(writer, row.start, row.b);
     write_range(writer, range);
-    writer.text(spaced_class(edge_class(row.start, row.b, range)));
+    write_class(writer, edge_class(row.start, row.b, range));
     writer.end();
 }
 
-// What stands between a variable and its range: its value at the start, and that of Algorithm B.
-fn values_text(start: bool, end: Tri) -> &'static [u8]
-    ensures { result.now
-        ≡ codes " start " ++ letter_of start ∷ codes " end " ++ tri_letter end ++ codes " edges " }
+// Gives what stands between a variable and its range: its value at the start, and that of Algorithm B.
+fn write_values<K: Sink>(writer: &mut Writer<'_, K>, start: bool, end: Tri)
+    ensures { Writes K.output K.faults (values_text start end) writer.old writer.new }
 {
-    match (start, end) {
-        (false, Tri::Zero) => b" start 0 end 0 edges ",
-        (false, Tri::One) => b" start 0 end 1 edges ",
-        (false, Tri::Unknown) => b" start 0 end X edges ",
-        (true, Tri::Zero) => b" start 1 end 0 edges ",
-        (true, Tri::One) => b" start 1 end 1 edges ",
-        (true, Tri::Unknown) => b" start 1 end X edges ",
+    writer.text(b" start ");
+    writer.text(bit_word(start));
+    writer.text(b" end ");
+    writer.text(tri_word(end));
+    writer.text(b" edges ");
+}
+
+// The letter of a bit.
+fn bit_word(bit: bool) -> &'static [u8]
+    ensures { result.now ≡ letter_of bit ∷ [] }
+{
+    if bit { b"1" } else { b"0" }
+}
+
+// The letter of a ternary value.
+fn tri_word(value: Tri) -> &'static [u8]
+    ensures { result.now ≡ tri_letter value }
+{
+    match value {
+        Tri::Zero => b"0",
+        Tri::One => b"1",
+        Tri::Unknown => b"X",
     }
 }
 
@@ -138,18 +150,26 @@ fn write_bound<K: Sink>(writer: &mut Writer<'_, K>, range: Range)
     }
 }
 
-// The word of a class, after a space.
-fn spaced_class(class: EdgeClass) -> &'static [u8]
-    ensures { result.now ≡ 32 ∷ edge_class_word class }
+// Gives a class, after a space.
+fn write_class<K: Sink>(writer: &mut Writer<'_, K>, class: EdgeClass)
+    ensures { Writes K.output K.faults (32 ∷ edge_class_word class) writer.old writer.new }
+{
+    writer.text(b" ");
+    writer.text(class_word(class));
+}
+
+// The word of a class.
+fn class_word(class: EdgeClass) -> &'static [u8]
+    ensures { result.now ≡ edge_class_word class }
 {
     match class {
-        EdgeClass::Steady => b" steady",
-        EdgeClass::Single => b" single",
-        EdgeClass::Static => b" static",
-        EdgeClass::MaybeStatic => b" maybe-static",
-        EdgeClass::Dynamic => b" dynamic",
-        EdgeClass::MaybeDynamic => b" maybe-dynamic",
-        EdgeClass::Unsettled => b" unsettled",
+        EdgeClass::Steady => b"steady",
+        EdgeClass::Single => b"single",
+        EdgeClass::Static => b"static",
+        EdgeClass::MaybeStatic => b"maybe-static",
+        EdgeClass::Dynamic => b"dynamic",
+        EdgeClass::MaybeDynamic => b"maybe-dynamic",
+        EdgeClass::Unsettled => b"unsettled",
     }
 }
 

@@ -1,5 +1,5 @@
 //! The report of a script's changes from its start.
-ghost use Rattle.std.specs.Prelude.{◌≡◌, ◌×◌, ◌<◌, ℕ, Bool, List, None, All, IfSome};
+ghost use Rattle.std.specs.Prelude.{◌≡◌, ◌<◌, ℕ, Bool, List, None, map, All, IfSome};
 ghost use Rattle.hz_core.specs.Netlist.{IsCircuit};
 ghost use Rattle.hz_net.specs.Network.{IsVariable};
 ghost use Rattle.hz_net.specs.Starts.{IsStableStart};
@@ -9,7 +9,10 @@ ghost use Rattle.hz_write.specs.Writes.{Wrote};
 ghost use Rattle.hz_options.specs.Numbers.{IsCap};
 ghost use Rattle.hz_refusal.specs.Ends.{Ends};
 ghost use Rattle.hz_seq.specs.Analyses.{AreAnalyses, GoesOn};
-ghost use Rattle.hz_edges.specs.EdgeReports.{EdgeAnalysis, IsEdgeReport, IsRightAnalysis, ReportsEdges, analysis_of, edge_analyses_text, edge_analysis_text};
+ghost use Rattle.hz_edges.specs.EdgeReports.{EdgeAnalysis, Found, IsEdgeReport, IsRightAnalysis, ReportsEdges, analysis_of, edge_analyses_text, edge_analysis_text};
+ghost use Rattle.hz_edges.specs.Edges.{EdgesOf};
+ghost use Rattle.hz_edges.specs.EdgeText.{edges_text};
+ghost use Rattle.hz_seq.specs.Sequence.{IsFindingOfChange};
 ghost use Rattle.hz_edges.specs.Room.{IsEdgeRoom};
 
 use crate::existence::edges_exist;
@@ -183,7 +186,29 @@ fn write_found<K: Sink>(
     change: &[(u32, bool)],
     sequence: &Sequence<'_>,
     edges: &mut EdgeRoom,
-) {
+)
+    requires circuit { IsCircuit reporting.now.net.now }
+    requires change { All (λ pair. pair.0 < reporting.now.net.now.inputs) change.now }
+    requires cap { IsCap reporting.now.options.cap }
+    requires net { sequence.now.desk.netlist ≡ reporting.now.net.now }
+    requires found { (start : List Bool) × IsStableStart reporting.now.net.now start
+        × IsFindingOfChange reporting.now.net.now reporting.now.options.cap start change.now
+        sequence.now.desk.finding }
+    requires edges { IsEdgeRoom reporting.now.net.now edges.old }
+    ensures gave { (found : EdgesOf)
+        × IsRightAnalysis reporting.now.net.now reporting.now.options.cap
+        (Found sequence.now.desk.finding found)
+        × Writes K.output K.faults
+        (edges_text reporting.now.net.now reporting.now.options.show number change.now
+        sequence.now.desk.finding found)
+        writer.old writer.new }
+    ensures none_waits { NoneWaits writer.new }
+    ensures edges { IsEdgeRoom reporting.now.net.now edges.new }
+{
+    // The laws say that there are edges, also if memory is too short to find them, and that a printed run is read as that run.
+    reporting.net.keeps_shape();
+    edges_exist();
+    printed_runs_are_read();
     let desk = sequence.desk();
     let finding = desk.finding();
     let cap = reporting.options.cap;
