@@ -38,16 +38,23 @@ fn unknown(alloc: Global, telling: &Telling) -> Result<Vec<bool>, Memory>
     Ok(unknown)
 }
 
-// The component of a variable. A wire is in that of the gate that reads it.
+// The component of a variable. A wire is in that of the gate that reads it, or in that of its source if the gate stays.
 fn part_of(telling: &Telling, parts: &[u32], var: u32) -> u32 {
     if var >= telling.net.len() {
         return 0;
     }
-    let node = match telling.net.kind_of(var) {
-        VarKind::Wire { gate, .. } => gate,
-        VarKind::Input { .. } => var,
-        VarKind::Gate { .. } => var,
-    };
+    match telling.net.kind_of(var) {
+        VarKind::Wire { gate, source, .. } => match part_at(parts, gate) {
+            0 => part_at(parts, source),
+            part => part,
+        },
+        VarKind::Input { .. } => part_at(parts, var),
+        VarKind::Gate { .. } => part_at(parts, var),
+    }
+}
+
+// The component of a node, or 0.
+fn part_at(parts: &[u32], node: u32) -> u32 {
     match parts.get(node as usize) {
         Some(part) => *part,
         None => 0,
