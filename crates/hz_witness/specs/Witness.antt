@@ -35,6 +35,7 @@ pub record IsSettledAt (net : List Driver) (input : List Bool) (b : List Tri) (s
   pub value : IsTrue (admits (value_at b i) (bit_at state i))
   pub stable : IsKnown (value_at b i) → bit_at state i ≡ excitation net input state i
 
+-- each variable that must settle has settled
 abbrev pub AreSettled : List Driver → List Bool → List Tri → List Bool → Type 0
 AreSettled net input b state = (i : ℕ) → i < length net → IsSettledAt net input b state i
 

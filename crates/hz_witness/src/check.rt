@@ -36,6 +36,7 @@ fn is_wire(net: &Net, var: u32) -> bool
     requires { IsVariable net.now var }
     ensures { IsTrue result → IsNode (network_of net.now) var → ⊥ }
 {
+    net.keeps_shape();
     match net.kind_of(var) {
         VarKind::Wire { .. } => true,
         VarKind::Input { .. } => false,
@@ -43,7 +44,7 @@ fn is_wire(net: &Net, var: u32) -> bool
     }
 }
 
-/// Whether what must settle has settled.
+/// Whether each variable that Algorithm B makes 0 or 1 has this value and is stable.
 pub(crate) fn are_settled(net: &Net, input: &[bool], b: &[Tri], state: &[bool]) -> bool
     requires input { IsInput net.now input.now }
     requires b { AreByVariable net.now b.now }

@@ -76,7 +76,7 @@ impl Search<'_> {
         Ok(())
     }
 
-    // Looks at one wire of the last node on the way, or goes back. False where there is no way.
+    // Looks at one wire of the last node on the way, or goes back. False if the way has no node.
     fn go_on(&mut self) -> Result<bool, Memory> {
         let Some(last) = self.way.last() else {
             return Ok(false);

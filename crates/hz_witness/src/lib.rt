@@ -1,5 +1,5 @@
-//! One run of a change that serves all variables at once: what can change changes in it, what can be shown to return returns, and it
-//! ends where what must settle has settled. So it shows from below how often variables change.
+//! One run of a change that serves all variables at once: each node that can change changes in it, nodes that the plan can turn back
+//! return, and it ends where what must settle has settled. So it shows from below how often variables change.
 //!
 //! | Module | What lives in it |
 //! |---|---|

@@ -17,11 +17,13 @@ use hz_gmw::Run;
 use hz_reach::{Change, Scratch, sparing_in_order};
 use std::alloc::Global;
 
-/// One run of a change in which each node that Algorithm A makes X changes, and how often it changes each variable. What can be shown to
-/// return returns in it; if it ends at another value than it began with, it changes at least three times. In the last state what must
-/// settle has settled.
+/// One run of a change in which each node that Algorithm A makes X changes, and how often it changes each variable. In its last state each
+/// variable that Algorithm B makes 0 or 1 has this value and is stable.
 ///
-/// Gates have their turns component by component, and by rank in each. A run that so misses a node, which is not known to happen, is
+/// The plan turns as many nodes as it can back to their values at the start before they settle. Such a node changes at least twice, and
+/// at least three times if Algorithm B gives it another value than it began with. No contract promises this.
+///
+/// Gates have their turns component by component, and by rank in each. If this run misses a node, which is not known to happen, the run is
 /// made by rank alone, and at last as the settle run, which misses none.
 pub fn witness_run(
     alloc: Global,

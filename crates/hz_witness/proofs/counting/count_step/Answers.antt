@@ -21,7 +21,7 @@ loop-var-preserved c = λ i few.
     let long = c.loop-var.auto.counts in
     let same = length-set c.loop-var.counts (get_or flips place 0) c.in-Some.more in
     let before = c.loop-var.invariant i (omega (arith, few, same)) in
-    count-more c.loop-var.counts (drop (place + 1) flips) i (get_or flips place 0) c.in-Some.more (omega (arith, inside, long)) once.0 (omega (arith, c.checked_add.ensures))
+    count-more c.loop-var.counts (drop (place + 1) flips) i (get_or flips place 0) c.in-Some.more (omega (arith, inside, long)) once.0 (omega arith)
     ∙ (ap (λ (list : List ℕ). get_or c.loop-var.counts i 0 + changes_in (list ∷ []) i) (sym rest) ∙ before)
 
 pub returns : goal.returns
