@@ -29,7 +29,7 @@ counts-are net steps i few = get_or-map-range_with_len (changes_in steps) 0 (len
 module _ {netlist : Netlist} {input start : List Bool} {a : List Tri} {ranks : List ℕ} {b : List Tri} (circuit : IsCircuit netlist) (change : IsChange (network_of netlist) input start a ranks b) where
   -- the settle run that begins with a spread run
   by-spread : {when : List ℕ} {spread : List (List ℕ)} → IsStableStart netlist start → AreSettlingRounds (algorithm_b (network_of netlist) input a) a b when → IsSparingRun (network_of netlist) input start a ranks spread
-      → (steps : List (List ℕ)) (counts : List ℕ) × IsWitness (network_of netlist) input start a b steps counts
+      → (steps : List (List ℕ)) × (counts : List ℕ) × IsWitness (network_of netlist) input start a b steps counts
   by-spread {when} {spread} begins rounds sparing =
       let net = network_of netlist in
       let settled = rounds-found (rounds-may-begin change rounds sparing refl) in

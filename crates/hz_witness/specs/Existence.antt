@@ -13,5 +13,5 @@ WitnessesExist =
     (netlist : Netlist) (input start : List Bool) (a b : List Tri) → IsCircuit netlist →
     IsStableStart netlist start → IsResult (algorithm_a (network_of netlist) input start) a →
     IsResult (algorithm_b (network_of netlist) input a) b →
-    (steps : List (List ℕ)) (counts : List ℕ)
+    (steps : List (List ℕ)) × (counts : List ℕ)
     × IsWitness (network_of netlist) input start a b steps counts
