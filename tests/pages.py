@@ -82,8 +82,8 @@ def shell(text, folder, env):
 
 
 def missing(text, env):
-    """The tools that begin a line and that are not installed."""
-    words = {line.split()[0] for line in text.splitlines() if line}
+    """The tools that begin a line, or that `from-verilog` calls, and that are not installed."""
+    words = {line.split()[0] for line in text.splitlines() if line} | ({"yosys"} if "from-verilog" in text else set())
     return sorted(word for word in words if not word.startswith("./") and not shutil.which(word, path=env["PATH"]))
 
 

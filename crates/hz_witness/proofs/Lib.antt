@@ -4,7 +4,7 @@ pub mod Below
 pub mod Tried
 -- One more flip of a step that is counted, and one more step of a run
 pub mod Counted
--- What was tried is a witness, if it shows the nodes and has settled
+-- What was tried is a witness, if it shows the nodes and has settled; and what a settle run needs to be counted as one
 pub mod Shown
 -- Every change has a witness
 pub mod WitnessExists

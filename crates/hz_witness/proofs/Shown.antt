@@ -1,17 +1,15 @@
--- What was tried is a witness, if it shows the nodes and has settled; and so is a settle run whose changes are counted.
-use Rattle.std.proofs.Common.{◌≡◌, ℕ, ◌+◌, ◌<◌, ◌≤◌, Bool, List, [], ◌∷◌, ◌++◌, length, All, sym, ap, ◌∙◌, subst, arith}
+-- What was tried is a witness, if it shows the nodes and has settled; and what a settle run needs to be counted as one.
+use Rattle.std.proofs.Common.{◌≡◌, ℕ, ◌<◌, Bool, List, [], ◌∷◌, ◌++◌, length, All, sym, ap, ◌∙◌, subst, arith}
 use Rattle.std.proofs.lemmas.List.Elements.{All-nil, All-cons}
 use Rattle.hz_lists.specs.Listed.{IsRepeatFree}
 use Rattle.hz_lists.proofs.ListedLemmas.{All-each}
 use Rattle.hz_core.specs.declared.tri.Tri.{Tri}
 use Rattle.hz_core.specs.Ternary.{Refines}
 use Rattle.hz_core.proofs.Refinements.{Refines-get_or}
-use Rattle.hz_net.specs.Network.{Driver, bit_at, value_at, excitation}
-use Rattle.hz_net.specs.Passes.{IsKnown}
+use Rattle.hz_net.specs.Network.{Driver, bit_at, excitation}
 use Rattle.hz_gmw.specs.Runs.{IsRun, end_of, state_after}
 use Rattle.hz_reach.specs.Spread.{IsSparingRun, changes_in}
-use Rattle.hz_cycle.specs.Cycles.{IsSettleRun}
-use Rattle.hz_witness.specs.Witness.{AreCounts, IsTried, DoNodesChange, AreSettled, ShowsNodes, IsWitness}
+use Rattle.hz_witness.specs.Witness.{IsTried, DoNodesChange, AreSettled, ShowsNodes, IsWitness}
 use Rattle.hz_witness.proofs.Tried.{changes-append}
 
 pub tried-witness : (net : List Driver) (input start : List Bool) (a b : List Tri) (steps : List (List ℕ)) (state : List Bool) (counts : List ℕ) → length state ≡ length net → length b ≡ length net → IsTried net input start steps state counts → DoNodesChange net a counts → AreSettled net input b state → IsWitness net input start a b steps counts
@@ -48,12 +46,3 @@ settle-nodes net input start a ranks sparing made steps is same = λ i few unkno
     let sum = changes-append sparing made i in
     let whole = ap (λ (list : List (List ℕ)). changes_in list i) same in
     omega (arith, once, sum, whole)
-
-pub settle-witness : (net : List Driver) (input start : List Bool) (a b : List Tri) (steps : List (List ℕ)) (counts : List ℕ) → IsSettleRun net input start a b steps → ShowsNodes net a steps → AreCounts net steps counts → IsWitness net input start a b steps counts
-settle-witness net input start a b steps counts is nodes counted = record {
-  run = is.run;
-  nodes = nodes;
-  values = is.values;
-  stable = is.stable;
-  counted = counted;
-}

@@ -45,7 +45,10 @@ impl Moving<'_> {
 
     /// By which a node is ordered.
     pub(crate) fn key(&self, node: u32) -> (u32, u32) {
-        (number_at(self.parts, node), number_at(self.results.ranks, node))
+        (
+            number_at(self.parts, node),
+            number_at(self.results.ranks, node),
+        )
     }
 
     // Whether the source of a wire comes before its gate.

@@ -6,8 +6,8 @@
 //!
 //! Nothing is promised of a plan: whatever is tried is a run.
 
-use crate::moving::{Moving, NO_WIRE, Push};
 use crate::components::wires;
+use crate::moving::{Moving, NO_WIRE, Push};
 use crate::tables::{is_marked, number_at, set_number};
 use hz_core::{Memory, Tri};
 use std::alloc::Global;

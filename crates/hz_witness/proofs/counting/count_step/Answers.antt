@@ -1,5 +1,5 @@
 -- One variable more.
-use Rattle.std.proofs.Common.{◌∙◌, ◌+◌, ◌∷◌, ◌<◌, [], List, ℕ, length, get_or, take, drop, refl, sym, ap, subst, arith}
+use Rattle.std.proofs.Common.{◌∙◌, ◌+◌, ◌∷◌, [], List, ℕ, get_or, take, drop, refl, sym, ap, subst, arith}
 use Rattle.std.proofs.lemmas.List.{take-append-drop, drop_more, drop_all, length-set}
 use Rattle.hz_lists.specs.Listed.{IsRepeatFree}
 use Rattle.hz_lists.proofs.ListedLemmas.{is_repeat_free-right}
