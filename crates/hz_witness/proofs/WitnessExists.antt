@@ -11,13 +11,14 @@ use Rattle.hz_net.specs.Starts.{IsStableStart}
 use Rattle.hz_reach.specs.Existence.{SparingRunExists}
 use Rattle.hz_reach.specs.Spread.{IsSparingRun, changes_in}
 use Rattle.hz_reach.proofs.RanksOrderGates.{turns-of}
+use Rattle.hz_cycle.specs.Cycles.{IsSettleRun}
 use Rattle.hz_cycle.proofs.Change.{IsChange, change-fixed, fixed-and-ranked}
 use Rattle.hz_cycle.proofs.PassTurns.{pass-found}
 use Rattle.hz_cycle.proofs.RoundSteps.{rounds-found}
 use Rattle.hz_cycle.proofs.SettleRunExists.{before-pass, rounds-may-begin, pass-may-begin, settle-found}
 use Rattle.hz_witness.specs.Witness.{AreCounts, IsWitness}
 use Rattle.hz_witness.specs.Existence.{WitnessesExist}
-use Rattle.hz_witness.proofs.Shown.{settle-nodes, settle-witness}
+use Rattle.hz_witness.proofs.Shown.{settle-nodes}
 
 -- how often a run changes each variable
 abbrev counts_of : List Driver → List (List ℕ) → List ℕ
@@ -35,11 +36,17 @@ module _ {netlist : Netlist} {input start : List Bool} {a : List Tri} {ranks : L
       let settled = rounds-found (rounds-may-begin change rounds sparing refl) in
       let before = before-pass begins change rounds sparing refl (λ may. settled.1.1) in
       let last = pass-found circuit (change-fixed change) (fixed-and-ranked change).ranked (pass-may-begin before) in
-      let steps = (spread ++ settled.0) ++ last.0 in (
+      let steps = (spread ++ settled.0) ++ last.0 in
+      let settle : IsSettleRun net input start a b steps = settle-found before last.1.1 in (
         steps,
         counts_of net steps,
-        settle-witness net input start a b steps (counts_of net steps) (settle-found before last.1.1)
-            (settle-nodes net input start a ranks spread (settled.0 ++ last.0) steps sparing (append_assoc spread settled.0 last.0)) (counts-are net steps),
+        record {
+          run = settle.run;
+          nodes = settle-nodes net input start a ranks spread (settled.0 ++ last.0) steps sparing (append_assoc spread settled.0 last.0);
+          values = settle.values;
+          stable = settle.stable;
+          counted = counts-are net steps;
+        },
       )
 
 pub witnesses_exist : RanksExist → SettlingRoundsExist → SparingRunExists → WitnessesExist
