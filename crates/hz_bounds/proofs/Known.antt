@@ -1,7 +1,10 @@
 -- What is known, what is told many changes, and what keeps what is known.
-use Rattle.std.proofs.Common.{◌≡◌, ◌⊎◌, ℕ, ◌<◌, ◌≤◌, Bool, false, List, [], length, get_or, Option, Some, None, inl, inr, refl, sym, ap, ◌∙◌, subst, arith}
+use Rattle.std.proofs.Common.{◌≡◌, ◌⊎◌, ℕ, ◌+◌, ◌<◌, ◌≤◌, Bool, false, List, [], length, get_or, set, take, drop, ◌++◌, Option, Some, None, inl, inr, refl, sym, ap, ◌∙◌, subst, arith}
 use Rattle.std.specs.Prelude.{IfSome}
-use Rattle.std.proofs.lemmas.Bool.{cases_lt}
+use Rattle.std.specs.Option.{unwrap_or, is_some}
+use Rattle.std.proofs.lemmas.Bool.{cases_lt, cases_eq}
+use Rattle.std.proofs.lemmas.List.{length-set, get_or-set_same, get_or-set_other, drop_all, append-nil, take_all}
+use Rattle.std.proofs.lemmas.List.Elements.{All-set}
 use Rattle.std.proofs.lemmas.Option.{get_or_from_slice_get}
 use Rattle.hz_core.specs.declared.tri.Tri.{Tri}
 use Rattle.hz_core.specs.declared.tri.Tri.TheVariants.{Zero, One, Unknown}
@@ -21,7 +24,7 @@ use Rattle.hz_free.proofs.Enough.{is_free, many-enough}
 use Rattle.hz_free.proofs.FreeWords.{free-enough}
 use Rattle.hz_free.proofs.Laws.{begun, changing}
 use Rattle.hz_bounds.specs.declared.telling.Telling.{Telling}
-use Rattle.hz_bounds.specs.Telling.{CanBeTold, known_word, known_at, known_or, AllHave, AreStill}
+use Rattle.hz_bounds.specs.Telling.{CanBeTold, known_word, known_at, known_or, AllHave, AreStill, AreToldSoFar}
 use Rattle.hz_bounds.proofs.Still.{known-or, constant-capped, still-enough}
 
 pub still-word : (start : Bool) (value : Tri) → IsKnown value → known_word start value None ≡ Some (constant_word start)
@@ -37,6 +40,46 @@ within-word cap start Unknown word within = within
 keeps-word : (word : Option Word) (told other : Word) → told ≡ known_or word other → IfSome word (λ word. told ≡ word)
 keeps-word (Some word) told other same = same
 keeps-word None told other same = tt
+
+or-known : (word : Option Word) (other : Word) → unwrap_or word other ≡ known_or word other
+or-known (Some word) other = refl
+or-known None other = refl
+
+-- what is written over the whole of a list
+pub written-whole : {X : Type 0} (xs ys : List X) (n : ℕ) → length xs ≡ n → length ys ≡ n → take n (xs ++ drop (length xs) ys) ≡ xs
+written-whole xs ys n long old =
+    ap (λ rest. take n (xs ++ rest)) (drop_all (length xs) ys (omega arith)) ∙ ap (take n) (append-nil xs) ∙ take_all n xs (omega arith)
+
+pub not-known : (known : Option Word) (asked : Bool) → asked ≡ is_some known → asked ≡ false → known ≡ None
+not-known (Some word) asked same none = let wrong = sym same ∙ none in cc
+not-known None asked same none = refl
+
+-- one word more is filled in
+pub filled-more : (telling : Telling) (changes : Count) (told : List Word) (var : ℕ) (word : Word) (known : Option Word) → ((i : ℕ) → i < var → told_at told i ≡ known_or (known_at telling i) (record { first = bit_at telling.start.now i; changes = changes })) → var < length told → known ≡ known_at telling var → word ≡ unwrap_or known (record { first = bit_at telling.start.now var; changes = changes }) → (i : ℕ) → i < var + 1 → told_at (set told var word) i ≡ known_or (known_at telling i) (record { first = bit_at telling.start.now i; changes = changes })
+filled-more telling changes told var word known before inside is_known same i few =
+    elim (cases_eq i var) [
+      | inl here ↦
+          subst (λ (j : ℕ). told_at (set told var word) j ≡ known_or (known_at telling j) (record { first = bit_at telling.start.now j; changes = changes })) (sym here)
+          (get_or-set_same told var word (constant_word false) inside
+          ∙ (same ∙ (ap (λ (known : Option Word). unwrap_or known (record { first = bit_at telling.start.now var; changes = changes })) is_known
+          ∙ or-known (known_at telling var) (record { first = bit_at telling.start.now var; changes = changes }))))
+      | inr there ↦
+          let less : i < var = omega (arith, few, there) in
+          get_or-set_other told var i word (constant_word false) there ∙ before i less
+    ]
+
+-- a word that is not known is told anew
+pub raised : (telling : Telling) (told : List Word) (var : ℕ) (word : Word) → AreToldSoFar telling told → var < length told → IsWithinCap telling.cap word.changes → known_at telling var ≡ None → AreToldSoFar telling (set told var word)
+raised telling told var word so_far inside within none =
+    let long = length-set told var word in
+    record {
+      long = long ∙ so_far.long;
+      counted = All-set (λ word. IsWithinCap telling.cap word.changes) told var word within so_far.counted;
+      kept = λ i few. elim (cases_eq i var) [
+        | inl here ↦ subst (λ (j : ℕ). IfSome (known_at telling j) (λ word'. told_at (set told var word) j ≡ word')) (sym here) (subst (λ (known : Option Word). IfSome known (λ word'. told_at (set told var word) var ≡ word')) (sym none) tt)
+        | inr there ↦ subst (λ (other : Word). IfSome (known_at telling i) (λ word'. other ≡ word')) (sym (get_or-set_other told var i word (constant_word false) there)) (so_far.kept i (omega (arith, few, long)))
+      ];
+    }
 
 module _ (telling : Telling) (can : CanBeTold telling) where
   abbrev net : List Driver

@@ -27,6 +27,16 @@ const ECONOMY: &str = "INPUT(d)\nINPUT(g)\nsn = NAND(d, g)\nrn = NAND(sn, g)\nq 
 // A pulse of one source, which reconverges.
 const TWICE: &str = "INPUT(x)\nm = XOR(x, x)\nz = OR(m, m)\n";
 
+// The same, with a buffer on one way, which can hold back a change more.
+const TWICE_AND_LATE: &str = "INPUT(x)\nm = XOR(x, x)\nb = BUFF(m)\nz = OR(m, b)\n";
+
+// A pulse, and how it goes on along a chain, which ends where it began, and into a gate that changes itself.
+const CHAIN: &str =
+    "INPUT(x)\nn = NOT(x)\np = AND(x, n)\nq = BUFF(p)\nr = NOT(q)\nz = OR(x, p)\n";
+
+// A C element of gates: c rises when a and b are 1, falls when both are 0, and else keeps its value.
+const JOIN: &str = "INPUT(a)\nINPUT(b)\nab = AND(a, b)\nac = AND(a, c)\nbc = AND(b, c)\nc = OR(ab, ac, bc)\n";
+
 // A ring of buffers that one gate feeds, and what stands behind it.
 const FED: &str = "INPUT(x)\np = OR(x, w)\nv = BUFF(p)\nw = BUFF(v)\nz = NOT(w)\n";
 
@@ -180,6 +190,30 @@ fn edges_of_nodes(rt: HostRuntime) -> Result<(), Fail> {
             "01 1..1 single, 00 2..2 static, 00 2..4 static, ",
         ),
         (
+            TWICE_AND_LATE,
+            "runs 1\nstart x=0 m=0 b=0 z=0\ninput x=1\nend",
+            "01 1..1 single, 00 2..2 static, 00 2..2 static, 00 2..4 static, ",
+        ),
+        (
+            CHAIN,
+            "runs 1\nstart x=0 n=1 p=0 q=0 r=1 z=0\ninput x=1\nend",
+            "01 1..1 single, 10 1..1 single, 00 2..2 static, 00 2..2 static, 11 2..2 static, \
+             01 3..3 dynamic, ",
+        ),
+        // It rises and falls with the later of two inputs, and keeps its value with the earlier one.
+        (
+            JOIN,
+            "runs 1\nstart a=0 b=1 ab=0 ac=0 bc=0 c=0\ninput a=1 b=1\nend",
+            "01 1..1 single, 11 0..0 steady, 01 1..1 single, 01 1..1 single, 01 1..1 single, \
+             01 1..1 single, ",
+        ),
+        (
+            JOIN,
+            "runs 1\nstart a=1 b=1 ab=1 ac=1 bc=1 c=1\ninput a=0 b=1\nend",
+            "10 1..1 single, 11 0..0 steady, 10 1..1 single, 10 1..1 single, 11 0..0 steady, \
+             11 0..0 steady, ",
+        ),
+        (
             FED,
             "runs 1\nstart x=0 p=0 v=0 w=0 z=1\ninput x=1\nend",
             "01 1..1 single, 01 1..1 single, 01 1..1 single, 01 1..1 single, 10 1..1 single, ",
@@ -188,6 +222,40 @@ fn edges_of_nodes(rt: HostRuntime) -> Result<(), Fail> {
     for (netlist, change, text) in rows {
         let found = edges(rt.alloc(), netlist, change)?;
         assert_eq!(rt; found.as_str(), text);
+    }
+    Ok(())
+}
+
+// The class word of a range, which says how often a variable changes at most if it has a number there.
+fn class_of(start: bool, end: Tri, least: u32, most: Count) -> &'static str {
+    name_of(edge_class(start, end, range_of(most, least)))
+}
+
+#[test]
+fn classes_of_ranges(rt: HostRuntime) -> Result<(), Fail> {
+    let many = Count::Many;
+    let rows = [
+        // What never changes is steady, whatever else is known.
+        (false, Tri::Zero, 0, Count::Exact(0), "steady"),
+        (true, Tri::Unknown, 0, Count::Exact(0), "steady"),
+        // What Algorithm B leaves X may not settle, however seldom it changes.
+        (false, Tri::Unknown, 1, Count::Exact(1), "unsettled"),
+        (true, Tri::Unknown, 2, many, "unsettled"),
+        // What ends as it began is static if two changes are shown.
+        (false, Tri::Zero, 1, Count::Exact(2), "maybe-static"),
+        (true, Tri::One, 0, many, "maybe-static"),
+        (false, Tri::Zero, 2, Count::Exact(2), "static"),
+        (true, Tri::One, 5, many, "static"),
+        // What ends at another value is single if it changes once at most, and dynamic if three changes are shown.
+        (false, Tri::One, 0, Count::Exact(1), "single"),
+        (true, Tri::Zero, 1, Count::Exact(1), "single"),
+        (false, Tri::One, 1, Count::Exact(3), "maybe-dynamic"),
+        (true, Tri::Zero, 2, many, "maybe-dynamic"),
+        (false, Tri::One, 3, Count::Exact(3), "dynamic"),
+        (true, Tri::Zero, 3, many, "dynamic"),
+    ];
+    for (start, end, least, most, word) in rows {
+        assert_eq!(rt; class_of(start, end, least, most), word);
     }
     Ok(())
 }
