@@ -13,6 +13,9 @@ from calls import call, write
 
 MOST_BYTES = 16_777_216
 MEBIBYTE = 1 << 20
+# With less room for its process a job may be out of memory and not say it.
+LEAST_ROOM = 3.4 * MEBIBYTE
+OUT_OF_MEMORY = b"hazard: out of memory\n"
 DONE, TOO_LONG, SINK, MEMORY = 0, 7, 8, 9
 LATCH = "INPUT(r)\nINPUT(s)\nOUTPUT(q)\nOUTPUT(qb)\nq = NOR(r, qb)\nqb = NOR(s, q)\n"
 SCRIPT = "start r=1 s=1\nchange r=0 s=0\n"
@@ -72,10 +75,15 @@ int posix_memalign(void **place, size_t align, size_t size) {
 """
 
 
-def run(program, words, folder, out=subprocess.PIPE, **more):
-    """The status and the bytes on standard output. Signals that the system sends for a refused write are ignored, as by a shell's `trap ''`."""
+def heard(program, words, folder, out=subprocess.PIPE, **more):
+    """The status and the bytes on both outputs. Signals that the system sends for a refused write are ignored, as by a shell's `trap ''`."""
     done = call(program, words, folder, out, timeout=60, restore_signals=False, **more)
-    return done.returncode, done.stdout or b""
+    return done.returncode, done.stdout or b"", done.stderr
+
+
+def run(program, words, folder, out=subprocess.PIPE, **more):
+    """The status and the bytes on standard output."""
+    return heard(program, words, folder, out, **more)[:2]
 
 
 def jobs(program, folder):
@@ -113,8 +121,9 @@ def refused_memory(program, folder):
         yield f"{words} asks for memory", requests > 10, True
         asked_again = []
         for number in range(1, requests + 1):
-            status, text = run(program, words, folder, env={**around, "REFUSED": str(number)})
+            status, text, told = heard(program, words, folder, env={**around, "REFUSED": str(number)})
             yield f"{words} with request {number} of {requests} refused", is_front(status, text, whole) or (status, text), True
+            yield f"{words} says so of request {number} of {requests}", told, OUT_OF_MEMORY if status == MEMORY else b""
             if status != MEMORY:
                 asked_again.append(number)
                 with open(counted) as file:
@@ -126,17 +135,23 @@ def refused_memory(program, folder):
 
 
 def memory_limits(program, folder):
-    """Each job with less and less room for its process: it does not start, is out of memory, or does all of its work."""
-    for words in jobs(program, folder):
+    """Each job with more and more room for its process: it does not start, is out of memory, or does all of its work. A chain needs more room
+    than the program itself, so its job ends with status 9."""
+    write(folder, "chain.bench", "INPUT(a)\n" + "".join(f"g{k} = NOT({f'g{k - 1}' if k else 'a'})\n" for k in range(10_000)))
+    chain = ["analyse", "chain.bench", write(folder, "chain.txt", "start a=0\nchange a=1\n")]
+    for words in [*jobs(program, folder), chain]:
         whole, ends = run(program, words, folder), set()
         for room in range(2 * MEBIBYTE, 24 * MEBIBYTE, MEBIBYTE // 2):
             limit = lambda: resource.setrlimit(resource.RLIMIT_AS, (room, room))
-            status, text = run(program, words, folder, preexec_fn=limit)
+            status, text, told = heard(program, words, folder, preexec_fn=limit)
             has_started = not (text == b"" and (status == 127 or status < 0) and not ends)
             if has_started:
                 ends.add(status)
                 yield f"{words} in {room} bytes", is_front(status, text, whole) or (status, text), True
+            if has_started and room > LEAST_ROOM:
+                yield f"{words} says so in {room} bytes", told, OUT_OF_MEMORY if status == MEMORY else b""
         yield f"{words} has room in the end", whole[0] in ends, True
+    yield "a chain without room", MEMORY in ends, True
 
 
 def refused_output(program, folder):

@@ -3,7 +3,8 @@ ghost use Rattle.std.specs.Prelude.{◌≤◌, length};
 ghost use Rattle.hz_run_text.specs.RunText.{IsRunTextFor};
 ghost use Rattle.hz_vcd.specs.Dump.{variables_of};
 ghost use Rattle.hz_vcd.specs.Word.{words_of};
-ghost use Rattle.hz_replay.specs.Dumps.{last_dump, MeansLast};
+ghost use Rattle.hz_refusal.specs.Ends.{Ends};
+ghost use Rattle.hz_replay.specs.Dumps.{last_dump, MeansLast, IsLastWritten};
 ghost use Rattle.hz_replay.specs.Replaying.{AreAccepted};
 ghost use Rattle.hz_write.specs.Writer.{Writes};
 ghost use Rattle.hz_write.specs.Writes.{Wrote};
@@ -31,13 +32,7 @@ impl OnRuns for Dumps {
 
     fn with_runs<K: Sink>(&self, alloc: Global, net: &Net, runs: &RunText, out: &mut K) -> Status {
         match first_refusal(alloc, net, runs) {
-            Ok(None) => match vec![in alloc; false; net.len() as usize] {
-                Ok(mut room) => {
-                    let put = put_last(alloc, out, net, runs, room.as_mut_slice());
-                    status_after(put, Status::Done)
-                }
-                Err(_) => Status::Memory,
-            },
+            Ok(None) => dump_last(alloc, net, runs, out),
             Ok(Some(refused)) => {
                 status_after(put_no(out, net, refused.run, refused.why), Status::No)
             }
@@ -46,7 +41,20 @@ impl OnRuns for Dumps {
     }
 }
 
-// Puts the dump of the last run, or of the start alone if there is no run, with room for a bit of each variable.
+// The part of the job with runs of which none is refused: room for a bit of each variable is taken, and the dump is put.
+fn dump_last<K: Sink>(alloc: Global, net: &Net, runs: &RunText, out: &mut K) -> Status
+    requires text { IsRunTextFor net.now runs.now }
+    requires accepted { AreAccepted net.now runs.now }
+    ensures { Ends K.output K.faults (IsLastWritten net.now runs.now) out.old out.new result }
+{
+    let Ok(mut room) = vec![in alloc; false; net.len() as usize] else {
+        return Status::Memory;
+    };
+    let put = put_last(alloc, out, net, runs, room.as_mut_slice());
+    status_after(put, Status::Done)
+}
+
+// Puts the dump of the last run, or of the start alone if there is no run.
 fn put_last<K: Sink>(
     alloc: Global,
     out: &mut K,

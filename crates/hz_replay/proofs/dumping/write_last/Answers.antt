@@ -6,8 +6,8 @@ use Rattle.hz_replay.proofs.dumping.write_last.Goals as goal
 
 pub write_within-requires-clause-lead : goal.write_within-requires-clause-lead
 write_within-requires-clause-lead g c =
-    lead-flips c.args.net.now c.args.runs.now c.requires.accepted c.in-Some.last (omega arith) c.lead.result.now.steps c.lead.ensures
+    lead-flips c.args.net.now c.args.runs.now c.requires.accepted c.in-Some.last (omega arith) c.lead-lead.result.now.steps c.lead-lead.ensures
 
 pub write_within-requires-clause-cycle : goal.write_within-requires-clause-cycle
 write_within-requires-clause-cycle g c =
-    behind-flips c.args.net.now c.args.runs.now c.requires.accepted c.in-Some.last (omega arith) (option_map (λ run. run.now.steps) c.cycle.result) c.cycle.ensures
+    behind-flips c.args.net.now c.args.runs.now c.requires.accepted c.in-Some.last (omega arith) (option_map (λ run. run.now.steps) c.cycle-cycle.result) c.cycle-cycle.ensures
