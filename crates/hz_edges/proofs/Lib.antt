@@ -8,5 +8,3 @@ pub mod EdgesReplay
 pub mod EdgeLines
 -- The lines and the analyses of changes, one after the other
 pub mod ReportLines
-pub mod Writable
-pub mod SequenceSteps
