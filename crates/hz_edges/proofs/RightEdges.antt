@@ -22,9 +22,9 @@ module _ (netlist : Netlist) (cap : ℕ) (finding : FindingOf) (edges : EdgesOf)
   net = network_of netlist
 
   bounded : (i : ℕ) → i < length net → (count : Count) → (told_at edges.told i).changes ≡ count → IfSome (bound_of count) (ChangesAtMost net finding.input (begin_of finding) i)
-  bounded i few (Exact most) same = λ steps run.
-  subst (λ (count : Count). Bounds count (variable_history (begin_of finding) steps i)) same
-  (inductive-covers netlist circuit whole finding.input (begin_of finding) begins cap edges.told inductive steps run i few).bounded
+  bounded i few (Exact most) same =
+      λ steps run. subst (λ (count : Count). Bounds count (variable_history (begin_of finding) steps i)) same
+      (inductive-covers netlist circuit whole finding.input (begin_of finding) begins cap edges.told inductive steps run i few).bounded
   bounded i few Many same = tt
 
   met : (i : ℕ) → i < length net → (count : Count) → (told_at edges.told i).changes ≡ count → bound_of count ≡ Some (get_or edges.counts i 0) → IsMostChanges net finding.input (begin_of finding) i (get_or edges.counts i 0)

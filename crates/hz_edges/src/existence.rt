@@ -5,7 +5,6 @@ use hz_bounds::words_are_told;
 use hz_witness::witnesses_exist;
 
 /// Beside every right finding there are right edges. So the report of changes is known to be there before it is made.
-#[tactic(auto, using(crate::proofs::EdgesThere::edges_exist))]
 pub fn edges_exist()
     ensures { EdgesExist }
 {
