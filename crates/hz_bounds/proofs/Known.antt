@@ -1,5 +1,5 @@
 -- What is known, what is told many changes, and what keeps what is known.
-use Rattle.std.proofs.Common.{◌≡◌, ◌⊎◌, ℕ, ◌+◌, ◌<◌, ◌≤◌, Bool, false, List, [], length, get_or, set, take, drop, ◌++◌, Option, Some, None, inl, inr, refl, sym, ap, ◌∙◌, subst, arith}
+use Rattle.std.proofs.Common.{◌≡◌, ℕ, ◌+◌, ◌<◌, Bool, false, List, [], length, get_or, set, take, drop, ◌++◌, Option, Some, None, inl, inr, refl, sym, ap, ◌∙◌, subst, arith}
 use Rattle.std.specs.Prelude.{IfSome}
 use Rattle.std.specs.Option.{unwrap_or, is_some}
 use Rattle.std.proofs.lemmas.Bool.{cases_lt, cases_eq}
@@ -9,9 +9,9 @@ use Rattle.std.proofs.lemmas.Option.{get_or_from_slice_get}
 use Rattle.hz_core.specs.declared.tri.Tri.{Tri}
 use Rattle.hz_core.specs.declared.tri.Tri.TheVariants.{Zero, One, Unknown}
 use Rattle.hz_net.specs.Network.{Driver, network_of, bit_at, value_at}
-use Rattle.hz_net.specs.Passes.{IsKnown, IsUnknown}
+use Rattle.hz_net.specs.Passes.{IsKnown}
 use Rattle.hz_word.specs.declared.count.Count.{Count}
-use Rattle.hz_word.specs.declared.count.Count.TheVariants.{Exact, Many}
+use Rattle.hz_word.specs.declared.count.Count.TheVariants.{Many}
 use Rattle.hz_word.specs.declared.word.Word.{Word}
 use Rattle.hz_word.specs.Word.{change_count}
 use Rattle.hz_word.specs.Capped.{capped_word, IsWithinCap}

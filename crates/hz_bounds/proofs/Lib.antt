@@ -12,3 +12,13 @@ pub mod OneWayFold
 pub mod TwoWayFold
 -- Where what is told and what the witness shows meet, the number is exact
 pub mod Meeting
+-- A gate whose word has two changes or more is turned by pins that went, and turned back by more, or by one that returns
+pub mod TurnedBack
+-- Places in a list, rows on the way, one step of a run or none, and how often a run changes a value at least
+pub mod Steps
+-- A feedback-free node whose word has two changes or more comes back in some run
+pub mod FreeRun
+-- There is an order of the feedback-free variables
+pub mod OrderExists
+-- Without feedback a word of two changes or more is shown by a run
+pub mod ShownWords

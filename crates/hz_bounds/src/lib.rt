@@ -9,17 +9,22 @@
 //! | `range` | [`range_of`] and [`edge_class`]: both bounds of a variable, and their class |
 #![tactic(auto)]
 
-ghost use Rattle.std.specs.Prelude.{◌≡◌, ℕ, ◌≤◌, Bool, List, length, IsTrue, slice_index_or};
+ghost use Rattle.std.specs.Prelude.{◌≡◌, ℕ, ◌≤◌, Bool, List, [], length, IsTrue, slice_index_or};
 ghost use Rattle.hz_core.specs.declared.kind.Kind.{Kind};
 ghost use Rattle.hz_core.specs.declared.tri.Tri.{Tri};
 ghost use Rattle.hz_core.specs.Gate.{takes};
 ghost use Rattle.hz_core.specs.Netlist.{Netlist, IsCircuit, IsWhole};
 ghost use Rattle.hz_net.specs.Network.{network_of, IsVariable};
+ghost use Rattle.hz_net.specs.Reads.{IsNode};
 ghost use Rattle.hz_net.specs.Starts.{IsStableStart};
+ghost use Rattle.hz_gmw.specs.Runs.{IsRun};
 ghost use Rattle.hz_word.specs.declared.word.Word.{Word};
+ghost use Rattle.hz_word.specs.Word.{change_count};
 ghost use Rattle.hz_word.specs.declared.count.Count.TheVariants.{Exact};
 ghost use Rattle.hz_word.specs.Capped.{IsAtMost, IsFold};
+ghost use Rattle.hz_free.specs.Chains.{IsFeedbackFree};
 ghost use Rattle.hz_free.specs.Inductive.{IsInductive, told_at};
+ghost use Rattle.hz_free.specs.VariableWords.{AreVariableWords, variable_history};
 ghost use Rattle.hz_witness.specs.Witness.{IsWitness};
 ghost use Rattle.hz_bounds.specs.OneWay.{AreAtMostOnce, IsOneWay, IsTwoWay, first_letters, last_letters};
 ghost use Rattle.hz_bounds.specs.Ranges.{IsMostChanges};
@@ -59,4 +64,16 @@ pub fn two_ways_fold_twice()
         IsTrue (takes kind (length pins)) → AreAtMostOnce pins →
         IsTwoWay kind (first_letters pins) (last_letters pins) → IsFold kind pins cap outcome →
         IsAtMost (Exact 2) outcome.changes }
+{}
+
+/// The word of a feedback-free node with two changes or more is shown: in some run the node changes twice or more. So a feedback-free node
+/// changes at most once in every run exactly if its word does.
+pub fn free_words_are_shown()
+    ensures { (netlist : Netlist) (input start : List Bool) (words : List (List Bool)) (i : ℕ) →
+        IsCircuit netlist → IsWhole netlist → IsStableStart netlist start →
+        AreVariableWords (network_of netlist) input start words → IsVariable netlist i →
+        IsNode (network_of netlist) i → IsFeedbackFree (network_of netlist) i →
+        2 ≤ change_count (slice_index_or words i []) →
+        (steps : List (List ℕ)) × IsRun (network_of netlist) input start steps
+        × (2 ≤ change_count (variable_history start steps i)) }
 {}

@@ -1,5 +1,5 @@
 -- What words are told from, with the words that were written for it.
-use Rattle.std.proofs.Common.{◌≡◌, ◌∙◌, Option, None, List, length, replicate, ap, sym, subst, arith, rules}
+use Rattle.std.proofs.Common.{◌≡◌, ◌∙◌, Option, None, length, replicate, ap, sym, subst, arith, rules}
 use Rattle.std.proofs.lemmas.List.{length-replicate}
 use Rattle.hz_net.specs.Network.{network_of}
 use Rattle.hz_word.specs.declared.word.Word.{Word}
