@@ -49,7 +49,7 @@ stopped-edges netlist cap var (change ∷ changes) =
 
 module _ (exist : EdgesExist) (read : PrintedRunsAreRead) (netlist : Netlist) (cap : ℕ) (circuit : IsCircuit netlist) (whole : IsWhole netlist) (low : 1 ≤ cap) (high : cap ≤ greatest_cap) where
   -- beside a right finding there is what is right of its edges
-  found-edges : (start : List Bool) (change : List (ℕ × Bool)) (finding : FindingOf) → IsStableStart netlist start → IsFindingOfChange netlist cap start change finding → (edges : EdgesOf) × IsRightAnalysis netlist cap (Found finding edges)
+  pub found-edges : (start : List Bool) (change : List (ℕ × Bool)) (finding : FindingOf) → IsStableStart netlist start → IsFindingOfChange netlist cap start change finding → (edges : EdgesOf) × IsRightAnalysis netlist cap (Found finding edges)
   found-edges start change finding begins right =
       let found = exist netlist (changed_input (take netlist.inputs start) change) start cap finding circuit whole begins low high right in
       let stable : IsStableStart netlist (begin_of finding) = subst (IsStableStart netlist) (sym right.starts) begins in

@@ -1,6 +1,8 @@
 -- Words that are inductive and a witness are right edges.
-use Rattle.std.proofs.Common.{◌≡◌, ℕ, ◌<◌, Bool, List, length, get_or, Some, IfSome, refl, sym, ap, ◌∙◌, subst, arith}
+use Rattle.std.proofs.Common.{◌≡◌, ℕ, ◌<◌, Bool, List, length, get_or, Some, IfSome, Result, Ok, Err, OnOk, refl, sym, ap, ◌∙◌, subst, arith}
 use Rattle.std.proofs.lemmas.Option.{same_Some}
+use Rattle.hz_core.specs.declared.memory.Memory.{Memory}
+use Rattle.hz_core.specs.declared.tri.Tri.{Tri}
 use Rattle.hz_core.specs.Netlist.{Netlist, IsCircuit, IsWhole}
 use Rattle.hz_net.specs.Network.{Driver, network_of}
 use Rattle.hz_net.specs.Starts.{IsStableStart}
@@ -42,3 +44,16 @@ module _ (netlist : Netlist) (cap : ℕ) (finding : FindingOf) (edges : EdgesOf)
     free = free;
     still = still;
   }
+
+-- the same by other names
+pub right-found : (netlist : Netlist) (cap : ℕ) (finding : FindingOf) (edges : EdgesOf) (input start : List Bool) (a b : List Tri) → IsCircuit netlist → IsWhole netlist → IsStableStart netlist (begin_of finding) →
+    start ≡ begin_of finding → input ≡ finding.input → a ≡ values_a finding.rows → b ≡ values_b finding.rows → IsInductive (network_of netlist) input start cap edges.told →
+    AreFreeWords (network_of netlist) input start cap edges.told → AreStill (network_of netlist) start a edges.told → IsWitness (network_of netlist) input start a b edges.steps edges.counts →
+    AreRightEdges (network_of netlist) cap finding edges
+right-found netlist cap finding edges input start a b circuit whole stable starts inputs same_a same_b inductive free still witness =
+    right-edges netlist cap finding edges circuit whole stable (rw (starts, inputs) at inductive) (rw (starts, inputs, same_a, same_b) at witness) (rw (starts, inputs) at free) (rw (starts, same_a) at still)
+
+-- where a call went well, all that it promises of that holds
+pub ok-all : {P Q R S T : Type 0} (result : Result (Unit {0}) Memory) → OnOk result P → OnOk result Q → OnOk result R → OnOk result S → (P → Q → R → S → T) → OnOk result T
+ok-all (Ok _) p q r s all = all p q r s
+ok-all (Err _) p q r s all = tt

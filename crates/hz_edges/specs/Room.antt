@@ -1,9 +1,6 @@
 -- The memory in which edges are found, and what it holds. Words about the inside of hz_edges.
-use Rattle.std.specs.Prelude.{ℕ}
 use Rattle.hz_core.specs.Netlist.{Netlist}
 use Rattle.hz_net.specs.Network.{AreByVariable, IsState}
-use Rattle.hz_bounds.specs.declared.range.Range.{Range}
-use Rattle.hz_reach.specs.Given.{IsScratchFor}
 use Rattle.hz_desk.specs.ResultsOfPasses.{HavePassRoom}
 use Rattle.hz_edges.specs.declared.finding.EdgeRoom.{EdgeRoom}
 use Rattle.hz_edges.specs.Edges.{EdgesOf}
@@ -20,4 +17,3 @@ pub record IsEdgeRoom (netlist : Netlist) (room : EdgeRoom) : Type 0 where
   pub passes : HavePassRoom netlist room.passes
   pub a : IsState netlist room.a.items
   pub b : IsState netlist room.b.items
-  pub scratch : IsScratchFor netlist room.scratch

@@ -21,7 +21,7 @@ use hz_desk::{Finding, Passes};
 use hz_free::Free;
 use hz_gmw::Run;
 use hz_net::Net;
-use hz_reach::{Change, Scratch};
+use hz_reach::Change;
 use hz_witness::witness_run;
 use hz_word::{Count, Word};
 use std::alloc::Global;
@@ -35,7 +35,6 @@ pub(crate) struct EdgeRoom {
     passes: Passes,
     a: Vec<Tri>,
     b: Vec<Tri>,
-    scratch: Scratch,
 }
 
 impl EdgeRoom {
@@ -56,7 +55,6 @@ impl EdgeRoom {
             passes: Passes::new(alloc, net)?,
             a: vec![in alloc; Tri::Zero; variables]?,
             b: vec![in alloc; Tri::Zero; variables]?,
-            scratch: Scratch::new(alloc, net)?,
         })
     }
 
@@ -156,7 +154,6 @@ impl EdgeRoom {
             alloc,
             change,
             &results,
-            &mut self.scratch,
             &mut self.run,
             self.counts.as_mut_slice(),
         )

@@ -1,23 +1,40 @@
-use Rattle.std.proofs.Common.{rules, ◌≡◌, ◌<◌, ◌≤◌, length, IfOk, OnOk, ℕ, ◌+◌, ◌-◌, ◌*◌, ◌/◌, ◌%◌, Bool, true, false, nat_eq, nat_lt, List, [], ◌∷◌, ◌++◌, slice_index_or, slice_set, bit_and, bit_or, Fits, w8, w32, w64, Bor, MutBor}
-use Rattle.hz_net.specs.Network.{network_of, IsInput}
-use Rattle.hz_net.specs.Passes.{algorithm_a, algorithm_b, IsResult}
-use Rattle.hz_net.specs.Starts.{IsStableStart}
-use Rattle.hz_word.specs.Capped.{greatest_cap}
-use Rattle.hz_free.specs.FreePart.{IsFreePart}
-use Rattle.hz_desk.specs.Finding.{finding_of, values_a, values_b}
-use Rattle.hz_core.specs.Netlist.{IsCircuit}
-use Rattle.hz_cycle.specs.Cycles.{AreResultsOfBoth}
-use Rattle.hz_free.specs.Inductive.{AreFreeWords, IsInductive}
+-- What is told was told by the result of Algorithm A, and each variable keeps its place.
+use Rattle.std.proofs.Common.{◌≡◌, ◌∙◌, length, sym, ap, subst, arith, List, ℕ}
+use Rattle.std.specs.Vec.{with_items}
+use Rattle.std.proofs.lemmas.List.{with_items_is}
+use Rattle.std.proofs.lemmas.Result.{on_ok_weaker}
+use Rattle.hz_core.specs.declared.tri.Tri.{Tri}
+use Rattle.hz_net.specs.Network.{network_of}
+use Rattle.hz_word.specs.declared.word.Word.{Word}
 use Rattle.hz_bounds.specs.Telling.{AreStill}
-use Rattle.hz_witness.specs.Witness.{IsWitness}
-use Rattle.hz_edges.specs.Edges.{AreRightEdges, begin_of, range_at}
-use Rattle.hz_edges.specs.Room.{edges_of, IsEdgeRoom}
 use Rattle.hz_edges.proofs.finding.EdgeRoom.find_by_passes.Goals as goal
 
--- src/finding.rt:113:5
 pub returns-clause-still : goal.returns-clause-still
-returns-clause-still c = ?
+returns-clause-still c =
+    let told : List Word = c.tell.new.told in
+    let told_are : (with_items c.args.self.now.told told).items ≡ told =
+    with_items_is c.args.self.now.told told (omega (arith, c.tell.auto.told, c.as_mut_slice.ensures.len)) in
+    let still : AreStill (network_of c.args.change.now.net.now) c.args.change.now.start.now c.args.self.now.a.items told =
+    subst (λ (a : List Tri). AreStill (network_of c.args.change.now.net.now) c.args.change.now.start.now a told) c.as_slice.ensures.value c.in_ok-tell.ensures.still in
+    on_ok_weaker c.witness_run.result (λ shown. subst (AreStill (network_of c.args.change.now.net.now) c.args.change.now.start.now c.args.self.now.a.items) (sym told_are) still) c.witness_run.ensures
 
--- src/finding.rt:113:5
 pub returns-clause-room : goal.returns-clause-room
-returns-clause-room c = ?
+returns-clause-room c =
+    let told : List Word = c.tell.new.told in
+    let told_are : (with_items c.args.self.now.told told).items ≡ told =
+    with_items_is c.args.self.now.told told (omega (arith, c.tell.auto.told, c.as_mut_slice.ensures.len)) in
+    let counts : List ℕ = c.witness_run.new.counts in
+    let counts_are : (with_items c.args.self.now.counts counts).items ≡ counts =
+    with_items_is c.args.self.now.counts counts (omega (arith, c.witness_run.auto.counts, c.as_mut_slice-2.ensures.len)) in
+    record {
+      told = ap (length {A = Word}) told_are ∙ (c.tell.auto.told ∙ (ap (length {A = Word}) c.as_mut_slice.ensures.value ∙ c.requires.room.told));
+      counts = ap (length {A = ℕ}) counts_are ∙ (c.witness_run.auto.counts ∙ (ap (length {A = ℕ}) c.as_mut_slice-2.ensures.value ∙ c.requires.room.counts));
+      passes = record {
+        ranks = c.requires.room.passes.ranks;
+        when = c.requires.room.passes.when;
+        work = c.requires.room.passes.work;
+        front = c.requires.room.passes.front;
+      };
+      a = c.requires.room.a;
+      b = c.requires.room.b;
+    }
