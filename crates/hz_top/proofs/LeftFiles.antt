@@ -1,5 +1,5 @@
 -- What is left of the counts of files: both stay, or that of the second, or the first file is a netlist.
-use Rattle.std.proofs.Common.{◌≡◌, ℕ, ◌≤◌, List, length, Option, Some, None, subst, arith, inl, inr}
+use Rattle.std.proofs.Common.{◌≡◌, ◌≢◌, ◌∙◌, sym, Result, Ok, Err, ℕ, ◌≤◌, List, length, Option, Some, None, subst, arith, inl, inr}
 use Rattle.std.specs.Prelude.{IfSome}
 use Rattle.hz_outside.specs.declared.fault.Place.{Place}
 use Rattle.hz_outside.specs.declared.fault.Place.TheVariants.{First, Second}
@@ -38,6 +38,10 @@ told-read : (held : Option (List ℕ → List ℕ)) (first bytes : List ℕ) (ne
 told-read None first bytes netlist stays is short text = tt
 told-read (Some bytes_of) first bytes netlist stays is short text =
     λ refused. absurd (subst (λ (told : List ℕ). IsRefusedFirst first told → ⊥) is (not-refused first bytes netlist short text) refused)
+
+-- a load that gave a file has no fault
+pub loaded : {A E : Type 0} (result : Result A E) (file : A) (fault : E) → result ≡ Ok file → result ≢ Err fault
+loaded result file fault is other = let both : Ok file ≡ Err fault = sym is ∙ other in cc
 
 -- where no count of the first file changed
 none-rise : (told : Observation) → CountsStay told First → CountsRise told First → ⊥

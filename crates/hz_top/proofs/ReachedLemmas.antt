@@ -105,9 +105,12 @@ module _ (flush : Result (Unit {0}) PutFault) (own : Status) where
       )
 
   -- the last flush changes nothing of how far a call came
-  pub reached-flushed : (told : Observation) (asked : Option JobOf) (reached : Option Reached) → IsReached told asked own reached → IsReached told asked (status_flushed flush own) reached
+  reached-flushed : (told : Observation) (asked : Option JobOf) (reached : Option Reached) → IsReached told asked own reached → IsReached told asked (status_flushed flush own) reached
   reached-flushed told None reached none = none
   reached-flushed told (Some (Demo number options)) reached none = none
   reached-flushed told (Some (OnFiles task options first second)) reached (inl (short, none)) = inl (short-flushed flush own short, none)
   reached-flushed told (Some (OnFiles task options first second)) None (inr come) = absurd come
   reached-flushed told (Some (OnFiles task options first second)) (Some at) (inr come) = inr (comes-flushed told task first second at come)
+
+  pub reached-end : (ends : Status) (told : Observation) (asked : Option JobOf) (reached : Option Reached) → ends ≡ status_flushed flush own → IsReached told asked own reached → IsReached told asked ends reached
+  reached-end ends told asked reached is of = subst (λ (ends : Status). IsReached told asked ends reached) (sym is) (reached-flushed told asked reached of)

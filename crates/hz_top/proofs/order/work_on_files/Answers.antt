@@ -1,6 +1,6 @@
-use Rattle.std.proofs.Common.{inl, inr, ap, sym, subst, ◌∙◌, ◌≢◌, Err, Option, Some, List, ℕ, refl, IfSome}
-use Rattle.hz_outside.specs.declared.fault.Place.TheVariants.{First, Second}
-use Rattle.hz_refusal.specs.declared.status.Status.{Status}
+use Rattle.std.proofs.Common.{inl, inr, ap, sym, subst, ◌∙◌, Err, Option, List, ℕ, refl}
+use Rattle.hz_outside.specs.declared.fault.Place.TheVariants.{First}
+use Rattle.hz_outside.specs.declared.fault.LoadFault.TheVariants as load
 use Rattle.hz_refusal.specs.declared.status.Status.TheVariants as status
 use Rattle.hz_refusal.specs.Ends.{Ends}
 use Rattle.hz_top.specs.Outcome.{IsFilesOutcome, IsSecondFileOutcome, observation_of}
@@ -13,7 +13,7 @@ use Rattle.hz_refusal.specs.Refused.{LoadPrints}
 use Rattle.hz_refusal.proofs.PutEndings.{Ends-more, Ends-nothing}
 use Rattle.hz_top.proofs.JobOutcomes.{FileRefused-load, IsSecondFileOutcome-before}
 use Rattle.hz_formats.proofs.RefusedNetlists.{netlist-refused, told-netlist-line}
-use Rattle.hz_top.proofs.LeftFiles.{second-stays, first-read}
+use Rattle.hz_top.proofs.LeftFiles.{second-stays, loaded, first-read}
 use Rattle.hz_top.proofs.ReachedLemmas.{of-file, no-netlist, first-reached, second-line}
 use Rattle.hz_top.proofs.order.work_on_files.Goals as goal
 
@@ -93,8 +93,8 @@ returns-in_default-clause-files g c =
 
 pub returns-clause-files : goal.returns-clause-files
 returns-clause-files g c =
-    let first_now = c.load.ensures.no_fault (λ is. cc) in
-    let first_long = c.load.ensures.none_long (λ is. cc) in
+    let first_now = c.load.ensures.no_fault (loaded _ _ load.Failed c.in-Ok.is) in
+    let first_long = c.load.ensures.none_long (loaded _ _ load.TooLong c.in-Ok.is) in
     first-read (observation_of g.F.Files.held g.F.Files.faults g.F.Files.longs c.args.files.now c.work_on_second-ending.new.files)
     c.args.work.task c.args.work.options c.args.first.now c.args.second.now c.as_slice.result.now c.in-Ok-read_netlist.circuit
     (c.work_on_second-ending.ensures.stay.0 ∙ first_now, c.work_on_second-ending.ensures.stay.1 ∙ first_long)

@@ -39,7 +39,7 @@ pub returns-in-Err-clause-ends : goal.returns-in-Err-clause-ends
 returns-in-Err-clause-ends g c =
     let told = observation_of g.F.Files.held g.F.Files.faults g.F.Files.longs c.args.files.now c.load_into.new.self in
     let comes = OfPatterns (g.J.OnPatterns.judges c.args.job.now) c.args.net.now in
-    rw c.without_line.ensures
+    rw c.without_line-in-Err.ensures
     (Ends-more g.K.Sink.output g.K.Sink.faults (LoadPrints Second c.in-Err.fault) (IsSecondFileOutcome told comes c.args.second.now)
     c.args.out.now c.refuse_load.new.out c.refuse_load.result
     (λ own text says. inl (FileRefused-load told Second c.args.second.now c.in-Err.fault
@@ -57,5 +57,5 @@ returns-in-Ok-load_into-clause-line g c =
 
 pub returns-in-Err-clause-line : goal.returns-in-Err-clause-line
 returns-in-Err-clause-line g c =
-    rw c.without_line.ensures
+    rw c.without_line-in-Err.ensures
     (inl (no-text g.K.Sink.output g.K.Sink.faults Second c.in-Err.fault c.args.out.now c.refuse_load.new.out c.refuse_load.result c.refuse_load.ensures, refl))

@@ -1,15 +1,13 @@
 -- All that was put is flushed.
-use Rattle.std.proofs.Common.{map, subst, sym}
+use Rattle.std.proofs.Common.{map}
 use Rattle.std.specs.String.{string_bytes}
-use Rattle.hz_refusal.specs.declared.status.Status.{Status}
 use Rattle.hz_refusal.specs.Ends.{written_of}
 use Rattle.hz_words.specs.Job.{job_of}
 use Rattle.hz_top.specs.Outcome.{observation_of, IsJobOutcome}
-use Rattle.hz_top.specs.Reached.{IsReached}
 use Rattle.hz_top.proofs.FaultlessEndings.{asked-end, ends-or-memory}
 use Rattle.hz_refusal.proofs.Flushed.{Answers-flushed, Count-flushed}
 use Rattle.hz_top.proofs.Headlines.{headline}
-use Rattle.hz_top.proofs.ReachedLemmas.{reached-flushed}
+use Rattle.hz_top.proofs.ReachedLemmas.{reached-end}
 use Rattle.hz_top.proofs.running.answer.Goals as goal
 
 pub returns-clause-runs : goal.returns-clause-runs
@@ -39,5 +37,4 @@ returns-clause-reached g c =
     let worked = c.work_by_words-worked in
     let told = observation_of g.F.Files.held g.F.Files.faults g.F.Files.longs c.args.files.now worked.new.files in
     let asked = job_of (map string_bytes c.args.words.now) in
-    subst (λ (ends : Status). IsReached told asked ends worked.result.reached) (sym c.status_flushed.ensures)
-    (reached-flushed c.flush.result worked.result.status told asked worked.result.reached worked.ensures.reached)
+    reached-end c.flush.result worked.result.status c.status_flushed.result told asked worked.result.reached c.status_flushed.ensures worked.ensures.reached
