@@ -237,6 +237,23 @@ class Circuit:
                 count[i] += 1
         return count
 
+    def most_changes(self, limit):
+        """How often each variable changes at most along a run, up to a limit: by all states that runs reach, with all numbers of changes."""
+        steps = {state: self.steps(state) for state in self.reached()}
+        return [self.most_of(i, steps, limit) for i in range(len(self.start))]
+
+    def most_of(self, i, steps, limit):
+        """How often a variable changes at most, by the steps from each state."""
+        best, waiting = {self.start: 0}, [self.start]
+        while waiting:
+            state = waiting.pop()
+            for after in steps[state]:
+                count = min(limit, best[state] + (after[i] != state[i]))
+                if count > best.get(after, -1):
+                    best[after] = count
+                    waiting.append(after)
+        return max(best.values())
+
     def reads(self):
         """What each variable reads: an input nothing, a gate its wires, a wire its source."""
         read, at = [[] for _ in self.inputs], len(self.names)
@@ -544,6 +561,17 @@ def class_of(a, b, start, count):
     if b == start:
         return "static"
     return "change" if count is None else "single" if count == 1 else "maybe-dynamic"
+
+
+def edge_class(start, end, least, most):
+    """The class of a variable that changes so often along a run, and at most so often along every run, or None."""
+    if most == 0:
+        return "steady"
+    if end == "X":
+        return "unsettled"
+    if end == start:
+        return "static" if least >= 2 else "maybe-static"
+    return "single" if most == 1 else "dynamic" if least >= 3 else "maybe-dynamic"
 
 
 def until_equal(state, after):

@@ -12,7 +12,7 @@ use hz_free::Free;
 use hz_gmw::Run;
 use hz_net::Net;
 use hz_pass::Front;
-use hz_reach::{Change, Scratch};
+use hz_reach::Change;
 use hz_samples::{HOLDING, LATCH, MULTIPLEXER, letter_of, net_of, runs_of};
 use hz_witness::witness_run;
 use hz_word::{Count, Word};
@@ -87,10 +87,9 @@ fn bounds(alloc: Global, change: &Change, results: &Results) -> Result<String, F
         results.now.a.now results.now.ranks.now results.now.b.now results.now.when.now }
 {
     let variables = change.net.len() as usize;
-    let mut scratch = Scratch::new(alloc, change.net)?;
     let mut run = Run::new(alloc);
     let mut counts = vec![in alloc; 0u32; variables]?;
-    witness_run(alloc, change, results, &mut scratch, &mut run, &mut counts)?;
+    witness_run(alloc, change, results, &mut run, &mut counts)?;
     let free = Free::build(alloc, change.net)?;
     let at_rest = Word {
         first: false,

@@ -14,11 +14,12 @@ use Rattle.hz_run_text.specs.RunFault.{HasRunFault}
 use Rattle.hz_run_text.specs.RunText.{IsRunValue}
 use Rattle.hz_run_text.specs.RunValue.{RunTextOf}
 use Rattle.hz_words.specs.declared.job.Task.{Task}
-use Rattle.hz_words.specs.declared.job.Task.TheVariants.{Analyse, Split, Replay, Convert, Vcd, Batch, Reset}
+use Rattle.hz_words.specs.declared.job.Task.TheVariants.{Analyse, Edges, Split, Replay, Convert, Vcd, Batch, Reset}
 use Rattle.hz_refusal.specs.declared.status.Status.{Status}
 use Rattle.hz_refusal.specs.declared.status.Status.TheVariants as status
 use Rattle.hz_patterns.specs.Batches.{IsBatchOutcome}
 use Rattle.hz_changes.specs.Reports.{Reports}
+use Rattle.hz_edges.specs.EdgeReports.{ReportsEdges}
 use Rattle.hz_patterns.specs.Resets.{IsResetOutcome}
 use Rattle.hz_replay.specs.RunTexts.{IsConvertOutcome, EndsReplay}
 use Rattle.hz_changes.specs.Splits.{SplitsChanges}
@@ -35,17 +36,13 @@ good-ends : {V : Type 0} (called : List ℕ) (holds : Netlist → List ℕ → T
 good-ends called holds stands_for judge ends agree netlist text wanted own said good (inl (fault, least, says)) = absurd (good.faultless fault least.stands)
 good-ends called holds stands_for judge ends agree netlist text wanted own said good (inr (value, faultless, is, comes)) = agree netlist value wanted own said (good.each value is) comes
 
--- a script comes to its report
-script-ends : (options : Options) (netlist : Netlist) (value : ScriptOf) (wanted own : Status) (said : List ℕ) → IsCompletable netlist value.start × (wanted ≡ status.Done) → Started (Reports options) netlist value own said → own ≡ wanted
-script-ends options netlist value wanted own said good (inl (own_is, inl (gate, opened, line))) = absurd (good.0.closed gate opened)
-script-ends options netlist value wanted own said good (inl (own_is, inr (gate, unstable, line))) = absurd (good.0.stable gate unstable)
-script-ends options netlist value wanted own said good (inr (start, accepted, reports)) = reports.0 ∙ sym good.1
-
--- a script comes to what is found of its changes
-split-ends : (cap : ℕ) (netlist : Netlist) (value : ScriptOf) (wanted own : Status) (said : List ℕ) → IsCompletable netlist value.start × (wanted ≡ status.Done) → Started (SplitsChanges cap) netlist value own said → own ≡ wanted
-split-ends cap netlist value wanted own said good (inl (own_is, inl (gate, opened, line))) = absurd (good.0.closed gate opened)
-split-ends cap netlist value wanted own said good (inl (own_is, inr (gate, unstable, line))) = absurd (good.0.stable gate unstable)
-split-ends cap netlist value wanted own said good (inr (start, accepted, splits)) = splits.0 ∙ sym good.1
+-- a script comes to what the judge of its changes says, which has no other status
+script-ends : (judge : Netlist → List Bool → List (List (ℕ × Bool)) → Status → List ℕ → Type 0)
+    → ((netlist : Netlist) (start : List Bool) (changes : List (List (ℕ × Bool))) (own : Status) (said : List ℕ) → judge netlist start changes own said → own ≡ status.Done)
+    → (netlist : Netlist) (value : ScriptOf) (wanted own : Status) (said : List ℕ) → IsCompletable netlist value.start × (wanted ≡ status.Done) → Started judge netlist value own said → own ≡ wanted
+script-ends judge done netlist value wanted own said good (inl (own_is, inl (gate, opened, line))) = absurd (good.0.closed gate opened)
+script-ends judge done netlist value wanted own said good (inl (own_is, inr (gate, unstable, line))) = absurd (good.0.stable gate unstable)
+script-ends judge done netlist value wanted own said good (inr (start, accepted, says)) = done netlist start value.changes own said says ∙ sym good.1
 
 -- a replay comes to the one of both ends that it has, where the judge of runs that are accepted has no other status
 replay-ends : (judge : Netlist → RunTextOf → Status → List ℕ → Type 0)
@@ -71,9 +68,11 @@ reset-ends netlist value wanted own said is says = says.0 ∙ sym is
 -- the second text comes to its end, by the task
 pub text-ends : (options : Options) (task : Task) (netlist : Netlist) (text : List ℕ) (wanted own : Status) (said : List ℕ) → good_of task netlist text wanted → comes_of options task netlist text own said → own ≡ wanted
 text-ends options Analyse =
-    good-ends (codes "script") HasScriptFault IsValue (Started (Reports options)) (λ netlist script own. IsCompletable netlist script.start × (own ≡ status.Done)) (script-ends options)
+    good-ends (codes "script") HasScriptFault IsValue (Started (Reports options)) (λ netlist script own. IsCompletable netlist script.start × (own ≡ status.Done)) (script-ends (Reports options) (λ netlist start changes own said says. says.0))
+text-ends options Edges =
+    good-ends (codes "script") HasScriptFault IsValue (Started (ReportsEdges options)) (λ netlist script own. IsCompletable netlist script.start × (own ≡ status.Done)) (script-ends (ReportsEdges options) (λ netlist start changes own said says. says.0))
 text-ends options Split =
-    good-ends (codes "script") HasScriptFault IsValue (Started (SplitsChanges options.cap)) (λ netlist script own. IsCompletable netlist script.start × (own ≡ status.Done)) (split-ends options.cap)
+    good-ends (codes "script") HasScriptFault IsValue (Started (SplitsChanges options.cap)) (λ netlist script own. IsCompletable netlist script.start × (own ≡ status.Done)) (script-ends (SplitsChanges options.cap) (λ netlist start changes own said says. says.0))
 text-ends options Replay =
     good-ends (codes "runs") HasRunFault IsRunValue (Replayed IsYes) EndsReplay (replay-ends IsYes (λ netlist value own said says. says.0))
 text-ends options Convert = good-ends (codes "runs") HasRunFault IsRunValue IsConvertOutcome (λ netlist runs own. own ≡ status.Done) convert-ends

@@ -16,6 +16,7 @@ ghost use Rattle.hz_top.specs.Tasks.{comes_of};
 
 use crate::reached::{Answer, Reached};
 use hz_changes::{Analyses, Splits};
+use hz_edges::Edges;
 use hz_formats::{read_netlist, refuse_netlist};
 use hz_line::MAX_TEXT;
 use hz_net::Net;
@@ -122,6 +123,7 @@ fn work_on_second<F: Files, K: Sink>(
     let options = work.options;
     match work.task {
         Task::Analyse => work_on_script(alloc, &Analyses { options }, net, second, files, out),
+        Task::Edges => work_on_script(alloc, &Edges { options }, net, second, files, out),
         Task::Split => work_on_script(alloc, &Splits { options }, net, second, files, out),
         Task::Replay => work_on_runs(alloc, &Replays, net, second, files, out),
         Task::Convert => work_on_runs(alloc, &Converts, net, second, files, out),

@@ -29,14 +29,12 @@ pub fn witness_run(
     alloc: Global,
     change: &Change,
     results: &Results,
-    scratch: &mut Scratch,
     run: &mut Run,
     counts: &mut [u32],
 ) -> Result<(), Memory>
     requires change { AreResultsOfBoth change.now.net.now change.now.start.now
         change.now.input.now results.now.a.now results.now.ranks.now results.now.b.now
         results.now.when.now }
-    requires scratch { IsScratchFor change.now.net.now scratch.old }
     requires counts { AreByVariable change.now.net.now counts.old }
     ensures { OnOk result (IsWitness (network_of change.now.net.now) change.now.input.now
         change.now.start.now results.now.a.now results.now.b.now run.new.steps counts.new) }
@@ -48,7 +46,7 @@ pub fn witness_run(
     if shown {
         return Ok(());
     }
-    make_by_rank(alloc, change, results, scratch, run, counts)
+    make_by_rank(alloc, change, results, run, counts)
 }
 
 // The same without components: by rank alone, or as the settle run.
@@ -56,14 +54,12 @@ fn make_by_rank(
     alloc: Global,
     change: &Change,
     results: &Results,
-    scratch: &mut Scratch,
     run: &mut Run,
     counts: &mut [u32],
 ) -> Result<(), Memory>
     requires change { AreResultsOfBoth change.now.net.now change.now.start.now
         change.now.input.now results.now.a.now results.now.ranks.now results.now.b.now
         results.now.when.now }
-    requires scratch { IsScratchFor change.now.net.now scratch.old }
     requires counts { AreByVariable change.now.net.now counts.old }
     ensures { OnOk result (IsWitness (network_of change.now.net.now) change.now.input.now
         change.now.start.now results.now.a.now results.now.b.now run.new.steps counts.new) }
@@ -72,7 +68,8 @@ fn make_by_rank(
     if shown {
         return Ok(());
     }
-    settle(change, results, scratch, run)?;
+    let mut scratch = Scratch::new(alloc, change.net)?;
+    settle(change, results, &mut scratch, run)?;
     count_changes(run, counts)?;
     Ok(())
 }

@@ -13,6 +13,8 @@ use hz_options::Options;
 pub enum Task {
     /// The changes of a script are analysed.
     Analyse,
+    /// How often each variable may change in the changes of a script is found.
+    Edges,
     /// Two runs of an unsettled change of a script are looked for.
     Split,
     /// The runs of a run text are replayed.
@@ -104,6 +106,7 @@ fn job_on_files<'w>(
     let second = second?;
     let task = match word {
         "analyse" => Task::Analyse,
+        "edges" => Task::Edges,
         "split" => Task::Split,
         "replay" => Task::Replay,
         "convert" => Task::Convert,

@@ -1,6 +1,8 @@
 -- The settle run is counted.
-use Rattle.std.proofs.Common.{ℕ, ◌<◌, ◌∙◌, All, sym, subst}
+use Rattle.std.proofs.Common.{ℕ, ◌<◌, ◌∙◌, All, false, length, ap, sym, subst}
+use Rattle.std.proofs.lemmas.List.{length-replicate}
 use Rattle.hz_net.specs.Network.{network_of}
+use Rattle.hz_reach.specs.ScratchState.{ScratchState}
 use Rattle.hz_witness.proofs.Shown.{run-inside, run-once}
 use Rattle.hz_witness.proofs.witness.make_by_rank.Goals as goal
 
@@ -12,3 +14,9 @@ pub count_changes-requires-clause-inside : goal.count_changes-requires-clause-in
 count_changes-requires-clause-inside c =
     subst (λ (n : ℕ). All (All (λ (var : ℕ). var < n)) c.settle.new.run.steps) (sym (c.try_parts.auto.counts ∙ c.requires.counts))
     (run-inside (network_of c.args.change.now.net.now) c.args.change.now.input.now c.args.change.now.start.now c.settle.new.run.steps c.in_ok-settle.ensures.run.run)
+
+pub settle-requires-clause-scratch : goal.settle-requires-clause-scratch
+settle-requires-clause-scratch c = record {
+  long = ap (λ (s : ScratchState). length s.state) c.in_ok-scratch.ensures ∙ length-replicate (length (network_of c.args.change.now.net.now)) false;
+  none_marked = ap (λ (s : ScratchState). s.marked) c.in_ok-scratch.ensures;
+}

@@ -1,0 +1,161 @@
+//! What is found of a change beside its finding, and the memory that this takes.
+ghost use Rattle.std.specs.Prelude.{◌≡◌, ◌<◌, ◌≤◌, length, IfOk, OnOk};
+ghost use Rattle.hz_net.specs.Network.{network_of, IsInput};
+ghost use Rattle.hz_net.specs.Passes.{algorithm_a, algorithm_b, IsResult};
+ghost use Rattle.hz_net.specs.Starts.{IsStableStart};
+ghost use Rattle.hz_word.specs.Capped.{greatest_cap};
+ghost use Rattle.hz_free.specs.FreePart.{IsFreePart};
+ghost use Rattle.hz_desk.specs.Finding.{finding_of, values_a, values_b};
+ghost use Rattle.hz_core.specs.Netlist.{IsCircuit};
+ghost use Rattle.hz_cycle.specs.Cycles.{AreResultsOfBoth};
+ghost use Rattle.hz_free.specs.Inductive.{AreFreeWords, IsInductive};
+ghost use Rattle.hz_bounds.specs.Telling.{AreStill};
+ghost use Rattle.hz_witness.specs.Witness.{IsWitness};
+ghost use Rattle.hz_edges.specs.Edges.{AreRightEdges, begin_of, range_at};
+ghost use Rattle.hz_edges.specs.Room.{edges_of, IsEdgeRoom};
+
+use hz_bounds::{Range, range_of, tell};
+use hz_core::{Memory, Tri};
+use hz_cycle::Results;
+use hz_desk::{Finding, Passes};
+use hz_free::Free;
+use hz_gmw::Run;
+use hz_net::Net;
+use hz_reach::Change;
+use hz_witness::witness_run;
+use hz_word::{Count, Word};
+use std::alloc::Global;
+
+/// What is found of a change: what each variable is told, one run, and its counts; and what they are found with.
+#[derive(Drop)]
+pub(crate) struct EdgeRoom {
+    pub told: Vec<Word>,
+    pub run: Run,
+    pub counts: Vec<u32>,
+    passes: Passes,
+    a: Vec<Tri>,
+    b: Vec<Tri>,
+}
+
+impl EdgeRoom {
+    // Room for the changes of a network.
+    pub(crate) fn new(alloc: Global, net: &Net) -> Result<EdgeRoom, Memory>
+        ensures { IfOk result (IsEdgeRoom net.now) }
+    {
+        net.keeps_shape();
+        let variables = net.len() as usize;
+        let still = Word {
+            first: false,
+            changes: Count::Exact(0),
+        };
+        Ok(EdgeRoom {
+            told: vec![in alloc; still; variables]?,
+            run: Run::new(alloc),
+            counts: vec![in alloc; 0; variables]?,
+            passes: Passes::new(alloc, net)?,
+            a: vec![in alloc; Tri::Zero; variables]?,
+            b: vec![in alloc; Tri::Zero; variables]?,
+        })
+    }
+
+    // How often a variable changes, along the run and along every run.
+    pub(crate) fn range(&self, var: u32) -> Range
+        requires told { var < length self.now.told.items }
+        requires counts { var < length self.now.counts.items }
+        ensures { result ≡ range_at (edges_of self.now) var }
+    {
+        range_of(
+            self.told[var as usize].changes,
+            self.counts[var as usize],
+        )
+    }
+
+    // Finds how often the variables change in a change, beside its finding.
+    pub(crate) fn find(
+        &mut self,
+        alloc: Global,
+        net: &Net,
+        free: &Free,
+        cap: u64,
+        finding: &Finding,
+    ) -> Result<(), Memory>
+        requires room { IsEdgeRoom net.now self.old }
+        requires free { IsFreePart net.now free.now }
+        requires start { IsStableStart net.now (begin_of (finding_of finding.now)) }
+        requires input { IsInput net.now finding.now.input }
+        requires a { IsResult
+            (algorithm_a (network_of net.now) finding.now.input
+            (begin_of (finding_of finding.now)))
+            (values_a finding.now.rows) }
+        requires b { IsResult
+            (algorithm_b (network_of net.now) finding.now.input (values_a finding.now.rows))
+            (values_b finding.now.rows) }
+        requires cap_low { 1 ≤ cap }
+        requires cap_high { cap ≤ greatest_cap }
+        ensures found { OnOk result
+            (AreRightEdges (network_of net.now) cap (finding_of finding.now) (edges_of self.new)) }
+        ensures room { IsEdgeRoom net.now self.new }
+    {
+        net.keeps_shape();
+        let change = Change {
+            net,
+            start: finding.rows.starts(),
+            input: finding.input.as_slice(),
+        };
+        self.passes
+            .make(&change, self.a.as_mut_slice(), self.b.as_mut_slice());
+        self.find_by_passes(alloc, &change, free, cap)
+    }
+
+    // The same, given the results of both passes.
+    fn find_by_passes(
+        &mut self,
+        alloc: Global,
+        change: &Change,
+        free: &Free,
+        cap: u64,
+    ) -> Result<(), Memory>
+        requires circuit { IsCircuit change.now.net.now }
+        requires room { IsEdgeRoom change.now.net.now self.old }
+        requires free { IsFreePart change.now.net.now free.now }
+        requires results { AreResultsOfBoth change.now.net.now change.now.start.now
+            change.now.input.now self.old.a.items self.old.passes.ranks.items self.old.b.items
+            self.old.passes.when.items }
+        requires cap_low { 1 ≤ cap }
+        requires cap_high { cap ≤ greatest_cap }
+        ensures inductive { OnOk result (IsInductive (network_of change.now.net.now)
+            change.now.input.now change.now.start.now cap self.new.told.items) }
+        ensures free { OnOk result (AreFreeWords (network_of change.now.net.now)
+            change.now.input.now change.now.start.now cap self.new.told.items) }
+        ensures still { OnOk result (AreStill (network_of change.now.net.now) change.now.start.now
+            self.old.a.items self.new.told.items) }
+        ensures witness { OnOk result (IsWitness (network_of change.now.net.now)
+            change.now.input.now change.now.start.now self.old.a.items self.old.b.items
+            self.new.run.steps self.new.counts.items) }
+        ensures room { IsEdgeRoom change.now.net.now self.new }
+    {
+        tell(
+            alloc,
+            change.net,
+            free,
+            change.start,
+            change.input,
+            self.a.as_slice(),
+            cap,
+            self.told.as_mut_slice(),
+        )?;
+        let results = Results {
+            a: self.a.as_slice(),
+            ranks: self.passes.ranks.as_slice(),
+            b: self.b.as_slice(),
+            when: self.passes.when.as_slice(),
+        };
+        witness_run(
+            alloc,
+            change,
+            &results,
+            &mut self.run,
+            self.counts.as_mut_slice(),
+        )
+    }
+}
