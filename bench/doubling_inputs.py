@@ -297,6 +297,27 @@ def both_ways_reversed(n):
     return "INPUT(g0)\n" + "".join(made(k) for k in range(n, 0, -1)), "start g0=0 " + " ".join(f"g{k}=0" for k in range(1, n + 1)) + "\nchange g0=1\n"
 
 
+def ring_of_wide(n):
+    """Gates of 256 pins in one loop. A pulse goes round it, since the first gate reads `a` as it is and inverted."""
+    made = lines(n - 1, lambda k: f"g{k + 1}=XOR({','.join([f'g{k}'] * 255 + ['a'])})\n")
+    return f"INPUT(a)\nb=NOT(a)\ng1=AND(a,b,{','.join([f'g{n}'] * 254)})\n" + made, "start a=0\nchange a=1\n"
+
+
+def wide_nands(n):
+    """Gates of 256 pins that all rise while `a` is 0, and read any others once it rises."""
+    choose = random.Random(10)
+    pins = lambda: ",".join(f"g{choose.randrange(1, n + 1)}" for _ in range(255))
+    return "INPUT(a)\n" + lines(n, lambda k: f"g{k}=NAND(a,{pins()})\n"), CHANGE
+
+
+def pulses_back(n):
+    """Random gates that pass on the pulse of one gate, and read gates behind them too."""
+    choose = random.Random(11)
+    name = lambda k: f"g{k}" if k >= 0 else "p"
+    made = lambda k: f"g{k}={choose.choice(['AND', 'OR', 'OR', 'XOR'])}({name(choose.randrange(-1, k))},{name(choose.randrange(n if choose.random() < 0.3 else k + 1) - 1)})\n"
+    return "INPUT(a)\nb=NOT(a)\np=AND(a,b)\n" + "".join(made(k) for k in range(n)), "start a=0 " + " ".join(f"g{k}=0" for k in range(n)) + "\nchange a=1\n"
+
+
 def latches(n):
     made = lines(n, lambda k: f"q{k}=NOR(r,p{k})\np{k}=NOR(s,q{k})\n")
     return "INPUT(r)\nINPUT(s)\n" + made, "start r=1 s=1\nchange r=0 s=0\n"
@@ -713,6 +734,17 @@ def analyses():
         yield Case("analyse", "script: " + name, make, least, status)
 
 
+def edge_cases():
+    """The circuits by `edges`, and some in which much moves behind feedback."""
+    for name, make, least in CIRCUITS:
+        yield Case("edges", name, make, least)
+    for name, make, least in (("gates of 256 pins in one loop", ring_of_wide, 90),
+            ("gates of 256 pins that all read each other", wide_nands, 90),
+            ("random gates, pulses go back", pulses_back, 7_000)):
+        yield Case("edges", name, make, least)
+    yield Case("edges", "script: changes of a hundred latches", changes_of_many, 250)
+
+
 def replays():
     """Run texts, by `replay`, `convert` and `vcd`."""
     texts = (
@@ -800,4 +832,5 @@ def cases():
     yield from replays()
     yield from pattern_cases()
     yield from splits()
+    yield from edge_cases()
     yield Case("demo", "NUMBER", None, 2_000)

@@ -18,6 +18,7 @@ QUESTIONS = (
     ("How many changes is a clock edge?", USING, "4. How do I write a clock edge, and when is it two changes?", "An edge is **two changes**"),
     ("Does a `maybe-dynamic` clock pulse?", "README.md", "hazard", "more than one edge is not excluded"),
     ("What does `changes -` mean?", USING, "6. What is wrong, in a long report?", "`-`: not counted, since it depends on feedback"),
+    ("How often may this node change, behind feedback too?", USING, "9. `change`: how often, behind feedback too?", "the run shows three edges of `qb`"),
     ("Which wire has to be slow for this pulse?", USING, "7. `static`: which wire against which path?", "The sentence is a condition that suffices"),
     ("What do I do after `unsettled` or `stopped`?", USING, "How do I go on?", "Write a script for each outcome"),
     ("What do I write in place of a line that is refused?", USING, "What is refused in a netlist", "| `z = INV(a)`, `z = MUX(s, a, b)` |"),

@@ -8,7 +8,7 @@ use std::process::ExitCode;
 use std::{fs, io};
 
 /// The version of the program.
-const VERSION: &str = "1.0.0";
+const VERSION: &str = "1.1.0";
 
 /// How many bytes of a line are shown.
 const SHOWN: usize = 120;
@@ -36,6 +36,8 @@ const USAGE: &str = "\
 usage:
   hazard analyse NETLIST SCRIPT [--cap N] [--show nodes|all]
                           reports what each change of the script may do
+  hazard edges NETLIST SCRIPT [--cap N] [--show nodes|all]
+                          says how often each variable may change, behind feedback too
   hazard split NETLIST SCRIPT
                           looks for two runs of an unsettled change that end differently
   hazard replay NETLIST RUNS
