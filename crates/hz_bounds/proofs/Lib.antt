@@ -12,5 +12,3 @@ pub mod OneWayFold
 pub mod TwoWayFold
 -- Where what is told and what the witness shows meet, the number is exact
 pub mod Meeting
--- A gate whose word has two changes or more is turned by pins that went, and turned back by more, or by one that returns
-pub mod TurnedBack

@@ -22,7 +22,8 @@ use std::sync::ledger::Blank;
 use std::test::Fail;
 
 // The economy latch: one gate less than the usual one, and a feedback path through its first gate.
-const ECONOMY: &str = "INPUT(d)\nINPUT(g)\nsn = NAND(d, g)\nrn = NAND(sn, g)\nq = NAND(sn, qb)\nqb = NAND(rn, q)\n";
+const ECONOMY: &str =
+    "INPUT(d)\nINPUT(g)\nsn = NAND(d, g)\nrn = NAND(sn, g)\nq = NAND(sn, qb)\nqb = NAND(rn, q)\n";
 
 // A pulse of one source, which reconverges.
 const TWICE: &str = "INPUT(x)\nm = XOR(x, x)\nz = OR(m, m)\n";
@@ -31,11 +32,11 @@ const TWICE: &str = "INPUT(x)\nm = XOR(x, x)\nz = OR(m, m)\n";
 const TWICE_AND_LATE: &str = "INPUT(x)\nm = XOR(x, x)\nb = BUFF(m)\nz = OR(m, b)\n";
 
 // A pulse, and how it goes on along a chain, which ends where it began, and into a gate that changes itself.
-const CHAIN: &str =
-    "INPUT(x)\nn = NOT(x)\np = AND(x, n)\nq = BUFF(p)\nr = NOT(q)\nz = OR(x, p)\n";
+const CHAIN: &str = "INPUT(x)\nn = NOT(x)\np = AND(x, n)\nq = BUFF(p)\nr = NOT(q)\nz = OR(x, p)\n";
 
 // A C element of gates: c rises when a and b are 1, falls when both are 0, and else keeps its value.
-const JOIN: &str = "INPUT(a)\nINPUT(b)\nab = AND(a, b)\nac = AND(a, c)\nbc = AND(b, c)\nc = OR(ab, ac, bc)\n";
+const JOIN: &str =
+    "INPUT(a)\nINPUT(b)\nab = AND(a, b)\nac = AND(a, c)\nbc = AND(b, c)\nc = OR(ab, ac, bc)\n";
 
 // A ring of buffers that one gate feeds, and what stands behind it.
 const FED: &str = "INPUT(x)\np = OR(x, w)\nv = BUFF(p)\nw = BUFF(v)\nz = NOT(w)\n";

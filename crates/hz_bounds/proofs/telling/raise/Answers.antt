@@ -1,5 +1,5 @@
 -- The word that is told anew is not known, and is counted.
-use Rattle.std.proofs.Common.{arith, sym, subst, ◌∙◌}
+use Rattle.std.proofs.Common.{arith, false, refl, sym, subst, ◌∙◌}
 use Rattle.hz_net.specs.Network.{bit_at}
 use Rattle.hz_word.specs.declared.count.Count.{Count}
 use Rattle.hz_word.specs.Capped.{IsWithinCap}
@@ -14,4 +14,4 @@ returns c =
       | else-often w ↦ subst (λ (count : Count). IsWithinCap c.args.telling.now.cap count) (sym w.changes-is) c.given-word.ensures.counted
     ] in
     raised c.args.telling.now c.args.told.now c.args.var (record { first = bit_at c.args.telling.now.start.now c.args.var; changes = c.if-often.changes }) c.requires.told
-    (omega (arith, c.requires.var, c.requires.told.long)) within (sym c.known.ensures ∙ not-known c.known.result _ c.if-is_some.ensures c.if-is_some.false)
+    (omega (arith, c.requires.var, c.requires.told.long)) within (sym c.known.ensures ∙ not-known c.known.result false c.if-is_some.ensures refl)

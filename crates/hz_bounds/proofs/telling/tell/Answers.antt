@@ -12,7 +12,7 @@ tell_all-requires-clause-telling c =
     let filled : c.in_ok-words.words.items ≡ replicate c.len.result None = search rules in
     let old : length c.in_ok-words.words.items ≡ c.len.result = ap length filled ∙ length-replicate {A = Option Word} c.len.result None in
     let new = c.words_given_a.new.out in
-    let size : length new ≡ c.len.result = c.words_given_a.ensures.long ∙ sym c.len.ensures.variables in
+    let size : length new ≡ c.len.result = c.words_given_a.ensures.long ∙ sym c.len.ensures.len in
     let same : c.as_slice.result.now ≡ new = c.as_slice.ensures.value
     ∙ written-whole new c.in_ok-words.words.items c.in_ok-words.words.len (omega (arith, size, old, c.in_ok-words.words.ok.0)) (sym c.in_ok-words.words.ok.0) in
     record {
