@@ -76,6 +76,7 @@ pub(crate) fn raise_in_order(
         parts: vec![in alloc; 0; telling.net.len() as usize]?,
         rises: vec![in alloc; 0; telling.net.len() as usize]?,
         due: Vec::new(alloc),
+        waits: vec![in alloc; false; telling.net.len() as usize]?,
         part: 0,
     };
     for (part, var) in order {
@@ -86,7 +87,7 @@ pub(crate) fn raise_in_order(
             raising.raise_due(telling, told)?;
             raising.part = *part;
         }
-        raising.due.push(*var)?;
+        raising.add(*var)?;
     }
     raising.raise_due(telling, told)
 }
@@ -97,6 +98,7 @@ struct Raising {
     parts: Vec<u32>,
     rises: Vec<u8>,
     due: Vec<u32>,
+    waits: Vec<bool>,
     part: u32,
 }
 
@@ -120,6 +122,7 @@ impl Raising {
                 break;
             }
             let var = self.due[place];
+            self.take(var);
             if var < telling.net.len()
                 && self.rises.len() == told.len()
                 && raise(telling, self.rises.as_mut_slice(), told, var)
@@ -140,9 +143,27 @@ impl Raising {
             if let Some(part) = self.parts.get(*reader as usize)
                 && *part == self.part
             {
-                self.due.push(*reader)?;
+                self.add(*reader)?;
             }
         }
         Ok(())
+    }
+
+    // A variable is due, once as long as it waits.
+    fn add(&mut self, var: u32) -> Result<(), Memory> {
+        let place = var as usize;
+        if place < self.waits.len() && !self.waits[place] {
+            self.waits[place] = true;
+            self.due.push(var)?;
+        }
+        Ok(())
+    }
+
+    // A variable waits no more.
+    fn take(&mut self, var: u32) {
+        let place = var as usize;
+        if place < self.waits.len() {
+            self.waits[place] = false;
+        }
     }
 }
