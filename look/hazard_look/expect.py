@@ -162,10 +162,8 @@ class _Bench:
         return Answer(holds, "" if holds else f"its class is {kind_of(row)}", what.node)
 
     def _of_edges(self, what, row):
-        if row.most is not None and row.most <= what.most:
-            return Answer(True, "", what.node)
-        return Answer(False, f"a run makes {row.least}" if row.least > what.most else f"no bound on its edges is known but that {row.least} are possible" if row.most is None
-                      else f"{row.most} are not excluded", what.node)
+        holds = row.most is not None and row.most <= what.most
+        return Answer(holds, "" if holds else f"it may make {row.edges()}", what.node)
 
     def _of_settled(self):
         unsettled = next((row.name for row in self.change.rows.values() if row.end == "X"), "")

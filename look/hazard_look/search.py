@@ -83,7 +83,7 @@ class Searcher:
         """The run of the report up to a change of a node, cut to what this change needs. `moving` has the nodes that may move at all."""
         cone = self.network.cone(node)
         steps = _to_edge([[variable] for step in self.printed() for variable in step if variable in cone], node, count)
-        kept = list(sliced(self.follower, steps, node, moving))
+        kept = sliced(History(self.follower, steps, moving), steps, node, count)
         steps = kept if is_run(self.follower, kept) else steps
         return shorten(self.follower, steps, Edges(node, count)) if len(steps) < MOST_TRIED else steps
 
@@ -163,11 +163,23 @@ def _to_edge(steps, node, count):
     return steps[:places[count - 1] + 1]
 
 
-def sliced(follower, steps, node, moving):
-    """The changes of a run, one after the other, without those that no change of a node needs."""
-    history = History(follower, steps, moving)
-    fires, value, inputs = history.fires, history.value, follower.network.inputs
-    waiting, kept, made = [(node, len(fires.get(node, ())))], {}, {}
+def sliced(history, steps, node, count):
+    """The changes of a run without those that no change of a node needs, up to one by its number: first what its first change needs, then
+    what the next one needs besides, and so on."""
+    made, parts, needed = {}, [[] for _ in range(count)], [_needed(history, node, change) for change in range(1, count + 1)]
+    for step in steps:
+        variable, = step
+        made[variable] = made.get(variable, 0) + 1
+        at = next((at for at, kept in enumerate(needed) if made[variable] <= kept.get(variable, 0)), None)
+        if at is not None:
+            parts[at].append(step)
+    return [step for part in parts for step in part]
+
+
+def _needed(history, node, change):
+    """How many changes of each variable a change of a node needs."""
+    fires, value, inputs = history.fires, history.value, history.network.inputs
+    waiting, kept = [(node, change)], {}
     while waiting:
         variable, changes = waiting.pop()
         before = kept.get(variable, 0)
@@ -175,11 +187,7 @@ def sliced(follower, steps, node, moving):
             kept[variable] = changes
             for change in range(before + 1, changes + 1) if variable >= inputs else ():
                 waiting += [one for one in history.cube(variable, fires[variable][change - 1], value(variable, change)) if one[1]]
-    for step in steps:
-        variable, = step
-        made[variable] = made.get(variable, 0) + 1
-        if made[variable] <= kept.get(variable, 0):
-            yield step
+    return kept
 
 
 def is_run(follower, steps):

@@ -29,7 +29,7 @@ def rows(folder, model, hazard, write, root):
         for kind, nodes in kinds.items():
             told[kind] = told.get(kind, 0) + len(nodes)
     print("classes: " + ", ".join(f"{count} {kind}" for kind, count in sorted(told.items())))
-    yield "enough of each class", min(told.get(kind, 0) for kind in ("steady", "single", "static", "dynamic", "unsettled")) > 10, True
+    yield "enough of each class", min(told.get(kind, 0) for kind in ("steady", "single", "static", "dynamic", "unsettled")) >= 10, True
     covered = 0
     for path in sorted(glob.glob(os.path.join(root, "examples", "*.txt"))):
         files = [path[:-len(".txt")] + ".bench", path]

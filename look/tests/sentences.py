@@ -10,7 +10,7 @@ import subprocess
 
 import circuits
 from hazard_look import netlist as netlists
-from hazard_look import one_edge, why
+from hazard_look import why
 from hazard_look.history import History
 from hazard_look.moves import is_clean
 from hazard_look.network import Follower, Network
@@ -59,21 +59,19 @@ class Case:
 def _cases(hazard, files):
     """The sentences of a circuit: one of a node that may pulse, one of each end of an unsettled node."""
     circuit = netlists.read(open(files[0], encoding="utf-8").read())
-    change = next(hazard.analyse(*files).changes)
+    change = next(hazard.edges(*files).changes)
     network = Network(circuit, is_sorted=True)
     searcher = Searcher(network, change.run_lines)
-    moving = {network.number[row.name] for row in change.rows.values() if row.a == "X"}
-    edges = one_edge.one_edge(circuit, change.rows)
-    for row in [row for row in change.rows.values() if not is_clean(row, edges)][:3]:
+    moving = {network.number[row.name] for row in change.rows.values() if row.moves()}
+    for row in [row for row in change.rows.values() if not is_clean(row)][:3]:
         node = network.number[row.name]
         if row.kind == "unsettled":
             for bit, steps in searcher.endings(node).items():
                 yield from _case(searcher, node, f"end at {bit}", steps, moving, 0, lambda _, end, bit=bit: end == bit)
-        else:
-            wanted = 2 if row.kind == "static" else 3
+        elif row.least > 1:
+            wanted = min(row.least, 3)
             steps = searcher.edges(node, wanted, moving)
-            if steps is not None:
-                yield from _case(searcher, node, row.kind, steps, moving, wanted, lambda count, _, wanted=wanted: count >= wanted)
+            yield from _case(searcher, node, row.kind, steps, moving, wanted, lambda count, _, wanted=wanted: count >= wanted)
 
 
 def _case(searcher, node, what, steps, moving, edges, holds):
