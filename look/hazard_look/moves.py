@@ -18,8 +18,16 @@ def kind_of(row):
 
 
 def classes_of(row):
-    """The words that an expectation may use for the class of a node. What is certain is not excluded either."""
-    return {row.kind, kind_of(row)} | ({"clean"} if is_clean(row) else set()) | ({f"maybe-{row.kind}"} if row.kind in ("static", "dynamic") else set())
+    """The words that an expectation may use for the class of a node. What is certain is not excluded either, and `change` is what goes to
+    the other value."""
+    kinds = {row.kind, kind_of(row)}
+    if is_clean(row):
+        kinds.add("clean")
+    if row.kind in ("static", "dynamic"):
+        kinds.add(f"maybe-{row.kind}")
+    if row.kind in ("single", "dynamic", "maybe-dynamic"):
+        kinds.add("change")
+    return kinds
 
 
 class Moves:
