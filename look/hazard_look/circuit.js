@@ -79,7 +79,7 @@ function box(node, place, value, moved) {
   }
   group.append(make("rect", { class: "body", width, height, rx: 5 }));
   group.append(make("text", { class: "name", x: 7, y: 14 }, cut(DATA.names[node], 14)));
-  group.append(make("text", { x: 7, y: 28 }, `${cut(DATA.gates[node], 7)}  A ${row.a[node]}  B ${row.b[node]}`));
+  group.append(make("text", { x: 7, y: 28 }, `${cut(DATA.gates[node], 7)}  ${row.start[node]} to ${row.end[node]}`));
   group.append(make("text", { x: 7, y: 41 }, kindOf(node).replace("dynamic", "dyn.")));
   group.append(make("circle", { class: "badge", cx: width, cy: height / 2, r: 9 }));
   group.append(make("text", { class: "value", x: width - 3.5, y: height / 2 + 4 }, value[node]));

@@ -16,7 +16,6 @@ from .errors import DOES_NOT_HOLD, DONE, NOT_ACCEPTED, SCRIPT_FAULT, Failure, sa
 from .expectations import EDGE
 from .lines import spelt
 from .moves import is_clean
-from .one_edge import one_edge
 from .resting import Resting
 
 _CLOCK = re.compile(r"\bclock (\S+) (rising|falling)\b")
@@ -26,7 +25,7 @@ _EDGE = re.compile(r"(?:([^\s=]+)(?:=([01]))?)?$")
 
 def run(words, out):
     """Writes the script with its edges written out, all of it or nothing."""
-    start = words.program.analyse(words.netlist, words.script).start
+    start = words.program.edges(words.netlist, words.script).start
     circuit = load(words.netlist)
     writer = _Writer(circuit, words.script, start)
     for statement in script.read(words.script):
@@ -49,13 +48,13 @@ def _warn(circuit):
 def _check(words, circuit, writer, text):
     """Compares the values after each change with the report on the script that is to be written, and warns of pulses."""
     at_rest = dict(writer.start)
-    for change, made in zip(words.program.analyse_lines(words.netlist, text), writer.made):
-        unsettled = next((row.name for row in change.rows.values() if row.b == "X"), None)
+    for change, made in zip(words.program.edges_of_text(words.netlist, text), writer.made):
+        unsettled = next((row.name for row in change.rows.values() if row.end == "X"), None)
         where = f"{words.script}:{made.number}"
         if unsettled:
             raise Failure(f"{where}: {unsettled} does not settle after `change{spelt(made.values)}`", DOES_NOT_HOLD)
         at_rest.update(made.settled)
-        if any(str(at_rest[row.name]) != row.b for row in change.rows.values()):
+        if any(str(at_rest[row.name]) != row.end for row in change.rows.values()):
             raise Failure(f"{where}: the values after `change{spelt(made.values)}` are not those of the report", NOT_ACCEPTED)
         for line in _pulses(circuit, change.rows):
             say(f"hazard-look: {where}: {line}")
@@ -63,10 +62,10 @@ def _check(words, circuit, writer, text):
 
 def _pulses(circuit, rows):
     """The clocks and resets that may pulse: a flip-flop may take a pulse for an edge or a reset, and the script does not."""
-    found, edges = {}, one_edge(circuit, rows)
+    found = {}
     for cut in circuit.cuts:
         clock, reset = _CLOCK.search(cut.comment), _RESET.search(cut.comment)
-        if clock and not is_clean(rows[clock[1]], edges):
+        if clock and not is_clean(rows[clock[1]]):
             found.setdefault(f"the clock {clock[1]} may pulse, and the script has no edge for it", []).append(cut.name)
         if reset and rows[reset[1]].kind == "static" and rows[reset[1]].start != reset[2]:
             found.setdefault(f"the reset {reset[1]} may pulse, and the script resets nothing", []).append(cut.name)
@@ -81,10 +80,10 @@ def left_out(circuit, change, following):
     found, rows = [], change.rows
     for cut in circuit.cuts:
         clock, reset = _CLOCK.search(cut.comment), _RESET.search(cut.comment)
-        is_reset = bool(reset) and rows[reset[1]].b == reset[2]
+        is_reset = bool(reset) and rows[reset[1]].end == reset[2]
         if clock and not is_reset and cut.name not in change.assigned and cut.name not in following:
             row, new = rows[clock[1]], str(int(clock[2] == "rising"))
-            if row.start != new == row.b and rows[cut.data].start != rows[cut.name].start:
+            if row.start != new == row.end and rows[cut.data].start != rows[cut.name].start:
                 found.append(cut.name)
     if not found:
         return []

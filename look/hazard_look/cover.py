@@ -15,9 +15,9 @@ MOST_WORK = 200_000
 def told(circuit, change, row):
     """A line on the hazard of a row, or none."""
     gates, inputs = _cone(circuit, row.name)
-    if gates is None or row.kind not in ("static", "maybe-dynamic"):
+    if gates is None or row.kind not in ("static", "dynamic"):
         return []
-    changed = [name for name in inputs if change.rows[name].a == "X"]
+    changed = [name for name in inputs if change.rows[name].moves()]
     if len(changed) > MOST_INPUTS:
         return []
     start = {name: int(change.rows[name].start) for name in inputs}
@@ -26,7 +26,7 @@ def told(circuit, change, row):
     other = values ^ (every if old else 0)
     if row.kind == "static" and other:
         return [f"a function hazard: with {_changed(changed, start, _lowest(other))} alone changed it is {1 - old}, so no cover takes it away"]
-    if row.kind == "maybe-dynamic":
+    if row.kind == "dynamic":
         return ["a function hazard: its function goes back and forth between the old inputs and the new ones, so no cover takes it away" if _goes_back(other, every, len(changed))
                 else "a logic hazard: its function changes once between the old inputs and the new ones"]
     term = _term(gates, start, changed, inputs, row.name, old)

@@ -1,15 +1,13 @@
 """The job `expect`: expectations in the comments of a script, so that the script stays one and is a test as well."""
 import json
-from functools import cached_property
 from typing import NamedTuple, Optional
 
 from . import expectations, junit, runtext, script
 from .circuit import load
 from .errors import DOES_NOT_HOLD, DONE, WRONG_WORDS, Failure
 from .expectations import Class, Edges, Never
-from .moves import Moves, classes_of, kind_of, most_edges
+from .moves import Moves, classes_of, kind_of
 from .network import Network
-from .one_edge import one_edge
 from .search import Searcher, Values
 
 
@@ -38,7 +36,7 @@ class Tally:
 
 def run(words, out):
     """Checks the expectations of a script, and writes a line for each that does not hold."""
-    report = words.program.analyse(words.netlist, words.script)
+    report = words.program.edges(words.netlist, words.script)
     tally = checked(words, report.changes, words.junit)
     if not tally.all:
         raise Failure("no comment of the script begins with `#expect`, so nothing is checked", WRONG_WORDS)
@@ -144,17 +142,11 @@ class _Bench:
     def goes_on(self, change):
         """Takes up the next change."""
         self.change = change
-        self.__dict__.pop("edges", None)
         self.open = {span: moves for span, moves in self.open.items() if span[1] >= change.number}
         self.open.update((span, Moves(self.circuit)) for span in self.begin.get(change.number, ()))
         if not change.stopped:
             for moves in self.open.values():
-                moves.add(change, self.edges)
-
-    @cached_property
-    def edges(self):
-        """The nodes that the rule of one edge covers."""
-        return one_edge(self.circuit, self.change.rows)
+                moves.add(change)
 
     def answer(self, one, first):
         """Whether an expectation holds."""
@@ -166,22 +158,21 @@ class _Bench:
         return self._of_never(one.what) if isinstance(one.what, Never) else self._of_settled()
 
     def _of_class(self, what, row):
-        kinds = classes_of(row, self.edges)
-        holds = not kinds.isdisjoint(what.kinds)
+        holds = not classes_of(row).isdisjoint(what.kinds)
         return Answer(holds, "" if holds else f"its class is {kind_of(row)}", what.node)
 
     def _of_edges(self, what, row):
-        most = most_edges(row, self.edges)
-        holds = most is not None and most <= what.most
-        return Answer(holds, "" if holds else f"it may make {'more edges, which are not counted' if most is None else most}", what.node)
+        holds = row.most is not None and row.most <= what.most
+        return Answer(holds, "" if holds else f"it may make {row.edges()}", what.node)
 
     def _of_settled(self):
-        unsettled = next((row.name for row in self.change.rows.values() if row.b == "X"), "")
+        unsettled = next((row.name for row in self.change.rows.values() if row.end == "X"), "")
         return Answer(not unsettled, f"{unsettled} is unsettled" if unsettled else "", unsettled)
 
     def _of_never(self, what):
-        """A value that A excludes is never there, which is proved. Otherwise a state with the values is looked for."""
-        if any(self.change.rows[name].a == str(1 - bit) for name, bit in what.values.items()):
+        """A node that is steady never has its other value, which is proved. Otherwise a state with the values is looked for."""
+        rows = self.change.rows
+        if any(not rows[name].moves() and rows[name].start != str(bit) for name, bit in what.values.items()):
             return Answer(True, "")
         searcher = Searcher(self.network, self.change.run_lines)
         cone = set().union(*(self.network.cone(self.network.number[name]) for name in what.values))

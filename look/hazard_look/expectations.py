@@ -9,7 +9,7 @@ from .lines import assigned
 from .report import CLASSES
 
 # What a class may be besides those of a report.
-MORE_CLASSES = ("clean", "static-0", "static-1")
+MORE_CLASSES = ("clean", "static-0", "static-1", "change")
 # What is expected of an edge as a whole has this in front.
 EDGE = "edge:"
 FORMS = "`NODE CLASS`, `NODE CLASS or CLASS`, `edges NODE <= N`, `never NODE=BIT ..`, `settled`"

@@ -1,8 +1,8 @@
 // What the data of the page say: the circuit, the changes, the runs. A variable is the number of a node, or, after the nodes, of a wire, by
-// gate and pin. DATA has for each change the rows of the report, its runs, and runs of `why`, which `hazard replay` has accepted.
+// gate and pin. DATA has for each change the rows of the report, its run, and runs of `why`, which `hazard replay` has accepted.
 
 const MOST_NEAR = 60, MOST_LISTED = 200;
-const LOOKS = ["still", "once", "pulses", "pulses", "pulses", "open", "once"];
+const LOOKS = ["still", "once", "pulses", "pulses", "pulses", "pulses", "open"];
 const view = { change: 0, node: 0, run: 0, step: 0, hidden: false, faded: false, whole: false, timer: null, speed: 2 };
 const gateOf = [], sourceOf = [], pinOf = [], firstWire = [], readers = DATA.names.map(() => []);
 const byId = id => document.getElementById(id);
@@ -24,20 +24,22 @@ const isAnalysed = () => Boolean(change() && !change().stopped);
 const kindOf = node => change().kinds[node] || DATA.kinds[+change().kind[node]];
 const classOf = node => DATA.kinds[+change().kind[node]];
 const lookOf = node => (isAnalysed() ? LOOKS[+change().kind[node]] : "still");
-const mayMove = node => change().a[node] === "X";
+const mayMove = node => classOf(node) !== "steady";
 const wireName = wire => `${DATA.names[gateOf[wire - NODES]]}(${pinOf[wire - NODES]})`;
 const nameOf = variable => (variable < NODES ? DATA.names[variable] : wireName(variable));
 const placeOf = node => [DATA.origins[node], DATA.lines[node] ? `${DATA.files[0]}:${DATA.lines[node]}` : ""].filter(Boolean).join(", ");
 
-/** The runs of the change: first those that say why a node has its hazard, then those of the report. */
+/** The least and the most edges of a node; without a bound the most is null. */
+const rangeOf = node => change().edges[node] || (mayMove(node) ? [1, 1] : [0, 0]);
+const rangeWord = ([least, most]) => (most === least ? `${least}` : `${least}..${most ?? ""}`);
+
+/** The runs of the change: first those that say why a node has its hazard, then that of the report. */
 function runsOf() {
   if (!isAnalysed()) return [];
-  const { why = [], runs, cycle } = change();
-  const turns = runs[1] && runs[1].length > cycle;
+  const { why = [], run } = change();
   return [
     ...why.map(one => ({ ...one, title: `why ${DATA.names[one.node]}: ${one.title}` })),
-    ...(runs[1] ? [{ title: turns ? "report: settle run, then its cycle" : "report: settle run", steps: runs[1], cycle }] : []),
-    ...(runs[0] ? [{ title: "report: spread run, each X of A once", steps: runs[0], cycle: null }] : []),
+    ...(run ? [{ title: "report: the run of all nodes", steps: run, cycle: null }] : []),
   ];
 }
 
@@ -104,10 +106,10 @@ function usualNode(at) {
   if (!one || one.stopped) return 0;
   if (one.hazards.length) return one.hazards[0];
   const changed = [...one.target].findIndex((bit, node) => bit !== one.start[node]);
-  return Math.max(0, changed >= 0 ? changed : one.a.indexOf("X"));
+  return Math.max(0, changed >= 0 ? changed : [...one.kind].findIndex(kind => DATA.kinds[+kind] !== "steady"));
 }
 
-/** The run that shows most of a node: one of `why`, or else the settle run. */
+/** The run that shows most of a node: one of `why`, or else that of the report. */
 function usualRun(node) {
   const at = runsOf().findIndex(one => one.node === node);
   return at >= 0 ? at : (change()?.why || []).length;

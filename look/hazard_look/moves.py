@@ -5,33 +5,29 @@ A node that makes one clean edge in each half of a clock edge pulses across the 
 from .report import Row
 
 
-def is_clean(row, edges):
-    """Whether a node keeps its value or makes one edge, `edges` being the nodes that the rule of one edge covers."""
-    return row.kind in ("steady", "single") or row.kind == "change" and row.name in edges
+def is_clean(row):
+    """Whether a node keeps its value or makes one edge."""
+    return row.kind in ("steady", "single")
 
 
 def kind_of(row):
     """The class of a node with its values, as the literature names hazards: static-1, or from 0 to 1."""
-    if row.kind == "static":
-        return f"static-{row.start}"
-    return f"maybe-dynamic {row.start}-{1 - int(row.start)}" if row.kind == "maybe-dynamic" else row.kind
+    if row.kind.endswith("static"):
+        return f"{row.kind}-{row.start}"
+    return f"{row.kind} {row.start}-{1 - int(row.start)}" if row.kind.endswith("dynamic") else row.kind
 
 
-def classes_of(row, edges):
-    """The words that an expectation may use for the class of a node."""
+def classes_of(row):
+    """The words that an expectation may use for the class of a node. What is certain is not excluded either, and `change` is what goes to
+    the other value."""
     kinds = {row.kind, kind_of(row)}
-    if is_clean(row, edges):
-        kinds |= {"clean"} | ({"single"} if row.kind == "change" else set())
+    if is_clean(row):
+        kinds.add("clean")
+    if row.kind in ("static", "dynamic"):
+        kinds.add(f"maybe-{row.kind}")
+    if row.kind in ("single", "dynamic", "maybe-dynamic"):
+        kinds.add("change")
     return kinds
-
-
-def most_edges(row, edges):
-    """How many edges a node makes at most; None if they are not counted."""
-    if row.kind == "steady":
-        return 0
-    if is_clean(row, edges):
-        return 1
-    return int(row.changes) if row.changes.isdigit() else None
 
 
 class Moves:
@@ -40,29 +36,24 @@ class Moves:
     def __init__(self, circuit):
         self.circuit, self.found, self.last = circuit, {}, {}
 
-    def add(self, change, edges):
+    def add(self, change):
         """Takes up the next change."""
         self.last = change.rows
         for row in change.rows.values():
-            if row.kind != "steady":
-                most = most_edges(row, edges)
-                self.found.setdefault(row.name, []).append((change.number, row, most, is_clean(row, edges)))
+            if row.moves():
+                self.found.setdefault(row.name, []).append((change.number, row))
 
     def row(self, name):
-        """The row of a node for all of the changes together."""
-        told = self.found.get(name, [])
-        if not told:
-            return self.last[name]
-        if len(told) == 1:
-            _, row, _, clean = told[0]
-            return row._replace(kind="single") if clean else row
-        counts = [most for _, _, most, _ in told]
-        start, end = told[0][1].start, told[-1][1].b
-        kind = "unsettled" if end == "X" else "static" if end == start else "maybe-dynamic"
-        return Row(name, start, "X", end, "-" if None in counts else str(sum(counts)), kind)
+        """The row of a node for all of the changes together: the printed runs go on one after the other."""
+        told = [row for _, row in self.found.get(name, [])]
+        if len(told) < 2:
+            return told[0] if told else self.last[name]
+        start, end, bounds = told[0].start, told[-1].end, [row.most for row in told]
+        kind = "unsettled" if end == "X" else "static" if end == start else "dynamic"
+        return Row(name, start, end, sum(row.least for row in told), None if None in bounds else sum(bounds), kind)
 
     def pulses(self):
         """The nodes that make a clean edge in more than one of the changes, with the numbers of these changes."""
         for name, told in self.found.items():
-            if len(told) > 1 and all(clean for _, _, _, clean in told):
-                yield name, [number for number, _, _, _ in told]
+            if len(told) > 1 and all(is_clean(row) for _, row in told):
+                yield name, [number for number, _ in told]

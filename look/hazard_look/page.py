@@ -12,9 +12,8 @@ from .circuit import load
 from .errors import DONE, read_file
 from .moves import is_clean, kind_of
 from .network import Network
-from .one_edge import one_edge
 from .report import CLASSES
-from .summary import MEANINGS, ONE_EDGE, roots
+from .summary import MEANINGS, roots
 
 HERE = os.path.dirname(os.path.abspath(__file__))
 PROGRAM = ("layout.js", "model.js", "circuit.js", "panels.js", "page.js")
@@ -24,13 +23,12 @@ MOST_DRAWN = 300
 MOST_FLIPS = 2_000_000
 # Of so many changes at most it says why their worst root has a hazard, and only as long as the circuits are not larger than this in all.
 MOST_WHYS, MOST_SEARCHED = 12, 400_000
-KINDS = CLASSES + (ONE_EDGE,)
-SEVERITY = ("unsettled", "maybe-dynamic", "static", "change")
+SEVERITY = ("unsettled", "dynamic", "static", "maybe-dynamic", "maybe-static")
 
 
 def run(words, out):
     """Writes the page of a netlist and a script."""
-    report = words.program.analyse(words.netlist, words.script)
+    report = words.program.edges(words.netlist, words.script)
     statements = script.must_be_written_out(words.script)
     circuit = load(words.netlist)
     network = Network(circuit)
@@ -43,7 +41,7 @@ def run(words, out):
         "title": f"{os.path.basename(words.netlist)}, {os.path.basename(words.script)}",
         "files": [words.netlist, words.script],
         "most": MOST_DRAWN,
-        "kinds": KINDS,
+        "kinds": CLASSES,
         "meanings": MEANINGS,
         **_circuit(circuit, network),
         "places": _places(circuit) if len(circuit.nodes) <= MOST_DRAWN else None,
@@ -109,17 +107,16 @@ class _Changes:
         """A change: its rows as a letter a node, the nodes that are not clean, and the runs."""
         if change.stopped:
             return {"stopped": change.stopped}
-        edges = one_edge(self.circuit, change.rows)
-        hazards = [row for row in change.rows.values() if not is_clean(row, edges)]
+        hazards = [row for row in change.rows.values() if not is_clean(row)]
         first = self._worst(hazards)
-        told = {**_rows(change, self.network, edges), "hazards": [self.network.number[row.name] for row in first]}
+        told = {**_rows(change), "hazards": [self.network.number[row.name] for row in first]}
         if hazards:
             told["roots"] = len([row for row in first if row.name in self.roots])
         text = runtext.read(change.run_lines)
-        self.left -= sum(len(step) for run in text.runs for step in run.lead + (run.cycle or []))
-        told.update(_runs(text, self.network) if self.left > 0 else {"runs": [], "target": ""})
+        self.left -= sum(map(len, text.runs[0].lead))
+        told.update(_run(text, self.network) if self.left > 0 else {"run": None, "target": ""})
         if hazards and self.left > 0:
-            told["why"] = self._why(change, first[0], edges)
+            told["why"] = self._why(change, first[0])
         return told
 
     def _worst(self, hazards):
@@ -128,13 +125,13 @@ class _Changes:
         outputs = set(self.circuit.outputs)
         return sorted(hazards, key=lambda row: (row.name not in self.roots, row.name in self.noise, SEVERITY.index(row.kind), row.name not in outputs))
 
-    def _why(self, change, row, edges):
+    def _why(self, change, row):
         """Runs that show why a node has its class, each with what is said of it; none if the page has enough of them."""
         self.whys, self.searched = self.whys - 1, self.searched - len(self.network.names)
         if self.whys < 0 or self.searched < 0:
             return []
         self.sorted = self.sorted or Network(self.circuit, is_sorted=True)
-        searcher, shown = why.explained(self.sorted, change, row, edges)
+        searcher, shown = why.explained(self.words, self.sorted, change, row)
         named = [runtext.Run(searcher.named(one.lead), None if one.cycle is None else searcher.named(one.cycle)) for one in shown]
         self.words.program.must_accept(self.words.netlist, searcher.text.of(named))
         shown[0].told[:0] = cover.told(self.circuit, change, row)
@@ -143,26 +140,22 @@ class _Changes:
                  "cycle": len(run.lead) if run.cycle else None} for one, run in zip(shown, named)]
 
 
-def _rows(change, network, edges):
+def _rows(change):
     """The columns of a change's rows."""
     rows = list(change.rows.values())
-    kinds = [ONE_EDGE if row.kind == "change" and row.name in edges else row.kind for row in rows]
     return {
         "start": "".join(row.start for row in rows),
-        "a": "".join(row.a for row in rows),
-        "b": "".join(row.b for row in rows),
-        "kind": "".join(str(KINDS.index(kind)) for kind in kinds),
-        "counts": {at: row.changes for at, row in enumerate(rows) if row.changes not in ("0", "1", "-")},
-        "kinds": {at: kind_of(row) for at, row in enumerate(rows) if row.kind in ("static", "maybe-dynamic")},
+        "end": "".join(row.end for row in rows),
+        "kind": "".join(str(CLASSES.index(row.kind)) for row in rows),
+        "edges": {at: [row.least, row.most] for at, row in enumerate(rows) if not is_clean(row)},
+        "kinds": {at: kind_of(row) for at, row in enumerate(rows) if kind_of(row) != row.kind},
     }
 
 
-def _runs(text, network):
-    """The runs as lists of steps, the step at which the second one's cycle begins, and the input under which they go."""
-    steps = lambda run: [[network.number[name] for name in step] for step in run.lead + (run.cycle or [])]
+def _run(text, network):
+    """The run as a list of steps, and the input under which it goes."""
     return {
-        "runs": [steps(run) for run in text.runs],
-        "cycle": len(text.runs[1].lead),
+        "run": [[network.number[name] for name in step] for step in text.runs[0].lead],
         "target": "".join(str(text.target[name]) for name in network.netlist.inputs),
     }
 

@@ -28,7 +28,7 @@ function drawChanges() {
   if (part.length < shown.length) more(list, "changes", `changes ${part[0] + 1} to ${part[part.length - 1] + 1} of ${DATA.changes.length}: show all`, drawChanges);
   for (const at of part) {
     const one = DATA.changes[at];
-    const worst = one.failed ? "failed" : one.stopped ? "stopped" : one.b.includes("X") ? "open" : one.hazards.length ? "pulses" : "once";
+    const worst = one.failed ? "failed" : one.stopped ? "stopped" : one.end.includes("X") ? "open" : one.hazards.length ? "pulses" : "once";
     const button = put(list, "button", undefined, `${worst}${at === view.change ? " chosen" : ""}`);
     put(button, "span", one.title).title = `${DATA.files[1]}:${one.line}: ${one.title}`;
     put(button, "small", verdictOf(one) + (one.failed ? `; ${one.failed.length} #expect failed` : ""));
@@ -53,15 +53,14 @@ function drawRow() {
   const room = byId("row"), node = view.node;
   room.replaceChildren();
   if (!isAnalysed()) return;
-  const usual = { "single": "1", "one edge": "1", "steady": "0" };
-  const count = change().counts[node] || usual[classOf(node)] || "not counted";
-  const values = { start: change().start[node], new: 1 - change().start[node], most: count };
+  const [least, most] = rangeOf(node), bound = most === null ? "no bound on its edges is known" : `no run makes more${most === least ? "" : ` than ${most}`}`;
+  const values = { start: change().start[node], new: 1 - change().start[node], least, bound };
   put(room, "h2", DATA.names[node]);
   put(room, "div", DATA.meanings[classOf(node)].replace(/\{(\w+)\}/g, (_, word) => values[word]));
   drawWhy(room, node);
   for (const text of change().failed || []) put(room, "div", `#expect failed: ${text}`, "failed");
-  const lines = [["class", classOf(node) === "one edge" ? "change, one edge by rule" : kindOf(node)], ["kind", DATA.gates[node]], ["start", values.start],
-    ["A, on the way", change().a[node]], ["B, at last", change().b[node]], ["most edges", count], ["stands in", placeOf(node)]];
+  const lines = [["class", kindOf(node)], ["kind", DATA.gates[node]], ["start", values.start],
+    ["at last", change().end[node]], ["edges", rangeWord([least, most])], ["stands in", placeOf(node)]];
   const table = put(room, "table");
   for (const [head, text] of lines.filter(([, text]) => text !== "")) {
     const line = table.insertRow();

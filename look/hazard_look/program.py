@@ -26,6 +26,7 @@ HINTS = (
     (r"script line \d+: bit", "a value is 0 or 1, so each `?` of `hazard-look start` is to be filled in"),
     (r"script: no value for ", "the start lists each input; `hazard-look start` writes such a line"),
     (r"start: open ", "the inputs do not decide its value, so the start lists it; `hazard-look start` names all such gates"),
+    (r"words;", "this `hazard` is older than `hazard-look`"),
     (r"start: unstable ", "the gate does not have the value of its function, so a listed value is wrong, or the circuit does not rest"),
 )
 
@@ -66,10 +67,10 @@ class Program:
     def __init__(self, path):
         self.path = path
 
-    def analyse(self, netlist, script):
+    def edges(self, netlist, script):
         """The report of two files. Its changes are read while the program writes them."""
         with self._understood():
-            found = report.read(self._lines(["analyse", netlist, script]))
+            found = report.read(self._lines(["edges", netlist, script]))
         return found._replace(changes=self._changes(found.changes))
 
     def _changes(self, changes):
@@ -90,16 +91,28 @@ class Program:
         except report.STRANGE as fault:
             raise Failure(f"{self.path} does not write a report, so it is not `hazard`", NO_PROGRAM) from fault
 
-    def analyse_lines(self, netlist, script):
+    def edges_of_text(self, netlist, script):
         """The changes of the report on a netlist in a file and a script in a text, read while the program writes them."""
         with _file_of(script) as path:
-            yield from self.analyse(netlist, path).changes
+            yield from self.edges(netlist, path).changes
+
+    def last_runs(self, netlist, script):
+        """The lines of the last runs of a report of `hazard analyse`: of the change that leaves a node unsettled, if one does, in which
+        such nodes go on and on."""
+        found, taken = [], None
+        for line in self._lines(["analyse", netlist, script]):
+            taken = [] if line == "runs 2" else taken
+            if taken is not None:
+                taken.append(line)
+            if line == "end" and taken:
+                found, taken = taken, None
+        return found
 
     def must_read(self, netlist):
         """Fails with the program's refusal unless it reads a netlist. A script that is none is only looked at after that."""
         with _file_of("") as path:
             try:
-                self.analyse(netlist, path)
+                self.edges(netlist, path)
             except Failure as failure:
                 if failure.status != SCRIPT_FAULT:
                     raise

@@ -1,4 +1,4 @@
-"""Reports of `hazard analyse`, read change by change."""
+"""Reports of `hazard edges`, read change by change."""
 from typing import Dict, Iterator, List, NamedTuple, Optional
 
 from .lines import assignments
@@ -7,18 +7,27 @@ from .lines import assignments
 STRANGE = (IndexError, KeyError, RuntimeError, StopIteration, ValueError)
 # So many inputs are named in the title of a change.
 MOST_TITLED = 16
-CLASSES = ("steady", "single", "static", "maybe-dynamic", "change", "unsettled")
+CLASSES = ("steady", "single", "static", "maybe-static", "dynamic", "maybe-dynamic", "unsettled")
 
 
 class Row(NamedTuple):
-    """The line of a node: its value before the change, the letters of A and B, its number of changes, its class."""
+    """The line of a node: its value before the change and at last, X if the delays decide; how often it changes along the printed run,
+    and at most along every run, None if no bound is known; its class."""
 
     name: str
     start: str
-    a: str
-    b: str
-    changes: str
+    end: str
+    least: int
+    most: Optional[int]
     kind: str
+
+    def moves(self):
+        """Whether it changes along some run."""
+        return self.kind != "steady"
+
+    def edges(self):
+        """The range of its changes, as the report has it."""
+        return f"{self.least}" if self.most == self.least else f"{self.least}..{'' if self.most is None else self.most}"
 
 
 class Change(NamedTuple):
@@ -64,16 +73,21 @@ def _changes(lines, nodes):
     for line in lines:
         _, number, *words = line.split()
         number, values = int(number), assignments(words)
-        head, *rest = next(lines).split()
-        if head == "stopped":
-            yield Change(number, values, {}, [], rest[0])
+        line = next(lines)
+        if len(line.split()) == 2:
+            yield Change(number, values, {}, [], line.split()[1])
             continue
         rows = {}
-        for _ in range(nodes):
-            name, _, start, _, a, _, b, _, count, kind = next(lines).split()
-            rows[name] = Row(name, start, a, b, count, kind)
-        next(lines)
+        for at in range(nodes):
+            row = _row(line if at == 0 else next(lines))
+            rows[row.name] = row
         yield Change(number, values, rows, _run_lines(lines), None)
+
+
+def _row(line):
+    name, _, start, _, end, _, edges, kind = line.split()
+    least, is_range, most = edges.partition("..")
+    return Row(name, start, end, int(least), int(most) if most else None if is_range else int(least), kind)
 
 
 def _run_lines(lines):

@@ -1,10 +1,9 @@
-"""Runs of one change that show something: built for it, or found under random delays or among those of the report, and then cut short.
+"""Runs of one change that show something: that of the report, or one under random delays, and then cut short.
 
 A run is here a list of steps, each a list of variable numbers. What is found is shown only after `hazard replay` accepted it.
 """
 import heapq
 import random
-from collections import deque
 from itertools import chain
 from typing import NamedTuple
 
@@ -64,9 +63,9 @@ class Searcher:
         self.follower = Follower(network, self.text.start, self.text.target)
 
     def printed(self):
-        """The runs of the report, each with its cycle."""
-        for run in runtext.read(self.lines).runs:
-            yield [[self.network.number[name] for name in step] for step in run.lead + (run.cycle or [])]
+        """The run of the report."""
+        run, = runtext.read(self.lines).runs
+        return [[self.network.number[name] for name in step] for step in run.lead]
 
     def named(self, steps):
         """Steps with the names of their variables, as a run text has them."""
@@ -74,46 +73,19 @@ class Searcher:
 
     def find(self, goal, cone):
         """A run that reaches a goal, as short as cuts make it, or None if none is found. The goal speaks of a cone alone."""
-        for steps in chain(self.printed(), self._random_runs(cone)):
+        for steps in chain([self.printed()], self._random_runs(cone)):
             found = play(self.follower, ([variable for variable in step if variable in cone] for step in steps), goal)
             if found is not None:
                 return shorten(self.follower, found, goal)
         return None
 
     def edges(self, node, count, moving):
-        """A short run in which a node changes so often, or None if none is found. `moving` has the nodes that may move at all."""
-        cone, goal = self.network.cone(node), Edges(node, count)
-        built = self._built(node, count, cone) if count < 3 else None
-        printed = (play(self.follower, ([variable for variable in step if variable in cone] for step in run), goal) for run in self.printed())
-        for run in chain([built] if built else [], self._random_runs(cone), printed):
-            if run is not None and sum(node in step for step in run) >= count:
-                steps = _to_edge([[variable] for step in run for variable in step], node, count)
-                kept = list(sliced(self.follower, steps, node, moving))
-                steps = kept if is_run(self.follower, kept) else steps
-                return shorten(self.follower, steps, goal) if len(steps) < MOST_TRIED else steps
-        return None
-
-    def _built(self, node, count, cone):
-        """A run to so many edges of a node: to the first one by as few changes as that takes, and then by all others, in turn, until
-        the node comes back; None if it does not."""
-        steps = first_edge(self.follower, node, cone)
-        if steps is None:
-            return None
-        follower, readers = self.follower, self.network.readers
-        kept = follower.kept()
-        follower.flip_all(steps)
-        made, left = (sum(node in step for step in steps)), 4 * len(cone) + 100
-        waiting = deque(variable for variable in sorted(cone) if follower.is_unstable(variable)) if made < count else ()
-        while waiting and made < count and left:
-            variable = waiting.popleft()
-            if follower.is_unstable(variable):
-                follower.flip(variable)
-                steps.append([variable])
-                made += variable == node
-                left -= 1
-                waiting.extend(reader for reader in readers(variable) if reader in cone and follower.is_unstable(reader))
-        follower.back_to(kept)
-        return steps if made == count else None
+        """The run of the report up to a change of a node, cut to what this change needs. `moving` has the nodes that may move at all."""
+        cone = self.network.cone(node)
+        steps = _to_edge([[variable] for step in self.printed() for variable in step if variable in cone], node, count)
+        kept = sliced(History(self.follower, steps, moving), steps, node, count)
+        steps = kept if is_run(self.follower, kept) else steps
+        return shorten(self.follower, steps, Edges(node, count)) if len(steps) < MOST_TRIED else steps
 
     def _random_runs(self, cone):
         """Runs under random delays, the same ones at each call."""
@@ -191,52 +163,23 @@ def _to_edge(steps, node, count):
     return steps[:places[count - 1] + 1]
 
 
-def first_edge(follower, node, cone):
-    """A run in which a node changes once, and no other variable more often; None if the node can't move. Each gate waits until enough
-    of its wires have changed, which go to it alone, and none of the others has."""
-    network, wires, found = follower.network, {}, []
-    waiting = deque(variable for variable in range(network.inputs) if variable in cone and follower.is_unstable(variable))
-    wires.update((variable, []) for variable in waiting)
-    while waiting and node not in wires:
-        source = waiting.popleft()
-        for wire in network.fan_out[source]:
-            gate = network.gate[wire]
-            if gate in cone and gate not in wires:
-                asking = _asking(follower, gate, wire, wires)
-                if asking:
-                    wires[gate] = asking
-                    waiting.append(gate)
-    if node not in wires:
-        return None
-    needed, open_ = {node}, [node]
-    while open_:
-        for wire in wires[open_.pop()]:
-            if network.source[wire] not in needed:
-                needed.add(network.source[wire])
-                open_.append(network.source[wire])
-    for variable in wires:
-        if variable in needed:
-            found += [[wire] for wire in wires[variable]] + [[variable]]
-    return found
+def sliced(history, steps, node, count):
+    """The changes of a run without those that no change of a node needs, up to one by its number: first what its first change needs, then
+    what the next one needs besides, and so on."""
+    made, parts, needed = {}, [[] for _ in range(count)], [_needed(history, node, change) for change in range(1, count + 1)]
+    for step in steps:
+        variable, = step
+        made[variable] = made.get(variable, 0) + 1
+        at = next((at for at, kept in enumerate(needed) if made[variable] <= kept.get(variable, 0)), None)
+        if at is not None:
+            parts[at].append(step)
+    return [step for part in parts for step in part]
 
 
-def _asking(follower, gate, wire, moved):
-    """Wires from nodes that have moved whose change makes a gate unstable, one of which has just got a source that has moved; none if
-    there are none."""
-    network = follower.network
-    bit = 1 - follower.value[gate]
-    if network.control(gate, bit) is not None or not network.needed[gate]:
-        return [wire]
-    wanted = bit ^ network.inverted[gate]
-    late = [pin for pin in network.wires(gate) if follower.value[pin] != wanted]
-    return late if all(network.source[pin] in moved for pin in late) else []
-
-
-def sliced(follower, steps, node, moving):
-    """The changes of a run, one after the other, without those that no change of a node needs."""
-    history = History(follower, steps, moving)
-    fires, value, inputs = history.fires, history.value, follower.network.inputs
-    waiting, kept, made = [(node, len(fires.get(node, ())))], {}, {}
+def _needed(history, node, change):
+    """How many changes of each variable a change of a node needs."""
+    fires, value, inputs = history.fires, history.value, history.network.inputs
+    waiting, kept = [(node, change)], {}
     while waiting:
         variable, changes = waiting.pop()
         before = kept.get(variable, 0)
@@ -244,11 +187,7 @@ def sliced(follower, steps, node, moving):
             kept[variable] = changes
             for change in range(before + 1, changes + 1) if variable >= inputs else ():
                 waiting += [one for one in history.cube(variable, fires[variable][change - 1], value(variable, change)) if one[1]]
-    for step in steps:
-        variable, = step
-        made[variable] = made.get(variable, 0) + 1
-        if made[variable] <= kept.get(variable, 0):
-            yield step
+    return kept
 
 
 def is_run(follower, steps):

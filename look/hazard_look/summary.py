@@ -5,27 +5,24 @@ from . import clock, script
 from .circuit import load, no_node
 from .errors import DOES_NOT_HOLD, DONE, WRONG_WORDS, Failure, say
 from .moves import Moves, is_clean, kind_of
-from .one_edge import one_edge
 
 # How many nodes a line names, and of how many nodes a change has a line.
 MOST_NAMED = 8
 MOST_LINES = 12
-# A node of class `change` that the rule of one edge covers.
-ONE_EDGE = "one edge"
 MEANINGS = {
     "steady": "it keeps {start}, without a pulse",
     "single": "it goes from {start} to {new} by one edge",
     "static": "it is {start} before and after, and may pulse to {new} in between",
-    "maybe-dynamic": "it goes from {start} to {new}, by one edge or more; no run makes more than {most}",
-    "change": "it goes from {start} to {new} behind feedback, and more than one edge is not excluded",
-    ONE_EDGE: "it goes from {start} to {new} behind feedback, by one edge: the rule of one edge covers it",
+    "maybe-static": "it is {start} before and after, and a pulse to {new} in between is not excluded",
+    "dynamic": "it goes from {start} to {new}, by {least} edges in some run; {bound}",
+    "maybe-dynamic": "it goes from {start} to {new}, and more than one edge is not excluded; {bound}",
     "unsettled": "the delays decide where it ends, or it never settles",
 }
 
 
 def run(words, out):
     """Writes the summary of a netlist and a script."""
-    report = words.program.analyse(words.netlist, words.script)
+    report = words.program.edges(words.netlist, words.script)
     statements = script.must_be_written_out(words.script)
     circuit = load(words.netlist)
     teller = _Teller(words, circuit, statements)
@@ -40,11 +37,10 @@ def run(words, out):
 
 
 class Finding:
-    """What is told of a change: its rows that are not clean, roots before echoes, and the nodes that the rule of one edge covers."""
+    """What is told of a change: its rows that are not clean, roots before echoes."""
 
     def __init__(self, circuit, change):
-        self.edges = one_edge(circuit, change.rows)
-        rows = [row for row in change.rows.values() if not is_clean(row, self.edges)]
+        rows = [row for row in change.rows.values() if not is_clean(row)]
         names = roots(circuit, [row.name for row in rows])
         self.roots = [row for row in rows if row.name in names]
         self.echoes = [row for row in rows if row.name not in names]
@@ -83,7 +79,7 @@ class _Teller:
             return []
         finding = Finding(self.circuit, change)
         told = [row for row in finding.roots + ([] if self.words.roots else finding.echoes) if row.name in self.chosen]
-        pulses = self._pulses(change, finding.edges)
+        pulses = self._pulses(change)
         for line in clock.left_out(self.circuit, change, self.following[change.number]) if change.number in self.following else ():
             say(f"hazard-look: {self.words.script}:{self.line_of[change.number]}: {line}")
         self.told += len(told) + len(pulses)
@@ -110,12 +106,12 @@ class _Teller:
             document["not analysed"] = {"first": self.stopped.number, "last": self.last, "node": self.stopped.stopped}
         return [json.dumps(document, indent=1)]
 
-    def _pulses(self, change, edges):
+    def _pulses(self, change):
         """The nodes that pulse across the edge that ends with a change, with the numbers of the changes in which they move."""
         if change.number in self.firsts:
             self.moves = Moves(self.circuit)
         if self.moves:
-            self.moves.add(change, edges)
+            self.moves.add(change)
         if self.moves is None or change.number not in self.first_of:
             return []
         found = [(name, numbers) for name, numbers in self.moves.pulses() if name in self.chosen]
@@ -127,13 +123,10 @@ class _Teller:
         of_root = {row.name for row in finding.roots}
         rows = told if self.words.all or len(told) <= MOST_LINES else [row for row in told if row.name in of_root][:None if self.words.roots else MOST_LINES]
         more = len(told) - len(rows)
-        lines = [f"{change.title()}: {_verdict(told, finding)}{'' if change.changes() else '; no input changes'}"] + [self._line(row, finding) for row in rows]
+        lines = [f"{change.title()}: {_verdict(told, finding)}{'' if change.changes() else '; no input changes'}"] + [_line(row) for row in rows]
         lines += [f"  .. and {more} more, which --all has"] if more else []
         names = {row.name for row in told}
-        return lines + [self._line(row, finding) for row in change.rows.values() if self.words.all and row.name in self.chosen and row.name not in names]
-
-    def _line(self, row, finding):
-        return f"  {row.name} {kind_of(row)}: {meaning(row, row.name in finding.edges)}"
+        return lines + [_line(row) for row in change.rows.values() if self.words.all and row.name in self.chosen and row.name not in names]
 
     def _edge_lines(self, change, pulses):
         if not pulses:
@@ -146,7 +139,7 @@ class _Teller:
     def _findings(self, change, told, pulses):
         """A line for each finding, as compilers write them."""
         front = f"{self.words.script}:{self.line_of[change.number]}: change {change.title()}"
-        lines = [f"{front}: {row.name} {kind_of(row)}: {meaning(row, False)}{self._place(row.name)}" for row in told]
+        lines = [f"{front}: {row.name} {kind_of(row)}: {meaning(row)}{self._place(row.name)}" for row in told]
         return lines + [f"{front}: {name} pulses across the edge, in the changes {' and '.join(map(str, numbers))}{self._place(name)}" for name, numbers in pulses]
 
     def _place(self, name):
@@ -156,8 +149,8 @@ class _Teller:
     def _as_data(self, change, told, finding, pulses):
         """What is told of a change, as data."""
         of_root = {row.name for row in finding.roots}
-        hazards = [{"node": row.name, "class": row.kind, "kind": kind_of(row), "start": int(row.start), "A": row.a, "B": row.b, "changes": row.changes,
-                    "root": row.name in of_root, "place": self.circuit.place(row.name, self.words.netlist), "meaning": meaning(row, False)} for row in told]
+        hazards = [{"node": row.name, "class": row.kind, "kind": kind_of(row), "start": int(row.start), "end": row.end, "edges": {"least": row.least, "most": row.most},
+                    "root": row.name in of_root, "place": self.circuit.place(row.name, self.words.netlist), "meaning": meaning(row)} for row in told]
         return {"number": change.number, "line": self.line_of[change.number], "assigned": change.assigned, "hazards": hazards,
                 "pulses across the edge": [{"node": name, "changes": numbers} for name, numbers in pulses]}
 
@@ -185,7 +178,11 @@ def _verdict(told, finding):
     return f"{len(told)} hazard{'s' if len(told) > 1 else ''}{rooted}: " + ", ".join(named)
 
 
-def meaning(row, by_rule):
-    """What the class of a node means, in a sentence. `by_rule` says whether the rule of one edge covers it."""
-    kind = ONE_EDGE if row.kind == "change" and by_rule else row.kind
-    return MEANINGS[kind].format(start=row.start, new=1 - int(row.start), most=row.changes)
+def _line(row):
+    return f"  {row.name} {kind_of(row)}: {meaning(row)}"
+
+
+def meaning(row):
+    """What the class of a node means, in a sentence."""
+    bound = "no bound on its edges is known" if row.most is None else "no run makes more" + ("" if row.most == row.least else f" than {row.most}")
+    return MEANINGS[row.kind].format(start=row.start, new=1 - int(row.start), least=row.least, bound=bound)

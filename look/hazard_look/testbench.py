@@ -18,16 +18,16 @@ _OPERATORS = {"AND": " & ", "OR": " | ", "XOR": " ^ ", "BUFF": ""}
 
 def run(words, out):
     """Writes the Verilog of a netlist, a script and a node."""
-    report = words.program.analyse(words.netlist, words.script)
+    report = words.program.edges(words.netlist, words.script)
     must_be_written_out(words.script)
     circuit = load(words.netlist)
     if words.node not in circuit.known:
         raise Failure(no_node(circuit, words.node), WRONG_WORDS)
-    change, edges = why.change_of(words, report, circuit)
+    change = why.change_of(words, report)
     row = change.rows[words.node]
     if row.kind == "steady":
         raise Failure(f"{row.name} is steady in change {change.title()}, so no delays move it", WRONG_WORDS)
-    searcher, shown = why.explained(Network(circuit, is_sorted=True), change, row, edges)
+    searcher, shown = why.explained(words, Network(circuit, is_sorted=True), change, row)
     if shown[0].comparisons is None:
         raise Failure(f"no fixed delays are known with which {row.name} shows what `why` shows", WRONG_WORDS)
     network = searcher.network

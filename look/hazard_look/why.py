@@ -7,7 +7,6 @@ from .circuit import load, no_node
 from .errors import DONE, OUTPUT_FAILED, WRONG_WORDS, Failure
 from .history import History
 from .network import Network
-from .one_edge import one_edge
 from .runtext import Run
 from .script import NO_CHANGE, must_be_written_out
 from .search import Searcher
@@ -33,19 +32,19 @@ class Shown(NamedTuple):
 
 def run(words, out):
     """Writes why a node has its class in a change."""
-    report = words.program.analyse(words.netlist, words.script)
+    report = words.program.edges(words.netlist, words.script)
     must_be_written_out(words.script)
     circuit = load(words.netlist)
     if words.node not in circuit.nodes:
         raise Failure(no_node(circuit, words.node), WRONG_WORDS)
-    change, edges = change_of(words, report, circuit)
+    change = change_of(words, report)
     row = change.rows[words.node]
-    out.write(f"{row.name} in change {change.title()}: {kind_of(row)}, {meaning(row, row.name in edges)}\n")
+    out.write(f"{row.name} in change {change.title()}: {kind_of(row)}, {meaning(row)}\n")
     if row.kind == "steady":
         return DONE
     for line in cover.told(circuit, change, row):
         out.write(f"  {line}\n")
-    searcher, shown = explained(Network(circuit, is_sorted=True), change, row, edges)
+    searcher, shown = explained(words, Network(circuit, is_sorted=True), change, row)
     text = searcher.text.of([Run(searcher.named(one.lead), _named_cycle(searcher, one)) for one in shown])
     words.program.must_accept(words.netlist, text)
     # before the waveforms, of which a reader may want the first lines alone
@@ -58,48 +57,33 @@ def run(words, out):
     return DONE
 
 
-def change_of(words, report, circuit):
-    """The change that is asked for; or else the first in which the node has no clean edge, or else the first with an edge. With it the
-    nodes that the rule of one edge covers there."""
+def change_of(words, report):
+    """The change that is asked for; or else the first in which the node has no clean edge, or else the first with an edge."""
     found = None
     for change in report.changes:
         if change.stopped:
             if words.change == change.number:
                 raise Failure(f"change {change.number} is not analysed: {change.stopped} did not settle before", WRONG_WORDS)
             continue
-        row = change.rows[words.node]
-        is_clean_alone = row.kind in ("steady", "single")
-        if words.change == change.number or words.change is None and not is_clean_alone:
-            edges = one_edge(circuit, change.rows)
-            if words.change is not None or not is_clean(row, edges):
-                return change, edges
-        if found is None or found.rows[words.node].kind == "steady":
+        if words.change == change.number or words.change is None and not is_clean(change.rows[words.node]):
+            return change
+        if found is None or not found.rows[words.node].moves():
             found = change
     if words.change is not None or found is None:
         raise Failure(NO_CHANGE if words.change is None else f"{NO_CHANGE} {words.change}", WRONG_WORDS)
-    return found, one_edge(circuit, found.rows)
+    return found
 
 
-def explained(network, change, row, edges):
-    """A searcher for the runs of a change, and those that show the class of a node, `edges` being what the rule of one edge covers."""
+def explained(words, network, change, row):
+    """A searcher for the runs of a change, and those that show the class of a node."""
     searcher = Searcher(network, change.run_lines)
-    moving = {network.number[one.name] for one in change.rows.values() if one.a == "X"}
-    return searcher, _shown(searcher, row, is_clean(row, edges), moving)
-
-
-def _shown(searcher, row, is_clean_edge, moving):
-    """The runs that show the class of a node."""
-    node = searcher.network.number[row.name]
+    moving, node = {network.number[one.name] for one in change.rows.values() if one.moves()}, network.number[row.name]
     if row.kind == "unsettled":
-        return _endless(searcher, node, moving)
-    wanted, title = (2, "a pulse") if row.kind == "static" else (1, "its edge") if is_clean_edge else (3, "more than one edge")
-    found, told, compared = searcher.edges(node, wanted, moving), [], [] if wanted == 1 else None
-    if found is None:
-        title = "one edge; no run with more edges was found, which is no proof that there is none"
-        found = searcher.edges(node, 1, moving)
-    elif wanted > 1:
-        told, compared = _told(History(searcher.follower, found, moving), node, row.name, wanted)
-    return [Shown(title, found, None, told, compared)]
+        return searcher, _endless(words, searcher, node, moving)
+    wanted, title = _SHOWN.get(row.kind, (1, "its edge; no run with more edges is known, which is no proof that there is none"))
+    found = searcher.edges(node, wanted, moving)
+    told, compared = _told(History(searcher.follower, found, moving), node, row.name, wanted) if wanted > 1 else ([], [])
+    return searcher, [Shown(title, found, None, told, compared)]
 
 
 def _told(history, node, name, edges):
@@ -131,6 +115,8 @@ def _essential(network, comparisons):
     return []
 
 
+# how many edges show a class, and what they are
+_SHOWN = {"single": (1, "its edge"), "static": (2, "a pulse"), "dynamic": (3, "more than one edge")}
 _DOES = {2: "pulses", 3: "makes more than one edge"}
 
 
@@ -149,13 +135,13 @@ def origin(history, node):
     return first, tuple(reversed(passes))
 
 
-def _endless(searcher, node, moving):
+def _endless(words, searcher, node, moving):
     """The ends at rest that an unsettled node can have, and a cycle in which it goes on."""
     ends, network = searcher.endings(node), searcher.network
     shown = [Shown(f"it can end at {bit}", ends[bit], [], *_told_of_end(searcher, node, ends[bit], bit, moving)) for bit in sorted(ends)]
     turning = searcher.turning(node)
     if turning is None:
-        printed = runtext.read(searcher.lines).runs[1]
+        printed = runtext.read(words.program.last_runs(words.netlist, words.script)).runs[1]
         turning = [[[network.number[name] for name in step] for step in steps] for steps in (printed.lead, printed.cycle)]
     return shown + [Shown("it can go on for ever", *turning, [])]
 

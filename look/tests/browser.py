@@ -119,7 +119,7 @@ def _stopped(opened, call, write, folder, example):
     yield "errors of a race", errors, []
     yield "both ends of a race", (told["opened"]["why"].startswith("it can end at 0q ends at 0 if r, q(1) are slower than"), [run[:19] for run in told["runs"][:3]]), (
         True, ["why q: it can end a", "why q: it can end a", "why q: it can go on"])
-    yield "the end of the cycle", told["cycle"]["step"], "step 14 of 14"
+    yield "the end of the cycle", told["cycle"]["step"], "step 6 of 6"
     yield "a change that was not analysed", (told["stopped"]["boxes"], told["stopped"]["row"], told["again"]["boxes"]), (0, "", 4)
 
 
@@ -141,7 +141,7 @@ def _other_root(opened, call, write, folder):
         boxOf("m").dispatchEvent(new MouseEvent("click")); tell("kept"); boxOf("h").dispatchEvent(new MouseEvent("click")); tell("first");""")
     seen = [(told[name]["chosen"], told[name]["which"].partition(",")[0]) for name in ("opened", "other", "kept", "first")]
     yield "a run for each hazard", (errors, seen, told["moves"] > 0, told["other"]["step"] != "step 0"), (
-        [], [("h", "why h: a pulse"), ("k", "report: settle run"), ("m", "report: settle run"), ("h", "why h: a pulse")], True, True)
+        [], [("h", "why h: a pulse"), ("k", "report: the run of all nodes"), ("m", "report: the run of all nodes"), ("h", "why h: a pulse")], True, True)
 
 
 def _clean(opened, call, write, folder):

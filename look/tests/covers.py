@@ -55,8 +55,8 @@ def _functions(folder, call, write, hazard):
     told = {"function": 0, "logic": 0, "term": 0}
     for number, gates, start, changed in _circuits(120, seed=5):
         bench, script = write(folder, "c.bench", _text(gates)), write(folder, "c.txt", _script(start, changed))
-        change = next(hazard.analyse(bench, script).changes)
-        for row in [row for row in change.rows.values() if row.kind in ("static", "maybe-dynamic")][:2]:
+        change = next(hazard.edges(bench, script).changes)
+        for row in [row for row in change.rows.values() if row.kind in ("static", "dynamic")][:2]:
             line = call(["why", bench, script, row.name])[1].splitlines()[1]
             kind = "function" if _is_of_function(gates, start, changed, row) else "logic"
             yield f"hazard of {row.name} in {number}", line.startswith(f"  a {kind} hazard"), True
@@ -86,7 +86,7 @@ def _covered(folder, write, hazard, gates, start, changed, node, term):
     more = "".join(f"not_{name} = NOT({name})\n" for name, value in held if int(value) != bit)
     more += f"term = {'AND' if bit else 'OR'}({', '.join(pins)})\ncovered = {'OR' if bit else 'AND'}({node}, term)\n"
     bench, script = write(folder, "t.bench", _text(gates, more)), write(folder, "t.txt", _script(start, changed))
-    return next(hazard.analyse(bench, script).changes).rows["covered"].kind
+    return next(hazard.edges(bench, script).changes).rows["covered"].kind
 
 
 def _said(folder, call, write):
@@ -115,13 +115,13 @@ def _testbenches(folder, call, write, hazard):
     shown = 0
     for number, gates, start, changed in _circuits(40, seed=6):
         bench, script = write(folder, "b.bench", _text(gates)), write(folder, "b.txt", _script(start, changed))
-        change = next(hazard.analyse(bench, script).changes)
-        for row in [row for row in change.rows.values() if row.kind in ("static", "maybe-dynamic")][:1]:
+        change = next(hazard.edges(bench, script).changes)
+        for row in [row for row in change.rows.values() if row.kind in ("static", "dynamic")][:1]:
             status, text = call(["testbench", bench, script, row.name])
             if status == 0 and "one edge; no run" not in text:
                 edges, end = _simulated(folder, write, text)
                 shown += 1
-                yield f"testbench of {row.name} in {number}", (edges >= (2 if row.kind == "static" else 3), end), (True, row.b)
+                yield f"testbench of {row.name} in {number}", (edges >= (2 if row.kind == "static" else 3), end), (True, row.end)
     yield "enough testbenches", shown > 10, True
     latch = write(folder, "l.bench", "INPUT(r)\nINPUT(s)\nq = NOR(r, qb)\nqb = NOR(s, q)\n")
     text = call(["testbench", latch, write(folder, "l.txt", "start r=1 s=1\nchange r=0 s=0\n"), "q"])[1]
