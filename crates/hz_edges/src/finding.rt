@@ -64,10 +64,7 @@ impl EdgeRoom {
         requires counts { var < length self.now.counts.items }
         ensures { result ≡ range_at (edges_of self.now) var }
     {
-        range_of(
-            self.told[var as usize].changes,
-            self.counts[var as usize],
-        )
+        range_of(self.told[var as usize].changes, self.counts[var as usize])
     }
 
     // Finds how often the variables change in a change, beside its finding.
