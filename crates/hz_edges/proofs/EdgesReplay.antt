@@ -1,26 +1,22 @@
 -- The run of right edges is printed as a text that replays.
-use Rattle.std.proofs.Common.{◌≡◌, ◌∙◌, sym, ap, subst, ℕ, ◌≤◌, Bool, List, [], ◌∷◌, length, map, take, None, All, arith, ◌++◌}
-use Rattle.std.proofs.lemmas.List.{length-take-le, length-map, append-nil}
+use Rattle.std.proofs.Common.{◌≡◌, ◌∙◌, sym, subst, ℕ, ◌≤◌, Bool, List, [], ◌∷◌, length, take, None, All, arith, ◌++◌}
+use Rattle.std.proofs.lemmas.List.{length-take-le, append-nil}
 use Rattle.std.proofs.lemmas.List.Elements.{All-nil, All-cons}
 use Rattle.hz_core.specs.Netlist.{Netlist, IsCircuit}
 use Rattle.hz_net.specs.Network.{network_of}
 use Rattle.hz_net.specs.Starts.{IsStableStart}
-use Rattle.hz_net.specs.Variables.{expansion_of}
 use Rattle.hz_net.proofs.Places.{length-network_of}
 use Rattle.hz_gmw.specs.RunRecord.{flip_count}
 use Rattle.hz_run_text.specs.Limits.{most_steps}
-use Rattle.hz_run_text.specs.RunPrinted.{run_text_printed}
 use Rattle.hz_run_text.specs.RunReadBack.{PrintedRunsAreRead}
 use Rattle.hz_run_text.specs.RunValue.{all_steps}
 use Rattle.hz_text.specs.RunParts.{RunOf}
-use Rattle.hz_desk.specs.declared.finding.Row.{Row}
 use Rattle.hz_desk.specs.Finding.{FindingOf}
 use Rattle.hz_replay.specs.Replaying.{IsAcceptedRun, start_of}
-use Rattle.hz_replay.specs.RunTexts.{ReplaysAs}
 use Rattle.hz_replay.proofs.ReadBack.{stable-expansion_of, accepted-replays}
 use Rattle.hz_edges.specs.Edges.{EdgesOf, AreRightEdges, begin_of}
 use Rattle.hz_edges.specs.EdgeText.{run_of_edges}
-use Rattle.hz_edges.specs.EdgeReports.{EdgeAnalysis, Found, IsRightAnalysis}
+use Rattle.hz_edges.specs.EdgeReports.{Found, IsRightAnalysis}
 
 -- all steps of one run without a cycle
 one-run : (steps : List (List ℕ)) → all_steps (record { lead = steps; cycle = None } ∷ []) ≡ steps

@@ -1,13 +1,12 @@
 -- There are edges beside every right finding.
-use Rattle.std.proofs.Common.{◌≡◌, ℕ, ◌≤◌, Bool, List, sym, subst}
-use Rattle.hz_core.specs.Netlist.{Netlist, IsCircuit, IsWhole}
+use Rattle.std.proofs.Common.{ℕ, Bool, List, sym, subst}
 use Rattle.hz_net.specs.Network.{Driver, network_of}
 use Rattle.hz_net.specs.Starts.{IsStableStart}
 use Rattle.hz_witness.specs.Existence.{WitnessesExist}
 use Rattle.hz_bounds.specs.Existence.{WordsAreTold}
 use Rattle.hz_desk.specs.Finding.{FindingOf, values_a, values_b}
 use Rattle.hz_desk.specs.RightFinding.{IsRightFinding}
-use Rattle.hz_edges.specs.Edges.{EdgesOf, AreRightEdges, begin_of}
+use Rattle.hz_edges.specs.Edges.{EdgesOf, begin_of}
 use Rattle.hz_edges.specs.EdgesExist.{EdgesExist}
 use Rattle.hz_edges.proofs.RightEdges.{right-edges}
 

@@ -1,5 +1,5 @@
 -- Words that are inductive and a witness are right edges.
-use Rattle.std.proofs.Common.{◌≡◌, ℕ, ◌<◌, Bool, List, length, get_or, Some, IfSome, Result, Ok, Err, OnOk, refl, sym, ap, ◌∙◌, subst, arith}
+use Rattle.std.proofs.Common.{◌≡◌, ℕ, ◌<◌, Bool, List, length, get_or, Some, IfSome, Result, Ok, Err, OnOk, refl, ap, ◌∙◌, subst, arith}
 use Rattle.std.proofs.lemmas.Option.{same_Some}
 use Rattle.hz_core.specs.declared.memory.Memory.{Memory}
 use Rattle.hz_core.specs.declared.tri.Tri.{Tri}
@@ -17,7 +17,7 @@ use Rattle.hz_bounds.specs.Ranges.{bound_of, IsMostChanges}
 use Rattle.hz_bounds.specs.Telling.{AreStill}
 use Rattle.hz_bounds.proofs.Meeting.{exact-met}
 use Rattle.hz_desk.specs.Finding.{FindingOf, values_a, values_b}
-use Rattle.hz_edges.specs.Edges.{EdgesOf, AreRightEdges, ChangesAtMost, begin_of, range_at}
+use Rattle.hz_edges.specs.Edges.{EdgesOf, AreRightEdges, ChangesAtMost, begin_of}
 
 module _ (netlist : Netlist) (cap : ℕ) (finding : FindingOf) (edges : EdgesOf) (circuit : IsCircuit netlist) (whole : IsWhole netlist) (begins : IsStableStart netlist (begin_of finding)) (inductive : IsInductive (network_of netlist) finding.input (begin_of finding) cap edges.told) (witness : IsWitness (network_of netlist) finding.input (begin_of finding) (values_a finding.rows) (values_b finding.rows) edges.steps edges.counts) where
   abbrev net : List Driver

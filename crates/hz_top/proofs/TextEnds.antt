@@ -1,5 +1,5 @@
 -- How a task ends on a second text of which nothing is to be refused.
-use Rattle.std.proofs.Common.{◌≡◌, ◌∙◌, sym, ℕ, inl, inr, List, codes}
+use Rattle.std.proofs.Common.{◌≡◌, ◌∙◌, sym, ℕ, inl, inr, Bool, List, codes}
 use Rattle.hz_core.specs.Netlist.{Netlist}
 use Rattle.hz_gen.specs.Starts.{IsCompletable}
 use Rattle.hz_options.specs.declared.options.Options.{Options}

@@ -1,11 +1,8 @@
 -- One line after the other.
-use Rattle.std.proofs.Common.{◌≡◌, ◌∙◌, ℕ, ◌<◌, length, refl, sym, ap, subst, arith}
-use Rattle.hz_net.specs.Network.{network_of}
-use Rattle.hz_write.specs.Writer.{Writes}
+use Rattle.std.proofs.Common.{◌≡◌, sym, arith}
 use Rattle.hz_write.proofs.Writers.{writes_then}
 use Rattle.hz_report.specs.Report.{shown_count}
 use Rattle.hz_report.proofs.RowLemmas.{shown-within, take-shown}
-use Rattle.hz_edges.specs.EdgeText.{edge_line}
 use Rattle.hz_edges.specs.Room.{edges_of}
 use Rattle.hz_edges.proofs.EdgeLines.{lines_more}
 use Rattle.hz_edges.proofs.lines.write_lines.Goals as goal

@@ -6,13 +6,13 @@ use Rattle.hz_net.specs.Starts.{IsStableStart}
 use Rattle.hz_write.specs.Writer.{Writes}
 use Rattle.hz_write.proofs.Writers.{writes_then, writes_failed}
 use Rattle.hz_desk.specs.Desk.{DeskOf}
-use Rattle.hz_desk.specs.Finding.{FindingOf, finding_of, values_a, values_b}
+use Rattle.hz_desk.specs.Finding.{FindingOf, finding_of}
 use Rattle.hz_desk.specs.RightFinding.{IsRightFinding}
-use Rattle.hz_seq.specs.Sequence.{changed_input, IsFindingOfChange}
+use Rattle.hz_seq.specs.Sequence.{IsFindingOfChange}
 use Rattle.hz_seq.proofs.FirstAnalyses.{input-long}
 use Rattle.hz_replay.proofs.ReadBack.{run-inside}
 use Rattle.hz_edges.specs.Edges.{EdgesOf, begin_of}
-use Rattle.hz_edges.specs.EdgeReports.{EdgeAnalysis, Found, IsRightAnalysis}
+use Rattle.hz_edges.specs.EdgeReports.{Found, IsRightAnalysis}
 use Rattle.hz_edges.specs.EdgeText.{edges_text}
 use Rattle.hz_edges.specs.Room.{edges_of}
 use Rattle.hz_edges.proofs.EdgesThere.{own-finding}

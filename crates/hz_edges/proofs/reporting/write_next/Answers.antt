@@ -1,6 +1,6 @@
 -- What one change comes to fits its network, so that it can be written.
-use Rattle.std.proofs.Common.{ℕ, Option, sym, subst}
-use Rattle.hz_desk.specs.Finding.{FindingOf, finding_of}
+use Rattle.std.proofs.Common.{sym, subst}
+use Rattle.hz_desk.specs.Finding.{FindingOf}
 use Rattle.hz_seq.specs.Sequence.{IsFindingOfChange, IsLeftBy}
 use Rattle.hz_changes.proofs.Writable.{below-names}
 use Rattle.hz_edges.specs.EdgeReports.{Found, Stopped}

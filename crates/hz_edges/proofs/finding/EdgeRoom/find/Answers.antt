@@ -8,7 +8,6 @@ use Rattle.hz_net.specs.Passes.{algorithm_a, algorithm_b, IsResult}
 use Rattle.hz_net.proofs.TernaryStarts.{result-once}
 use Rattle.hz_cycle.specs.Cycles.{AreResultsOfBoth}
 use Rattle.hz_desk.specs.Finding.{finding_of, values_a, values_b}
-use Rattle.hz_desk.specs.ResultsOfPasses.{ArePassResults}
 use Rattle.hz_edges.specs.Edges.{begin_of}
 use Rattle.hz_edges.specs.Room.{edges_of}
 use Rattle.hz_edges.proofs.RightEdges.{right-found, ok-all}
