@@ -29,10 +29,10 @@ with_word hasher word =
     if nat_eq (length word) 1 then record hasher { last = slice_index word 0 }
     else record hasher { front = folding.write hasher.front word }
 
--- the hash of a name: names that differ in the last byte alone have hashes that lie side by side
+-- the hash of a name: the lowest two bits of the last byte change the highest bits of 32 alone
 abbrev pub row_hash : NameHasher → ℕ
 row_hash hasher =
-    bit_xor (bit_xor (bit_xor (folding.finish hasher.front) (hasher.last % 4 * 0x4000_0000)) (hasher.last / 4 % 4)) (hasher.last / 16 * 0x9e37_79b4)
+    bit_xor (bit_xor (folding.finish hasher.front) (hasher.last % 4 * 0x4000_0000)) (hasher.last / 4 * 0x9e37_79b4)
 
 -- a word and its last byte, if there are three bytes or more
 abbrev pub word_and_last : List ℕ → List (List ℕ)

@@ -6,8 +6,8 @@
 //! Such a text takes long, and nothing else rests on it.
 //!
 //! The names of a netlist come mostly in rows, as `g120` to `g129`. The library's table begins its search by the lowest bits of a
-//! hash, and tells names of one place by the highest. So the last byte is not folded: names that differ in it alone lie side by side,
-//! and a row is mostly in the cache.
+//! hash, and tells names of one place by the highest. So the last byte is not folded, and its lowest two bits are the highest of the
+//! hash: four names of a row lie in one group of the table, which the first of them brings into the cache.
 ghost use Rattle.std.specs.Prelude.{◌≡◌};
 ghost use Rattle.hz_core.specs.NameHash.{hasher_of, hashing_of_text, plain_hashing, row_hash, with_word};
 
@@ -15,8 +15,8 @@ use std::fmt;
 use std::fmt::{Debug, Formatter, Write};
 use std::hash::{BuildHasher, DefaultHasher, FoldHasher, Hasher};
 
-// What the lowest bits of a last byte are multiplied by, and the highest. The first sets the highest bits of 32, the other changes
-// all but the lowest two.
+// What the lowest two bits of a last byte are multiplied by, and the others: the first come to be the highest of 32 bits, the others
+// change the place at which a search begins.
 const HIGH: u64 = 0x4000_0000;
 
 const SPREAD: u64 = 0x9e37_79b4;
@@ -84,11 +84,11 @@ impl Hasher for NameHasher {
         }
     }
 
-    // Four names of a row begin at one place, the next four beside it.
+    // Four names of a row begin at one place.
     #[inline(always)]
     fn finish(&self) -> u64 {
         let last = self.last as u64;
-        self.front.finish() ^ (last % 4 * HIGH) ^ (last / 4 % 4) ^ (last / 16 * SPREAD)
+        self.front.finish() ^ (last % 4 * HIGH) ^ (last / 4 * SPREAD)
     }
 }
 
