@@ -1,5 +1,5 @@
 -- The hashes of names.
-use Rattle.std.specs.Prelude.{ℕ, zero, suc, ◌+◌, ◌-◌, ◌*◌, ◌/◌, ◌%◌, List, [], ◌∷◌, bit_xor, drop, fold, if◌then◌else◌, length, nat_eq, nat_lt, slice_index, take}
+use Rattle.std.specs.Prelude.{ℕ, zero, suc, ◌-◌, ◌*◌, ◌/◌, ◌%◌, List, [], ◌∷◌, bit_xor, drop, fold, if◌then◌else◌, length, nat_eq, nat_lt, slice_index, take}
 use Rattle.std.specs.Hash as fed
 use Rattle.std.specs.Hash.FoldHasher as folding
 use Rattle.std.specs.Hash.DefaultHasher as sip
