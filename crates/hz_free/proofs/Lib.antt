@@ -62,3 +62,5 @@ pub mod Laws
 pub mod WordsExist
 -- The words one after the other, as the loop tells them
 pub mod ToldWords
+-- Where each gate stands behind what it reads: all variables are feedback-free, and the nodes are in an order
+pub mod InOrder

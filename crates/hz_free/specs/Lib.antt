@@ -21,6 +21,7 @@
 -- MarksExist, WordsExist: there always are such marks and words
 -- occurrences i list: how often a list has a number
 -- IsOrdering readers variables place left unread order: a topological order so far
+-- IsInOrder netlist: each gate stands behind what it reads
 -- CanBeFolded folding: what words are folded from, a start, an input and a cap, is right for its network
 -- IsNextWord net input start cap capped i word: the word of variable i by those that it reads
 -- AreLinks links, LeadsTo links i next, IsPath links start path end: a list of links, and the paths along it

@@ -1,5 +1,6 @@
 -- A topological order in the making: which variables are placed, and how many of those that a variable reads are not.
-use Rattle.std.specs.Prelude.{◌≡◌, ℕ, zero, suc, ◌+◌, ◌-◌, ◌<◌, ◌≤◌, List, [], ◌∷◌, ◌++◌, length, take, slice_index, slice_set, IsTrue, if◌then◌else◌, nat_eq, ◌==◌}
+use Rattle.std.specs.Prelude.{◌≡◌, ℕ, zero, suc, ◌+◌, ◌-◌, ◌<◌, ◌≤◌, List, [], ◌∷◌, ◌++◌, length, take, slice_index, slice_set, All, IsTrue, if◌then◌else◌, nat_eq, ◌==◌}
+use Rattle.hz_core.specs.Netlist.{Netlist, IsGateNumber, gate_at}
 use Rattle.hz_lists.specs.Listed.{is_listed, IsRepeatFree}
 
 -- how often a list has a number
@@ -46,3 +47,9 @@ pub record AreFirst (below : ℕ) (unread order : List ℕ) : Type 0 where
 pub record ReducesReader (reader : ℕ) (unread order unread' order' : List ℕ) : Type 0 where
   pub less : unread' ≡ slice_set unread reader (slice_index unread reader - 1)
   pub placed : order' ≡ (if slice_index unread reader - 1 == 0 then order ++ reader ∷ [] else order)
+
+-- each gate stands behind the nodes that it reads
+abbrev pub IsInOrder : Netlist → Type 0
+IsInOrder netlist =
+    (gate : ℕ) → IsGateNumber netlist gate →
+    All (λ source. source < gate) (gate_at netlist gate).sources

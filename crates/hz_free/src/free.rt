@@ -10,7 +10,7 @@ ghost use Rattle.hz_net.specs.Variables.{fan_out_of};
 ghost use Rattle.hz_lists.specs.Listed.{is_listed};
 ghost use Rattle.hz_free.specs.Chains.{IsFeedbackFree};
 ghost use Rattle.hz_free.specs.Feedback.{IsFeedbackCycle, IsCore};
-ghost use Rattle.hz_free.specs.Order.{AreReads};
+ghost use Rattle.hz_free.specs.Order.{AreReads, IsInOrder};
 ghost use Rattle.hz_free.specs.FreePart.{IsFreePart};
 ghost use Rattle.hz_free.specs.CappedWords.{AreConstant, CanBeFolded, IsResultOfA, constant_if, IsReady, IsNextWord};
 ghost use Rattle.hz_free.specs.Paths.{HaveValue};
@@ -19,7 +19,7 @@ ghost use Rattle.hz_word.specs.Capped.{greatest_cap, IsWithinCap};
 ghost use Rattle.hz_word.specs.declared.word.Word.{Word};
 
 use crate::feedback::{Feedback, find_feedback};
-use crate::order::{count_reads, place_all};
+use crate::order::{all_nodes, count_reads, is_in_order, place_all};
 use crate::packed::{PackedWord, StoredWord};
 use crate::words::{NO_WORD, constant_word, gate_word, input_word};
 use hz_core::{Memory, Tri};
@@ -71,8 +71,26 @@ impl Free {
     pub fn build(alloc: Global, net: &Net) -> Result<Free, Memory>
         ensures { IfOk result (λ free. IsFreePart net.now free) }
     {
+        if is_in_order(net) {
+            return Free::in_order(alloc, net);
+        }
         let mut unread = count_reads(alloc, net)?;
         Free::from_reads(alloc, net, unread.as_mut_slice())
+    }
+
+    // The same where each gate stands behind what it reads: all is feedback-free, and the nodes have their order.
+    fn in_order(alloc: Global, net: &Net) -> Result<Free, Memory>
+        requires { IsInOrder net.now }
+        ensures { IfOk result (λ free. IsFreePart net.now free) }
+    {
+        let free = vec![in alloc; true; net.len() as usize]?;
+        let order = all_nodes(alloc, net.circuit().nodes())?;
+        let feedback = find_feedback(alloc, net, free.as_slice())?;
+        Ok(Free {
+            free,
+            order,
+            feedback,
+        })
     }
 
     // The same, given for each variable how many variables it reads.

@@ -1,12 +1,43 @@
 //! The feedback-free variables in a topological order (Kahn): each stands after the variables that it reads.
-ghost use Rattle.std.specs.Prelude.{◌+◌, ◌<◌, ◌≤◌, [], length, IfOk, OnOk, slice_index};
+ghost use Rattle.std.specs.Prelude.{◌≡◌, ◌↔◌, ◌+◌, ◌<◌, ◌≤◌, [], true, length, All, IfOk, OnOk, IsTrue, slice_index};
+ghost use Rattle.std.specs.List.{range_with_len};
 ghost use Rattle.hz_net.specs.Network.{network_of, IsVariable};
 ghost use Rattle.hz_net.specs.Reads.{readers_of};
-ghost use Rattle.hz_free.specs.Order.{IsOrdering, AreReads, ReducesReader};
+ghost use Rattle.hz_free.specs.Order.{IsOrdering, IsInOrder, AreReads, ReducesReader};
 
 use hz_core::Memory;
 use hz_net::Net;
 use std::alloc::Global;
+
+// Whether each gate stands behind the nodes that it reads.
+pub(crate) fn is_in_order(net: &Net) -> bool
+    ensures { result ≡ true → IsInOrder net.now }
+{
+    for gate in net.circuit().inputs()..net.circuit().nodes() {
+        if !are_below(net.circuit().sources(gate), gate) {
+            return false;
+        }
+    }
+    true
+}
+
+// Whether all numbers are below another.
+fn are_below(numbers: &[u32], end: u32) -> bool
+    ensures { IsTrue result ↔ All (λ number. number < end) numbers.now }
+{
+    numbers.iter().all(|number| *number < end)
+}
+
+// The nodes, one after the other.
+pub(crate) fn all_nodes(alloc: Global, nodes: u32) -> Result<Vec<u32>, Memory>
+    ensures { IfOk result (λ order. order.items ≡ range_with_len 0 nodes) }
+{
+    let mut order = Vec::with_capacity(alloc, nodes as usize)?;
+    for node in 0..nodes {
+        order.push(node)?;
+    }
+    Ok(order)
+}
 
 // For each variable how many variables it reads.
 pub(crate) fn count_reads(alloc: Global, net: &Net) -> Result<Vec<u32>, Memory>
