@@ -1,7 +1,7 @@
 """Names that were chosen to collide in a table of names, for tests of the program and for `bench/`.
 
-The program hashes a name word by word with the library's fold. Here that is calculated without the key, as anyone can who writes a
-netlist: with the key, a digest of the text, such names are as good as others.
+The program hashes a name word by word with the library's fold, but for its last byte, which is joined to the hash as it is. Here that is
+calculated without the key, as anyone can who writes a netlist: with the key, a digest of the text, such names are as good as others.
 """
 import random
 
@@ -36,12 +36,12 @@ def pieces(state, count):
 
 
 def of_equal_hash():
-    """65,536 names of 64 bytes, all of one hash."""
+    """65,536 names of 68 bytes, all of one hash: words of eight bytes, and what stands after them."""
     state, names = SEED, [b""]
     for _ in range(4):
         ends, state = pieces(state, 16)
         names = [name + end for end in ends for name in names]
-    return names
+    return [name + b"tail" for name in names]
 
 
 def of_one_region(count):
@@ -49,7 +49,7 @@ def of_one_region(count):
     names = []
     for number in range(10**8):
         name = b"%08d" % number
-        hashed = after(SEED, number_of(name))
+        hashed = after(SEED, number_of(name[:4] + name[3:7]), 7) ^ name[7] % 4 * 0x4000_0000 ^ name[7] // 4 * 0x9E37_79B4
         if (hashed ^ hashed >> 32) & 0x1FFF < 0x200:
             names.append(name)
             if len(names) == count:
@@ -57,9 +57,14 @@ def of_one_region(count):
 
 
 def of_multiplier(count):
-    """So many names of 24 bytes that end with the number by which the hasher multiplies, as near as the formats allow it."""
+    """So many names of 28 bytes with two words that are the number by which the hasher multiplies, as near as the formats allow it."""
     near = bytes(code if code in LETTERS else min(LETTERS, key=lambda letter: (code ^ letter).bit_count()) for code in MULTIPLIER.to_bytes(8, "little"))
-    return [b"%08d" % number + near * 2 for number in range(count)]
+    return [b"%08d" % number + near * 2 + b"tail" for number in range(count)]
+
+
+def of_rows(count):
+    """So many names in rows that differ in their last byte alone, which the hasher does not fold."""
+    return [b"%07d%c" % (number // len(LETTERS), LETTERS[number % len(LETTERS)]) for number in range(count)]
 
 
 def others(names):
@@ -73,6 +78,7 @@ def kinds():
     yield "names of one hash", of_equal_hash()[:2 * GATES]
     yield "names of one region", of_one_region(2 * GATES)
     yield "names with the multiplier", of_multiplier(2 * GATES)
+    yield "names in rows", of_rows(2 * GATES)
 
 
 def bench(names):

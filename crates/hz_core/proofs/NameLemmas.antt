@@ -1,5 +1,5 @@
 -- Lemmas on names.
-use Rattle.std.proofs.Common.{◌≡◌, ◌∙◌, sym, ap, refl, ℕ, suc, ◌-◌, ◌/◌, ◌<◌, Bool, false, List, [], ◌∷◌, ◌++◌, length, take, drop, Option, None, Some, arith}
+use Rattle.std.proofs.Common.{◌≡◌, ◌∙◌, sym, ap, refl, ℕ, suc, ◌-◌, ◌/◌, ◌<◌, false, List, [], ◌∷◌, ◌++◌, length, take, drop, Option, None, Some, arith}
 use Rattle.std.specs.List.{list_any, position}
 use Rattle.std.specs.Str.{bytes_eq}
 use Rattle.std.proofs.lemmas.Bool.{false≢true}
@@ -10,10 +10,10 @@ use Rattle.indexmap.specs.IndexSet.{insert_key}
 use Rattle.hz_core.specs.NameHash.{words_and_rest, words_of}
 use Rattle.hz_core.proofs.ListLemmas.{list_any-from_position_none}
 
--- a name of more than eight bytes is these, and the words of the others
-pub words-more : (name : List ℕ) → 8 < length name → words_of name ≡ take 8 name ∷ words_of (drop 8 name)
+-- a name of more than nine bytes is eight, and the words of the others
+pub words-more : (name : List ℕ) → 9 < length name → words_of name ≡ take 8 name ∷ words_of (drop 8 name)
 words-more name long =
-    let count : (length name - 1) / 8 ≡ suc ((length (drop 8 name) - 1) / 8) = omega (arith, length-drop 8 name, long) in
+    let count : (length name - 2) / 8 ≡ suc ((length (drop 8 name) - 2) / 8) = omega (arith, length-drop 8 name, long) in
     ap (λ words. words_and_rest words name) count
 
 -- a name that is new goes last

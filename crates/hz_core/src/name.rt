@@ -163,12 +163,18 @@ fn write_words<H: Hasher>(name: &[u8], state: &mut H)
     ensures { state.new ≡ fold H.write state.old (words_of name.now) }
 {
     let mut rest = name;
-    while rest.len() > 8 {
+    while rest.len() > 9 {
         let (word, left) = rest.split_at(8);
         state.write(word);
         rest = left;
     }
-    state.write(rest);
+    if rest.len() < 3 {
+        state.write(rest);
+    } else {
+        let (word, last) = rest.split_at(rest.len() - 1);
+        state.write(word);
+        state.write(last);
+    }
 }
 
 /// Whether two names are the same. Most have four to eight bytes, which are compared four at once.

@@ -44,8 +44,9 @@ pub struct Definition {
 /// The names of a text, in the order of first sight, each with the lines that define and use it
 /// first. The number of a name is its place.
 ///
-/// Names are hashed with a digest of the whole text as the key: so nobody can choose names that
-/// collide, since other names are another text.
+/// Names are hashed with a digest of the whole text as the key. Other names are another text, so
+/// names that were chosen to collide without the key are as good as others. Only who makes a text
+/// for a given digest, around names that collide by it, could make the table slow.
 #[derive(Drop)]
 pub struct NameTable<'a> {
     names: IndexSet<Name<'a>, NameHashing>,

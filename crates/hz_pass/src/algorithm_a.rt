@@ -59,8 +59,8 @@ pub fn spread<L: Ledger>(
     pass.make_rounds(out, rank, work, front, steps)
 }
 
-/// Algorithm A from a start that is stable under its own inputs. The first round changes inputs alone, so it evaluates no
-/// other variable. Else it is as `spread`.
+/// Algorithm A from a start that is stable under its own inputs. Such a start lets the first round evaluate the inputs only.
+/// The rest is as in `spread`.
 pub fn spread_stable<L: Ledger>(
     net: &Net,
     input: &[bool],

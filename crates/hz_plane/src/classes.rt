@@ -13,8 +13,8 @@ use std::alloc::Global;
 // A class is a kind, with two pins or less, three, or more.
 const CLASSES: usize = 24;
 
-/// Appends gates to an order, each after the gates that it reads, and of those that may come next all of one class first. Gates that
-/// read themselves in a circle are left out, and what reads such.
+/// Appends gates to an order, each after the gates that it reads, and of those that may come next all of one class first. Gates on a
+/// cycle, and gates that depend on one, are left out.
 pub(crate) fn place_by_class(
     alloc: Global,
     net: &Net,

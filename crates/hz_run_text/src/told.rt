@@ -9,7 +9,7 @@ use hz_gmw::Run;
 use std::alloc::Global;
 use std::marker::Model;
 
-/// Where the steps of a run stand: the place of its lead's, and one more than the place of its cycle's, or 0 if it has no cycle.
+/// Where the steps of a run stand: the index of the lead's steps; index + 1 of the cycle's, or 0 if it has no cycle.
 #[derive(Clone, Copy, Debug)]
 pub(crate) struct Places {
     pub(crate) lead: u32,

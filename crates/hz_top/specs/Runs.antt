@@ -16,7 +16,7 @@ use Rattle.hz_top.specs.Outcome.{Observation, IsJobOutcome}
 -- the words ask for, and the sink as it was and as it is now:
 -- the headline;
 -- the text that was written is one that comes with the status, or a prefix of one if the output failed or memory ran out;
--- the sink's count tells whether the output failed;
+-- the sink's count rose if the output failed (unless it is at its last value), and else it is as it was;
 -- the counts of files that were not asked for are as they were;
 -- and a job in which nothing is to be refused ends with its own status, if the output is taken and memory suffices.
 pub record RunsAs {S : Type 0} (output : S → Output) (faults : S → ℕ) (told : Observation)

@@ -1,4 +1,4 @@
-use Rattle.std.proofs.Common.{◌≡◌, ℕ, fold, length}
+use Rattle.std.proofs.Common.{◌≡◌, fold, length}
 use Rattle.hz_core.specs.NameHash.{words_of}
 use Rattle.hz_core.proofs.name.write_words.Given as goal
 
