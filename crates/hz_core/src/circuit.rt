@@ -79,6 +79,11 @@ impl Circuit {
         }
     }
 
+    /// How the names are hashed.
+    pub fn hashing(&self) -> NameHashing {
+        *self.names.hasher()
+    }
+
     /// Adds a primary input, and returns its number. Primary inputs come before cuts, and cuts before gates.
     pub fn add_input(&mut self, name: &[u8]) -> Result<u32, Memory>
         requires name { IsName name.now }
