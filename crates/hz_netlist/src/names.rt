@@ -14,6 +14,9 @@ use std::marker::Model;
 // How many names a table has room for at first.
 const FIRST_ROOM: usize = 1000;
 
+// How many bytes a name takes at least, on average, with all its uses.
+const LEAST_BYTES: usize = 26;
+
 /// The lines that define and use a name first.
 #[derive(Clone, Copy)]
 pub(crate) struct Lines {
@@ -205,7 +208,7 @@ impl<'a> NameTable<'a> {
         }
         let read = self.text_bytes.saturating_sub(left);
         let more = names.saturating_mul(left) / read.max(1);
-        self.reserve(more.max(FIRST_ROOM))
+        self.reserve(more.min(left / LEAST_BYTES).max(FIRST_ROOM))
     }
 
     // Makes room for that many more names.
