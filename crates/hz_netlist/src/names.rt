@@ -167,7 +167,20 @@ impl<'a> NameTable<'a> {
         ensures first { IfOk result (λ one. one.first ≡ definer_in self.old name.now) }
         ensures err { OnErr result (self.new ≡ self.old) }
     {
-        let number = self.sight(name)?;
+        let Ok(_) = u32::try_from(self.names.len()) else {
+            return Err(Memory);
+        };
+        self.lines.reserve(1)?;
+        let Ok((place, old)) = self.names.replace_full(Name::new(name)) else {
+            return Err(Memory);
+        };
+        if old.is_none() {
+            self.lines.push_reserved(Lines {
+                definer: None,
+                user: None,
+            });
+        }
+        let number = place as u32;
         let first = self.define(number, line);
         Ok(Definition { number, first })
     }
