@@ -21,7 +21,11 @@ each_input inputs = flat_map (λ i. (i, false) ∷ (i, true) ∷ []) (range_with
 abbrev pub each_alone : List (ℕ × Bool) → List (List (ℕ × Bool))
 each_alone pairs = map (λ pair. pair ∷ []) pairs
 
+-- changes, or other bursts if there is no change
+abbrev pub bursts_or : List (List (ℕ × Bool)) → List (List (ℕ × Bool)) → List (List (ℕ × Bool))
+bursts_or [] alone = alone
+bursts_or (change ∷ changes) alone = change ∷ changes
+
 -- the bursts of a script: its changes, or each input alone if it has none
 abbrev pub bursts_of : ℕ → List (List (ℕ × Bool)) → List (List (ℕ × Bool))
-bursts_of inputs [] = each_alone (each_input inputs)
-bursts_of inputs (change ∷ changes) = change ∷ changes
+bursts_of inputs changes = bursts_or changes (each_alone (each_input inputs))

@@ -18,3 +18,4 @@ pub mod Transitions
 pub mod Exploration
 pub mod ExploreText
 pub mod ExploreReports
+pub mod Inside
