@@ -1,11 +1,10 @@
 -- Bits in bytes, and back.
-use Rattle.std.proofs.Common.{◌≡◌, ◌∙◌, sym, ap, refl, ℕ, zero, suc, ◌+◌, ◌*◌, ◌/◌, ◌%◌, ◌^◌, ◌<◌, ◌≤◌, Bool, true, false, List, [], ◌∷◌, ◌++◌, length, map, take, drop, get_or, nat_eq, arith}
+use Rattle.std.proofs.Common.{◌≡◌, ◌≢◌, ◌∙◌, sym, ap, refl, ℕ, zero, suc, ◌+◌, ◌*◌, ◌/◌, ◌%◌, ◌^◌, ◌<◌, ◌≤◌, Bool, true, false, List, [], ◌∷◌, ◌++◌, length, take, drop, get_or, nat_eq, arith}
 use Rattle.std.specs.Int.{bit_at}
 use Rattle.std.proofs.lemmas.Nat.Bits.{bit_at_lowest, bit_at-suc, bit_at-zero}
 use Rattle.std.proofs.lemmas.Nat.{pow_pos}
 use Rattle.std.proofs.lemmas.List.{append-nil, append_assoc, get_or-drop, get_or-take, length-append}
 use Rattle.std.proofs.lemmas.List.FromFn.{get_or-map-range_with_len, fill_by_all, length-map-range_with_len}
-use Rattle.std.proofs.lemmas.Bool.{false≢true}
 use Rattle.std.proofs.lemmas.Bool.Decides.{same_from_decides}
 use Rattle.std.proofs.lemmas.Slice.Eq.{bytes_eq-Decides}
 use Rattle.std.specs.Cmp.{unsigned_Decides}
@@ -48,8 +47,14 @@ packed-bit bits place inside =
     ∙ ap (λ (at : ℕ). get_or bits at false) whole
 
 -- what was packed reads back
-pub packed-back : (bits : List Bool) → unpacked (length bits) (packed bits) ≡ bits
+packed-back : (bits : List Bool) → unpacked (length bits) (packed bits) ≡ bits
 packed-back bits = sym (fill_by_all (bit_of (packed bits)) bits (length bits) false refl (λ place inside. sym (packed-bit bits place inside)))
+
+pub packed_read : (bits : List Bool) (bytes : List ℕ) → bytes ≡ packed bits → unpacked (length bits) bytes ≡ bits
+packed_read bits bytes are = ap (unpacked (length bits)) are ∙ packed-back bits
+
+pub packed_kept : (bits : List Bool) (bytes : List ℕ) → bytes ≡ packed bits → bytes ≡ packed (unpacked (length bits) bytes)
+packed_kept bits bytes are = are ∙ ap packed (sym (packed_read bits bytes are))
 
 -- the byte has all bits but those of the rest, which stand before them
 pub record IsGathered (rest bits : List Bool) (byte : ℕ) : Type 0 where
@@ -92,19 +97,21 @@ unpacked-long count bytes = length-map-range_with_len (bit_of bytes) 0 count
 -- two states, by how many bits they have and by their bytes
 module _ (count other_count : ℕ) (bytes other_bytes : List ℕ) (kept : bytes ≡ packed (unpacked count bytes)) (other_kept : other_bytes ≡ packed (unpacked other_count other_bytes)) where
   -- as many bits are the same exactly if the bytes are
-  pub same-bytes : nat_eq count other_count ≡ true → bytes_eq bytes other_bytes ≡ same_state (unpacked count bytes) (unpacked other_count other_bytes)
+  pub same-bytes : count ≡ other_count → bytes_eq bytes other_bytes ≡ same_state (unpacked count bytes) (unpacked other_count other_bytes)
   same-bytes same_count =
-      same_from_decides (bytes_eq bytes other_bytes) (same_state (unpacked count bytes) (unpacked other_count other_bytes))
-      (λ same. ap (λ (n : ℕ). unpacked n bytes) ((unsigned_Decides count other_count).0 same_count) ∙ ap (unpacked other_count) ((bytes_eq-Decides bytes other_bytes).0 same),
-      λ same. (bytes_eq-Decides bytes other_bytes).1 (kept ∙ ap packed same ∙ sym other_kept))
+      same_from_decides (bytes_eq bytes other_bytes) (same_state (unpacked count bytes) (unpacked other_count other_bytes)) (
+        λ same. ap (λ (n : ℕ). unpacked n bytes) same_count ∙ ap (unpacked other_count) ((bytes_eq-Decides bytes other_bytes).0 same),
+        λ same. (bytes_eq-Decides bytes other_bytes).1 (kept ∙ ap packed same ∙ sym other_kept),
+      )
       (same_state-Decides (unpacked count bytes) (unpacked other_count other_bytes))
 
   -- more bits are others
-  pub other-count : nat_eq count other_count ≡ false → nat_eq count other_count ≡ same_state (unpacked count bytes) (unpacked other_count other_bytes)
+  pub other-count : count ≢ other_count → nat_eq count other_count ≡ same_state (unpacked count bytes) (unpacked other_count other_bytes)
   other-count apart =
-      same_from_decides (nat_eq count other_count) (same_state (unpacked count bytes) (unpacked other_count other_bytes))
-      (λ same. absurd (false≢true (sym apart ∙ same)),
-      λ same. (unsigned_Decides count other_count).1 (sym (unpacked-long count bytes) ∙ ap length same ∙ unpacked-long other_count other_bytes))
+      same_from_decides (nat_eq count other_count) (same_state (unpacked count bytes) (unpacked other_count other_bytes)) (
+        λ same. absurd (apart ((unsigned_Decides count other_count).0 same)),
+        λ same. (unsigned_Decides count other_count).1 (sym (unpacked-long count bytes) ∙ ap length same ∙ unpacked-long other_count other_bytes),
+      )
       (same_state-Decides (unpacked count bytes) (unpacked other_count other_bytes))
 
 -- each bit stands in a byte

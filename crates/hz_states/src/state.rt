@@ -30,6 +30,7 @@ impl Model for State {
 
 impl State {
     // The state with these bits.
+    #[tactic(auto, using(crate::proofs::PackingLemmas::packed_kept, crate::proofs::PackingLemmas::packed_read))]
     pub(crate) fn new(alloc: Global, bits: &[bool]) -> Result<State, AllocError>
         ensures { IfOk result (λ state. state ≡ bits.now) }
     {

@@ -32,14 +32,13 @@ pub struct States {
 
 impl Model for States {
     ghost use Rattle.std.specs.Prelude.{Bool, List};
-    ghost use Rattle.std.specs.List.{IsDistinct};
-    ghost use Rattle.hz_states.specs.States.{same_state};
+    ghost use Rattle.hz_states.specs.States.{HoldsStates};
 
     ghost Value = { List (List Bool) };
 
     ghost view = { λ states. states.set.keys };
 
-    ghost invariant = { λ states. IsDistinct same_state states.set.keys };
+    ghost invariant = { λ states. HoldsStates states.set.keys };
 }
 
 impl States {
@@ -66,7 +65,10 @@ impl States {
         ensures { IfOk result (λ number. number ≡ number_of self.now state.now) }
     {
         let sought = State::new(self.alloc, state)?;
-        Ok(self.set.get_index_of(&sought).map(|place| place as u32))
+        let Some(place) = self.set.get_index_of(&sought) else {
+            return Ok(None);
+        };
+        Ok(Some(place as u32))
     }
 
     /// Puts a state at the end, if it is not there.

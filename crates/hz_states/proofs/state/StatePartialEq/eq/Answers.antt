@@ -1,5 +1,4 @@
 use Rattle.std.proofs.Common.{◌∙◌}
-use Rattle.hz_states.specs.States.{same_state}
 use Rattle.hz_states.proofs.PackingLemmas.{other-count, same-bytes}
 use Rattle.hz_states.proofs.state.StatePartialEq.eq.Goals as goal
 
