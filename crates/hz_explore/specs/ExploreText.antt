@@ -1,16 +1,16 @@
 -- The lines of an exploration.
-use Rattle.std.specs.Prelude.{ℕ, ◌+◌, Bool, true, false, Option, Some, None, List, [], ◌∷◌, ◌++◌, length, codes, decimal, count_by}
+use Rattle.std.specs.Prelude.{ℕ, ◌+◌, Bool, true, false, Option, Some, None, List, [], ◌∷◌, ◌++◌, length, codes, decimal}
 use Rattle.std.specs.List.{flat_map}
 use Rattle.hz_core.specs.Netlist.{Netlist}
 use Rattle.hz_write.specs.Writes.{newline}
 use Rattle.hz_text.specs.Printed.{all_listed, assignment_text, statement_text}
 use Rattle.hz_text.specs.VariableWord.{spaced_word}
-use Rattle.hz_bounds.specs.declared.range.EdgeClass.{EdgeClass}
-use Rattle.hz_bounds.specs.declared.range.EdgeClass.TheVariants.{Steady, Single, Static, MaybeStatic, Dynamic, MaybeDynamic, Unsettled as UnsettledClass}
 use Rattle.hz_states.specs.States.{number_of}
+use Rattle.hz_explore.specs.declared.counting.Classes.{Classes}
+use Rattle.hz_explore.specs.Counts.{classes_of, totals_of}
 use Rattle.hz_explore.specs.Reached.{nodes_of}
-use Rattle.hz_explore.specs.Transitions.{Outcome, Settled, Unsettled, Transition, count_of, is_clean, is_hazard, is_open, node_classes}
-use Rattle.hz_explore.specs.Exploration.{Explored, all_nodes, all_transitions, is_whole}
+use Rattle.hz_explore.specs.Transitions.{Outcome, Settled, Unsettled, Transition, node_classes}
+use Rattle.hz_explore.specs.Exploration.{Explored, all_nodes, all_transitions}
 
 -- the values of the nodes in a state; states are counted from 1
 unfoldable pub state_line : Netlist → ℕ → List Bool → List ℕ
@@ -22,49 +22,13 @@ abbrev pub number_text : Option ℕ → List ℕ
 number_text (Some place) = decimal (place + 1)
 number_text None = codes "more"
 
-abbrev pub is_single : EdgeClass → Bool
-is_single Steady = false
-is_single Single = true
-is_single Static = false
-is_single MaybeStatic = false
-is_single Dynamic = false
-is_single MaybeDynamic = false
-is_single UnsettledClass = false
-
-abbrev pub is_static : EdgeClass → Bool
-is_static Steady = false
-is_static Single = false
-is_static Static = true
-is_static MaybeStatic = false
-is_static Dynamic = false
-is_static MaybeDynamic = false
-is_static UnsettledClass = false
-
-abbrev pub is_dynamic : EdgeClass → Bool
-is_dynamic Steady = false
-is_dynamic Single = false
-is_dynamic Static = false
-is_dynamic MaybeStatic = false
-is_dynamic Dynamic = true
-is_dynamic MaybeDynamic = false
-is_dynamic UnsettledClass = false
-
-abbrev pub is_maybe_dynamic : EdgeClass → Bool
-is_maybe_dynamic Steady = false
-is_maybe_dynamic Single = false
-is_maybe_dynamic Static = false
-is_maybe_dynamic MaybeStatic = false
-is_maybe_dynamic Dynamic = false
-is_maybe_dynamic MaybeDynamic = true
-is_maybe_dynamic UnsettledClass = false
-
 -- how many nodes are of each class
-abbrev pub classes_text : List EdgeClass → List ℕ
-classes_text classes =
-    codes " single " ++ decimal (count_by is_single classes)
-    ++ codes " static " ++ decimal (count_by is_static classes)
-    ++ codes " dynamic " ++ decimal (count_by is_dynamic classes)
-    ++ codes " maybe-dynamic " ++ decimal (count_by is_maybe_dynamic classes)
+abbrev pub counts_text : Classes → List ℕ
+counts_text classes =
+    codes " single " ++ decimal classes.single
+    ++ codes " static " ++ decimal classes.fixed
+    ++ codes " dynamic " ++ decimal classes.dynamic
+    ++ codes " maybe-dynamic " ++ decimal classes.maybe_dynamic
 
 -- the assignments of a burst
 abbrev pub burst_text : Netlist → List (ℕ × Bool) → List ℕ
@@ -76,7 +40,7 @@ abbrev pub outcome_text : Netlist → List (List Bool) → Transition → Outcom
 outcome_text netlist states transition (Settled next edges) =
     codes " to " ++ number_text (number_of states (nodes_of netlist next))
     ++ burst_text netlist transition.burst
-    ++ classes_text (node_classes netlist transition edges)
+    ++ counts_text (classes_of (node_classes netlist transition edges))
     ++ newline
 outcome_text netlist states transition (Unsettled var) =
     codes " unsettled" ++ burst_text netlist transition.burst ++ spaced_word netlist var ++ newline
@@ -113,17 +77,11 @@ totals_text whole states clean hazards unsettled =
     ++ codes " unsettled " ++ decimal unsettled
     ++ newline
 
--- how many transitions pass a test
-abbrev pub count_where : Netlist → (Transition → Bool) → List Explored → ℕ
-count_where netlist test explored = count_by test (all_transitions explored)
-
 -- the last line
 abbrev pub totals_line : Netlist → List Explored → List ℕ
 totals_line netlist explored =
-    totals_text (is_whole netlist explored) (length explored)
-    (count_where netlist (λ one. is_clean (count_of netlist one)) explored)
-    (count_where netlist (λ one. is_hazard (count_of netlist one)) explored)
-    (count_where netlist (λ one. is_open (count_of netlist one)) explored)
+    let totals = totals_of netlist (all_nodes explored) (all_transitions explored) in
+    totals_text totals.is_whole (length explored) totals.clean totals.hazards totals.unsettled
 
 -- the lines of all states, and the last line
 unfoldable pub exploration_text : Netlist → List Explored → List ℕ

@@ -6,7 +6,6 @@ use Rattle.hz_core.specs.Netlist.{Netlist}
 use Rattle.hz_net.specs.Network.{network_of, bit_at, value_at}
 use Rattle.hz_seq.specs.Sequence.{IsFirstUnknown, IsSettledAt}
 use Rattle.hz_bounds.specs.declared.range.EdgeClass.{EdgeClass}
-use Rattle.hz_bounds.specs.declared.range.EdgeClass.TheVariants.{Steady, Single, Static, MaybeStatic, Dynamic, MaybeDynamic, Unsettled as UnsettledClass}
 use Rattle.hz_bounds.specs.Ranges.{edge_class_of}
 use Rattle.hz_edges.specs.Edges.{EdgesOf, AreEdgesOfChange, range_at}
 use Rattle.hz_explore.specs.Bursts.{applies}
@@ -64,46 +63,3 @@ class_at transition edges i =
 abbrev pub node_classes : Netlist → Transition → EdgesOf → List EdgeClass
 node_classes netlist transition edges =
     map (class_at transition edges) (range_with_len 0 (length netlist.names))
-
--- a node of this class shows at most one edge
-abbrev pub is_clean_class : EdgeClass → Bool
-is_clean_class Steady = true
-is_clean_class Single = true
-is_clean_class Static = false
-is_clean_class MaybeStatic = false
-is_clean_class Dynamic = false
-is_clean_class MaybeDynamic = false
-is_clean_class UnsettledClass = false
-
--- what a transition counts as: it is clean if each node is steady or single, unsettled if a variable is, and else it has a hazard
-pub data Count : Type 0 where
-  Clean : Count
-  Hazard : Count
-  Open : Count
-
-abbrev pub count_of_classes : Bool → Count
-count_of_classes true = Clean
-count_of_classes false = Hazard
-
-abbrev pub count_of_outcome : Netlist → Transition → Outcome → Count
-count_of_outcome netlist transition (Settled next edges) =
-    count_of_classes (list_all is_clean_class (node_classes netlist transition edges))
-count_of_outcome netlist transition (Unsettled var) = Open
-
-abbrev pub count_of : Netlist → Transition → Count
-count_of netlist transition = count_of_outcome netlist transition transition.outcome
-
-abbrev pub is_clean : Count → Bool
-is_clean Clean = true
-is_clean Hazard = false
-is_clean Open = false
-
-abbrev pub is_hazard : Count → Bool
-is_hazard Clean = false
-is_hazard Hazard = true
-is_hazard Open = false
-
-abbrev pub is_open : Count → Bool
-is_open Clean = false
-is_open Hazard = false
-is_open Open = true

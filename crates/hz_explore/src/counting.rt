@@ -7,15 +7,16 @@ ghost use Rattle.hz_bounds.specs.declared.range.EdgeClass.{EdgeClass};
 ghost use Rattle.hz_bounds.specs.Ranges.{edge_class_of};
 ghost use Rattle.hz_edges.specs.Edges.{range_at};
 ghost use Rattle.hz_edges.specs.Room.{edges_of};
-ghost use Rattle.hz_explore.specs.Inside.{changes_in, classes_of, counted, most_changes, no_totals};
-ghost use Rattle.hz_explore.specs.Transitions.{Open, count_of_classes};
+ghost use Rattle.hz_explore.specs.Inside.{changes_in, most_changes};
+ghost use Rattle.hz_explore.specs.Progress.{counted, no_totals};
+ghost use Rattle.hz_explore.specs.Counts.{Open, classes_of, count_of_classes};
 
 use hz_bounds::{EdgeClass, edge_class};
 use hz_edges::EdgeRoom;
 
 /// How many nodes are of each class, and whether each is steady or single.
 #[derive(Clone, Copy)]
-pub(crate) struct Classes {
+pub struct Classes {
     pub single: u32,
     pub fixed: u32,
     pub dynamic: u32,
@@ -91,7 +92,7 @@ pub(crate) fn count_classes(nodes: u32, start: &[bool], edges: &EdgeRoom) -> Cla
 
 /// How many changes are clean, have a hazard and are unsettled, and whether each that settles ends in a state that was found.
 #[derive(Clone, Copy)]
-pub(crate) struct Totals {
+pub struct Totals {
     pub clean: u64,
     pub hazards: u64,
     pub unsettled: u64,

@@ -15,8 +15,9 @@ ghost use Rattle.hz_edges.specs.Room.{edges_of};
 ghost use Rattle.hz_states.specs.States.{number_of, state_at};
 ghost use Rattle.hz_explore.specs.Exploration.{found_with};
 ghost use Rattle.hz_explore.specs.Reached.{input_after, nodes_of};
-ghost use Rattle.hz_explore.specs.Transitions.{count_of_classes};
-ghost use Rattle.hz_explore.specs.Inside.{changes_in, classes_of, counted, most_changes, no_totals, IsExploreRoom, IsMade};
+ghost use Rattle.hz_explore.specs.Counts.{classes_of, count_of_classes};
+ghost use Rattle.hz_explore.specs.Inside.{changes_in, most_changes, IsExploreRoom, IsMade};
+ghost use Rattle.hz_explore.specs.Progress.{counted, no_totals};
 
 use crate::counting::{Classes, Totals, count_classes};
 use crate::settling::{settle, write_input};
