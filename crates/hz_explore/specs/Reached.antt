@@ -29,14 +29,20 @@ pub record Settles (netlist : Netlist) (state : List Bool) (burst : List (ℕ ×
   pub results : AreResults netlist state burst a b
   pub settled : IsSettledAt b next
 
--- bursts, one after the other, lead from a state to another: each is one of the list, applies, and settles
+-- one of the bursts leads from a state to the next: it applies, and settles there
+pub record Leads (netlist : Netlist) (bursts : List (List (ℕ × Bool))) (state : List Bool)
+    (burst : List (ℕ × Bool)) (next : List Bool) : Type 0 where
+  pub listed : Contains bursts burst
+  pub applies : applies state burst ≡ true
+  pub settles : Settles netlist state burst next
+
+-- bursts, one after the other, lead from a state to another
 abbrev pub LeadTo : Netlist → List (List (ℕ × Bool)) → List Bool → List (List (ℕ × Bool)) →
     List Bool → Type 0
 LeadTo netlist bursts state [] last = state ≡ last
 LeadTo netlist bursts state (burst ∷ later) last =
-    Contains bursts burst × (applies state burst ≡ true)
-    × ((next : List Bool) × Settles netlist state burst next
-    × LeadTo netlist bursts next later last)
+    (next : List Bool) × Leads netlist bursts state burst next
+    × LeadTo netlist bursts next later last
 
 -- some bursts do
 abbrev pub IsReached : Netlist → List (List (ℕ × Bool)) → List Bool → List Bool → Type 0
