@@ -2,3 +2,13 @@
 pub mod FoundLemmas
 -- The transitions of a state, burst after burst
 pub mod TransitionLemmas
+-- An exploration state by state
+pub mod ProgressLemmas
+-- An exploration that is done: if no state was left out, it has every state that bursts lead to
+pub mod ExplorationLemmas
+-- Every burst from a stable state comes to something, by the laws of the crates below
+pub mod StepLemmas
+-- The lines of states, one state after the other
+pub mod TextLemmas
+-- Transitions that are made one after the other, and their lines
+pub mod MakesLemmas
