@@ -12,3 +12,9 @@ pub mod StepLemmas
 pub mod TextLemmas
 -- Transitions that are made one after the other, and their lines
 pub mod MakesLemmas
+-- Where an exploration stands
+pub mod FrontLemmas
+-- The bursts of a script: how many there are, and which inputs they name
+pub mod BurstLemmas
+-- One transition that is made, and its line
+pub mod ChangeLemmas

@@ -1,12 +1,12 @@
 -- Bursts: changes of some inputs at once.
-use Rattle.std.specs.Prelude.{ℕ, Bool, true, false, List, [], ◌∷◌, map}
-use Rattle.std.specs.Bool.{xor}
+use Rattle.std.specs.Prelude.{ℕ, Bool, true, false, not, List, [], ◌∷◌, map}
+use Rattle.std.specs.Bool.{beq}
 use Rattle.std.specs.List.{flat_map, list_all, range_with_len}
 use Rattle.hz_net.specs.Network.{bit_at}
 
 -- an input does not have this bit yet
 abbrev pub is_changed : List Bool → ℕ × Bool → Bool
-is_changed state pair = xor (bit_at state pair.0) pair.1
+is_changed state pair = not (beq (bit_at state pair.0) pair.1)
 
 -- A burst applies to a state if it changes something, and each of its inputs changes by it.
 abbrev pub applies : List Bool → List (ℕ × Bool) → Bool
