@@ -1,12 +1,12 @@
 -- The bursts of a script: how many there are, and which inputs they name.
-use Rattle.std.proofs.Common.{◌≡◌, ◌∙◌, refl, sym, ap, subst, ℕ, zero, suc, ◌+◌, ◌*◌, ◌<◌, ◌≤◌, Bool, true, false, not, ◌&&◌, List, [], ◌∷◌, ◌++◌, length, map, take, get_or, All, flat_map, append-nil, add-one, arith}
+use Rattle.std.proofs.Common.{◌≡◌, ◌∙◌, refl, sym, ap, subst, ℕ, zero, suc, ◌+◌, ◌-◌, ◌*◌, ◌<◌, ◌≤◌, Bool, true, false, not, ◌&&◌, List, [], ◌∷◌, ◌++◌, length, map, take, drop, get_or, slice_get, Some, All, flat_map, append-nil, add-one, arith}
 use Rattle.std.specs.List.{list_all, range_with_len}
 use Rattle.std.proofs.lemmas.List.{length-map, map-id}
 use Rattle.std.proofs.lemmas.List.Concat.{flat_map-append}
 use Rattle.std.proofs.lemmas.List.Elements.{All-nil, All-cons, All-append, All-map}
 use Rattle.std.proofs.lemmas.List.FromFn.{map-range_with_len_more}
 use Rattle.hz_net.specs.Network.{bit_at}
-use Rattle.hz_explore.specs.Bursts.{applies, bursts_of, each_alone, each_input, is_changed}
+use Rattle.hz_explore.specs.Bursts.{applies, bursts_of, bursts_or, each_alone, each_input, is_changed}
 
 -- both changes of one input
 abbrev both : ℕ → List (ℕ × Bool)
@@ -55,3 +55,16 @@ applies-some state (pair ∷ burst) some = refl
 pub applies-none : (state : List Bool) (burst : List (ℕ × Bool)) → length burst ≡ 0 → applies state burst ≡ false
 applies-none state [] none = refl
 applies-none state (pair ∷ burst) none = absurd (omega (arith, none))
+
+-- without changes each input alone is a burst
+pub no-changes : (changes alone : List (List (ℕ × Bool))) → length changes ≡ 0 → bursts_or changes alone ≡ alone
+no-changes [] alone none = refl
+no-changes (change ∷ changes) alone none = absurd (omega (arith, none))
+
+-- which one it is
+pub one-alone : (pairs : List (ℕ × Bool)) (n : ℕ) → n < length pairs → slice_get (each_alone pairs) n ≡ Some (take ((n + 1) - n) (drop n pairs))
+one-alone [] n few = absurd (omega (arith, few))
+one-alone (pair ∷ pairs) zero few = refl
+one-alone (pair ∷ pairs) (suc n) few =
+    let same : (suc n + 1) - suc n ≡ (n + 1) - n = omega arith in
+    one-alone pairs n (omega (arith, few)) ∙ ap (λ (k : ℕ). Some (take k (drop n pairs))) (sym same)

@@ -16,5 +16,7 @@ pub mod MakesLemmas
 pub mod FrontLemmas
 -- The bursts of a script: how many there are, and which inputs they name
 pub mod BurstLemmas
+-- Counts of the classes of nodes
+pub mod CountLemmas
 -- One transition that is made, and its line
 pub mod ChangeLemmas

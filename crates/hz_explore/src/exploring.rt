@@ -222,7 +222,7 @@ fn write_changes<K: Sink>(
             return;
         }
         let burst = exploring.bursts.get(place);
-        write_change(writer, exploring, room, Made { number, burst });
+        write_change(writer, exploring, room, &Made { number, burst });
     }
 }
 
@@ -231,21 +231,21 @@ fn write_change<K: Sink>(
     writer: &mut Writer<'_, K>,
     exploring: &Exploring,
     room: &mut ExploreRoom,
-    made: Made,
+    made: &Made,
 )
     requires exploring { IsExploring exploring.now }
-    requires burst { All (λ pair. pair.0 < exploring.now.net.now.inputs) made.burst.now }
+    requires burst { All (λ pair. pair.0 < exploring.now.net.now.inputs) made.now.burst.now }
     requires room { IsExploreRoom exploring.now.net.now room.old }
     requires start { IsStableStart exploring.now.net.now room.old.start.items }
     requires states { length room.old.states ≤ most_states }
     requires few { changes_in room.old.totals < most_changes }
     ensures gave { (transitions : List Transition)
-        × Makes exploring.now.net.now exploring.now.cap (made.burst.now ∷ [])
+        × Makes exploring.now.net.now exploring.now.cap (made.now.burst.now ∷ [])
         room.old.start.items transitions room.old room.new (has_failed writer.new)
         × ((all : List (List Bool)) →
         Extends (found_by room.old.states (ends_of exploring.now.net.now transitions)) all →
         Writes K.output K.faults
-        (flat_map (transition_line exploring.now.net.now all made.number) transitions)
+        (flat_map (transition_line exploring.now.net.now all made.now.number) transitions)
         writer.old writer.new) }
     ensures room { IsExploreRoom exploring.now.net.now room.new }
     ensures few { changes_in room.new.totals ≤ changes_in room.old.totals + 1 }
@@ -269,26 +269,26 @@ fn write_found<K: Sink>(
     writer: &mut Writer<'_, K>,
     exploring: &Exploring,
     room: &mut ExploreRoom,
-    made: Made,
+    made: &Made,
 )
     requires exploring { IsExploring exploring.now }
-    requires burst { All (λ pair. pair.0 < exploring.now.net.now.inputs) made.burst.now }
+    requires burst { All (λ pair. pair.0 < exploring.now.net.now.inputs) made.now.burst.now }
     requires room { IsExploreRoom exploring.now.net.now room.old }
     requires start { IsStableStart exploring.now.net.now room.old.start.items }
     requires states { length room.old.states ≤ most_states }
     requires few { changes_in room.old.totals < most_changes }
-    requires applies { applies room.old.start.items made.burst.now ≡ true }
-    requires made { IsMade exploring.now.net.now made.burst.now room.old }
+    requires applies { applies room.old.start.items made.now.burst.now ≡ true }
+    requires made { IsMade exploring.now.net.now made.now.burst.now room.old }
     requires input { room.old.input.items
-        ≡ input_after exploring.now.net.now room.old.start.items made.burst.now }
+        ≡ input_after exploring.now.net.now room.old.start.items made.now.burst.now }
     requires settled { IsSettledAt room.old.edges.b.items room.old.next.items }
     ensures gave { (transitions : List Transition)
-        × Makes exploring.now.net.now exploring.now.cap (made.burst.now ∷ [])
+        × Makes exploring.now.net.now exploring.now.cap (made.now.burst.now ∷ [])
         room.old.start.items transitions room.old room.new (has_failed writer.new)
         × ((all : List (List Bool)) →
         Extends (found_by room.old.states (ends_of exploring.now.net.now transitions)) all →
         Writes K.output K.faults
-        (flat_map (transition_line exploring.now.net.now all made.number) transitions)
+        (flat_map (transition_line exploring.now.net.now all made.now.number) transitions)
         writer.old writer.new) }
     ensures room { IsExploreRoom exploring.now.net.now room.new }
     ensures few { changes_in room.new.totals ≤ changes_in room.old.totals + 1 }

@@ -42,14 +42,14 @@ pub(crate) fn write_nodes<K: Sink>(
 pub(crate) fn write_settled<K: Sink>(
     writer: &mut Writer<'_, K>,
     net: &Net,
-    made: Made,
+    made: &Made,
     found: Found,
 )
-    requires burst { All (λ pair. pair.0 < length net.now.names) made.burst.now }
+    requires burst { All (λ pair. pair.0 < length net.now.names) made.now.burst.now }
     requires place { IfSome found.place (λ place. place < 4294967295) }
     ensures gave { Writes K.output K.faults
-        (decimal made.number ++ (codes " to " ++ number_text found.place
-        ++ burst_text net.now made.burst.now ++ counts_text found.classes ++ newline))
+        (decimal made.now.number ++ (codes " to " ++ number_text found.place
+        ++ burst_text net.now made.now.burst.now ++ counts_text found.classes ++ newline))
         writer.old writer.new }
     ensures none_waits { NoneWaits writer.new }
 {
@@ -61,11 +61,11 @@ pub(crate) fn write_settled<K: Sink>(
 }
 
 // Gives the line of a change that leaves a variable unsettled.
-pub(crate) fn write_unsettled<K: Sink>(writer: &mut Writer<'_, K>, net: &Net, made: Made, var: u32)
-    requires burst { All (λ pair. pair.0 < length net.now.names) made.burst.now }
+pub(crate) fn write_unsettled<K: Sink>(writer: &mut Writer<'_, K>, net: &Net, made: &Made, var: u32)
+    requires burst { All (λ pair. pair.0 < length net.now.names) made.now.burst.now }
     requires var { IsVariable net.now var }
     ensures gave { Writes K.output K.faults
-        (decimal made.number ++ (codes " unsettled" ++ burst_text net.now made.burst.now
+        (decimal made.now.number ++ (codes " unsettled" ++ burst_text net.now made.now.burst.now
         ++ spaced_word net.now var ++ newline))
         writer.old writer.new }
     ensures none_waits { NoneWaits writer.new }

@@ -110,6 +110,7 @@ impl ExploreRoom {
         ensures states { self.new.states ≡ self.old.states }
         ensures totals { self.new.totals ≡ self.old.totals }
     {
+        net.keeps_shape();
         write_input(self.start.as_slice(), burst, self.input.as_mut_slice());
         let change = Change {
             net,

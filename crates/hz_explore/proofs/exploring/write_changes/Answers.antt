@@ -1,5 +1,5 @@
 -- One burst after the other.
-use Rattle.std.proofs.Common.{◌≡◌, ◌∙◌, refl, sym, ap, subst, ℕ, ◌+◌, ◌<◌, ◌≤◌, Bool, true, false, List, [], ◌∷◌, ◌++◌, length, take, drop, get_or, All, Vec, arith, add-one}
+use Rattle.std.proofs.Common.{◌≡◌, ◌∙◌, refl, sym, ap, subst, ℕ, ◌+◌, ◌<◌, ◌≤◌, Bool, true, false, List, [], ◌∷◌, ◌++◌, length, take, drop, get_or, All, arith, add-one}
 use Rattle.std.specs.List.{flat_map}
 use Rattle.std.proofs.lemmas.List.{take-append-drop}
 use Rattle.std.proofs.lemmas.List.Concat.{flat_map-append}
@@ -34,11 +34,12 @@ pub write_change-requires-clause-burst : goal.write_change-requires-clause-burst
 write_change-requires-clause-burst g c =
     let bursts = bursts_in c.args.exploring.now.bursts.now in
     let few : c.loop-place.place < length bursts = omega (arith, c.loop-place-test.true, c.len-place-end.ensures) in
-    subst (All (λ pair. pair.0 < c.args.exploring.now.net.now.inputs)) (get_or_from_slice_get bursts c.loop-place.place c.get.result.now [] c.get.ensures) (c.requires.exploring.inputs c.loop-place.place [] few)
+    subst (All (λ pair. pair.0 < c.args.exploring.now.net.now.inputs)) (get_or_from_slice_get bursts c.loop-place.place c.get-burst.result.now [] c.get-burst.ensures) (c.requires.exploring.inputs c.loop-place.place [] few)
 
 pub write_change-requires-clause-start : goal.write_change-requires-clause-start
 write_change-requires-clause-start g c =
-    subst (λ (start : Vec Bool). IsStableStart c.args.exploring.now.net.now start.items) (sym c.loop-place.invariant.3) c.requires.start
+    let begins : c.loop-place.room.start.items ≡ c.args.room.now.start.items = rw c.loop-place.invariant.3 refl in
+    subst (IsStableStart c.args.exploring.now.net.now) (sym begins) c.requires.start
 
 pub write_change-requires-clause-states : goal.write_change-requires-clause-states
 write_change-requires-clause-states g c =
@@ -59,19 +60,20 @@ loop-place-preserved g c =
     let middle = c.loop-place.room in
     let now = c.write_change.new.room in
     let state = was.start.items in
-    let burst = c.get.result.now in
+    let burst = c.get-burst.result.now in
     let so_far = c.loop-place.invariant in
     let made = c.write_change.ensures.gave in
     let failed = has_failed c.write_change.new.writer in
     let fine : has_failed c.loop-place.writer ≡ false = sym c.has_failed.ensures ∙ c.if-has_failed.false in
+    let begins : middle.start.items ≡ state = rw so_far.3 refl in
     let few : place < length bursts = omega (arith, c.loop-place-test.true, c.len-place-end.ensures) in
     let taken : take (place + 1) bursts ≡ take place bursts ++ burst ∷ [] =
     rw add-one (take-suc bursts place [] few)
-    ∙ ap (λ (one : List (ℕ × Bool)). take place bursts ++ one ∷ []) (get_or_from_slice_get bursts place burst [] c.get.ensures) in
+    ∙ ap (λ (one : List (ℕ × Bool)). take place bursts ++ one ∷ []) (get_or_from_slice_get bursts place burst [] c.get-burst.ensures) in
     let first : Makes netlist cap (take place bursts) state so_far.0 was middle false =
     subst (Makes netlist cap (take place bursts) state so_far.0 was middle) fine so_far.1 in
     let then : Makes netlist cap (burst ∷ []) state made.0 middle now failed =
-    subst (λ (start : Vec Bool). Makes netlist cap (burst ∷ []) start.items made.0 middle now failed) so_far.3 made.1 in
+    subst (λ (start : List Bool). Makes netlist cap (burst ∷ []) start made.0 middle now failed) begins made.1 in
     let both : Makes netlist cap (take place bursts ++ burst ∷ []) state (so_far.0 ++ made.0) was now failed =
     makes-then netlist cap state (take place bursts) (burst ∷ []) so_far.0 made.0 was middle now failed first then in
     let found : found_by middle.states (ends_of netlist made.0) ≡ found_by was.states (ends_of netlist (so_far.0 ++ made.0)) =

@@ -8,8 +8,8 @@ use Rattle.hz_explore.specs.Exploration.{all_nodes, all_transitions}
 use Rattle.hz_explore.specs.ExploreText.{totals_line, totals_text}
 use Rattle.hz_explore.proofs.exploring.write_last.Goals as goal
 
-pub returns-then : goal.returns-then
-returns-then g c netlist explored counted =
+pub returns-then-has_failed : goal.returns-then-has_failed
+returns-then-has_failed g c netlist explored counted =
     let failed : has_failed c.args.writer.now ≡ true = sym c.has_failed.ensures ∙ c.if-has_failed.true in
     writes_failed (totals_line netlist explored) failed
 

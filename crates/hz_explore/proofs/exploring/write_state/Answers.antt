@@ -1,5 +1,5 @@
 -- A state's own line, and those of its transitions.
-use Rattle.std.proofs.Common.{◌≡◌, refl, sym, subst, ap, Bool, List}
+use Rattle.std.proofs.Common.{◌≡◌, ◌∙◌, refl, sym, subst, ap, Bool, List}
 use Rattle.hz_write.proofs.Writers.{writes_then}
 use Rattle.hz_net.specs.Variables.{expansion_of}
 use Rattle.hz_net.specs.Starts.{IsStableStart}
@@ -31,6 +31,6 @@ returns-clause-gave g c =
       made.0,
       makes-from netlist cap state bursts made.0 there was now failed (sym c.go_to.ensures.states) (sym c.go_to.ensures.totals) from,
       λ all ext.
-          writes_then (rw c.go_to.ensures.nodes at c.write_nodes.ensures.gave)
+          writes_then (rw (c.as_slice.ensures.value ∙ c.go_to.ensures.nodes) at c.write_nodes.ensures.gave)
           (made.2 all (subst (λ (states : List (List Bool)). Extends (found_by states (ends_of netlist made.0)) all) (sym c.go_to.ensures.states) ext)) refl,
     )

@@ -148,8 +148,8 @@ returns-then-has_failed-clause-gave g c =
       λ fine. absurd (true≢false (sym failed ∙ fine)),
     )
 
-pub returns-then-clause-gave : goal.returns-then-clause-gave
-returns-then-clause-gave g c =
+pub returns-then-number-len-clause-gave : goal.returns-then-number-len-clause-gave
+returns-then-number-len-clause-gave g c =
     let netlist = c.args.exploring.now.net.now in
     let cap = c.args.exploring.now.cap in
     let bursts = bursts_in c.args.exploring.now.bursts.now in
