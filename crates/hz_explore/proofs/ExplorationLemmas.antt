@@ -1,5 +1,5 @@
 -- An exploration that is done: if no state was left out, it has every state that bursts lead to.
-use Rattle.std.proofs.Common.{◌≡◌, ◌∙◌, refl, sym, ap, subst, inl, inr, ℕ, zero, suc, ◌+◌, ◌<◌, Bool, true, false, ◌&&◌, ◌||◌, List, [], ◌∷◌, ◌++◌, length, map, filter, get_or, drop, All, Contains, Option, Some, arith}
+use Rattle.std.proofs.Common.{◌≡◌, ◌∙◌, refl, sym, ap, subst, inl, inr, ℕ, zero, suc, ◌+◌, ◌<◌, ◌≤◌, Bool, true, false, ◌&&◌, ◌||◌, List, [], ◌∷◌, ◌++◌, length, map, filter, get_or, drop, length-take, All, Contains, Option, Some, arith}
 use Rattle.std.specs.List.{cons_option, flat_map, list_all, list_any, IsDistinct}
 use Rattle.std.proofs.lemmas.Bool.{true≢false}
 use Rattle.std.proofs.lemmas.List.Elements.{All-nil, All-cons, All-head, All-tail, All-contains, Contains-append_left, Contains-append_right}
@@ -14,15 +14,18 @@ use Rattle.hz_net.specs.Starts.{IsStableStart}
 use Rattle.hz_net.specs.Variables.{expansion_of}
 use Rattle.hz_net.proofs.TernaryStarts.{result-once}
 use Rattle.hz_seq.specs.Sequence.{IsSettledAt}
+use Rattle.hz_edges.specs.Edges.{ChangesAtMost}
 use Rattle.hz_states.specs.States.{has_state, same_state}
 use Rattle.hz_states.specs.Key.{same_state-Decides}
 use Rattle.hz_explore.specs.Bursts.{applies}
 use Rattle.hz_explore.specs.Reached.{nodes_of, input_after, AreResults, Settles, Leads, LeadTo, IsReached}
 use Rattle.hz_explore.specs.Transitions.{Outcome, Settled, Unsettled, Transition, IsRightOutcome, IsRightTransition, AreTransitions, end_of, ends_of}
-use Rattle.hz_explore.specs.Exploration.{Explored, IsExploration, all_nodes, all_transitions, found_by, is_whole, state_of}
+use Rattle.hz_explore.specs.Counts.{Clean, count_of, is_hazard, is_open}
+use Rattle.hz_explore.specs.Exploration.{Explored, IsExploration, all_nodes, all_transitions, found_by, hazards_in, is_whole, state_of, unsettled_in}
 use Rattle.hz_explore.specs.Progress.{IsFound, IsSoFar}
 use Rattle.hz_explore.proofs.FoundLemmas.{has-first}
 use Rattle.hz_explore.proofs.ProgressLemmas.{HasSteps, all-unmap}
+use Rattle.hz_explore.proofs.SafeLemmas.{clean-count, clean-safe, none-counted}
 
 -- a state that is known has no X, and one list of values is that of one state
 known-bit : (bit : Bool) → tri_of bit ≡ Unknown → ⊥
@@ -132,22 +135,33 @@ module _ (netlist : Netlist) (cap : ℕ) (bursts : List (List (ℕ × Bool))) (s
           same ∙ ap (λ (state : List Bool). Some (nodes_of netlist state)) equal
       by (Unsettled var) found same = absurd (no-unknown next var (subst (λ (values : List Tri). value_at values var ≡ Unknown) (same_b ∙ settles.settled) found.here))
 
-  -- one burst more leads to a state that is there
-  led-there : (state next : List Bool) (burst : List (ℕ × Bool)) → IsStableStart netlist state → has_state (all_nodes explored) (nodes_of netlist state) ≡ true → Leads netlist bursts state burst next → has_state (all_nodes explored) (nodes_of netlist next) ≡ true
-  led-there state next burst stable has leads =
+  -- each burst that applies to a state that is there has its transition
+  transition-at : (state : List Bool) (burst : List (ℕ × Bool)) → IsStableStart netlist state → has_state (all_nodes explored) (nodes_of netlist state) ≡ true → Contains bursts burst → applies state burst ≡ true →
+      (one : Transition) × Contains (all_transitions explored) one × IsRightTransition netlist cap one × (one.start ≡ state) × (one.burst ≡ burst)
+  transition-at state burst stable has listed can =
       let here = explored-there netlist explored (nodes_of netlist state) has in
       let same : state_of netlist here.0 ≡ state = ap (expansion_of netlist) here.2 ∙ sym (steps.expands state stable) in
       let transitions : AreTransitions netlist cap bursts state here.0.transitions =
       subst (λ (from : List Bool). AreTransitions netlist cap bursts from here.0.transitions) same (All-contains (λ (one : Explored). AreTransitions netlist cap bursts (state_of netlist one) one.transitions) explored here.0 are here.1) in
       let found = unmapped (λ (t : Transition). t.burst) here.0.transitions burst
-      (subst (λ (list : List (List (ℕ × Bool))). Contains list burst) (sym transitions.each_once) (passes (applies state) bursts burst leads.listed leads.applies)) in
-      let one : Transition = found.0 in
-      let starts : one.start ≡ state = All-contains (λ (t : Transition). t.start ≡ state) here.0.transitions one transitions.start found.1 in
-      let right : IsRightTransition netlist cap one = All-contains (IsRightTransition netlist cap) here.0.transitions one transitions.right found.1 in
+      (subst (λ (list : List (List (ℕ × Bool))). Contains list burst) (sym transitions.each_once) (passes (applies state) bursts burst listed can)) in
+      let one : Transition = found.0 in (
+        one,
+        transition-there explored here.0 one here.1 found.1,
+        All-contains (IsRightTransition netlist cap) here.0.transitions one transitions.right found.1,
+        All-contains (λ (t : Transition). t.start ≡ state) here.0.transitions one transitions.start found.1,
+        found.2,
+      )
+
+  -- one burst more leads to a state that is there
+  led-there : (state next : List Bool) (burst : List (ℕ × Bool)) → IsStableStart netlist state → has_state (all_nodes explored) (nodes_of netlist state) ≡ true → Leads netlist bursts state burst next → has_state (all_nodes explored) (nodes_of netlist next) ≡ true
+  led-there state next burst stable has leads =
+      let at = transition-at state burst stable has leads.listed leads.applies in
+      let one : Transition = at.0 in
       let settles : Settles netlist one.start one.burst next =
-      subst (λ (from : List Bool). Settles netlist from one.burst next) (sym starts) (subst (λ (b : List (ℕ × Bool)). Settles netlist state b next) (sym found.2) leads.settles) in
-      let ends = ends-so one next one.outcome right settles refl in
-      let inside = end-there netlist (all_transitions explored) one (nodes_of netlist next) (transition-there explored here.0 one here.1 found.1) ends in
+      subst (λ (from : List Bool). Settles netlist from one.burst next) (sym at.3) (subst (λ (b : List (ℕ × Bool)). Settles netlist state b next) (sym at.4) leads.settles) in
+      let ends = ends-so one next one.outcome at.2 settles refl in
+      let inside = end-there netlist (all_transitions explored) one (nodes_of netlist next) at.1 ends in
       All-contains (λ (nodes : List Bool). has_state (all_nodes explored) nodes ≡ true) (ends_of netlist (all_transitions explored)) (nodes_of netlist next)
       (AllPass-from_list_all (has_state (all_nodes explored)) (ends_of netlist (all_transitions explored)) whole) inside
 
@@ -157,6 +171,25 @@ module _ (netlist : Netlist) (cap : ℕ) (bursts : List (List (ℕ × Bool))) (s
   all-there (burst ∷ path) state last stable has leads =
       all-there path leads.0 last (steps.stable state leads.0 burst stable leads.1.settles) (led-there state leads.0 burst stable has leads.1) leads.2
 
+  -- and where they lead is stable
+  pub all-stable : (path : List (List (ℕ × Bool))) (state last : List Bool) → IsStableStart netlist state → LeadTo netlist bursts state path last → IsStableStart netlist last
+  all-stable [] state last stable leads = subst (IsStableStart netlist) leads stable
+  all-stable (burst ∷ path) state last stable leads = all-stable path leads.0 last (steps.stable state leads.0 burst stable leads.1.settles) leads.2
+
+  -- if no transition has a hazard or is unsettled, each node changes at most once in each burst
+  pub all-safe : hazards_in netlist explored ≡ 0 → unsettled_in netlist explored ≡ 0 → (state : List Bool) (burst : List (ℕ × Bool)) (i : ℕ) → IsStableStart netlist state → has_state (all_nodes explored) (nodes_of netlist state) ≡ true → Contains bursts burst → applies state burst ≡ true → i < length netlist.names →
+      ChangesAtMost (network_of netlist) (input_after netlist state burst) state i 1
+  all-safe hazards unsettled state burst i stable has listed can node =
+      let at = transition-at state burst stable has listed can in
+      let one : Transition = at.0 in
+      let clean : count_of netlist one ≡ Clean =
+      clean-count (count_of netlist one) (none-counted (λ (t : Transition). is_hazard (count_of netlist t)) (all_transitions explored) one hazards at.1)
+      (none-counted (λ (t : Transition). is_open (count_of netlist t)) (all_transitions explored) one unsettled at.1) in
+      let inside : length netlist.names ≤ length (network_of netlist) = omega (arith, steps.long state stable, stable.long, length-take (length netlist.names) state) in
+      let once = clean-safe netlist cap one i clean at.2.outcome node inside in
+      subst (λ (from : List Bool). ChangesAtMost (network_of netlist) (input_after netlist from burst) from i 1) at.3
+      (subst (λ (b : List (ℕ × Bool)). ChangesAtMost (network_of netlist) (input_after netlist one.start b) one.start i 1) at.4 once)
+
 -- once each state that was found is explored, the exploration is done
 pub is-exploration : (netlist : Netlist) (cap : ℕ) (bursts : List (List (ℕ × Bool))) (start : List Bool) → HasSteps netlist cap → IsStableStart netlist start → (explored : List Explored) (found : List (List Bool)) → IsSoFar netlist cap bursts start explored found → found ≡ all_nodes explored →
     IsExploration netlist cap bursts start explored
@@ -164,14 +197,18 @@ is-exploration netlist cap bursts start steps stable explored found so_far done 
     let right : All (λ (one : Explored). IsFound netlist bursts start one.nodes) explored =
     all-unmap (IsFound netlist bursts start) (λ (one : Explored). one.nodes) explored (subst (All (IsFound netlist bursts start)) done so_far.right) in
     let order = sym done ∙ so_far.order in
+    let first : has_state (all_nodes explored) (nodes_of netlist start) ≡ true =
+    subst (λ (list : List (List Bool)). has_state list (nodes_of netlist start) ≡ true) (sym order) (has-first (nodes_of netlist start) (ends_of netlist (all_transitions explored))) in
+    let complete : is_whole netlist explored ≡ true → (state : List Bool) → IsReached netlist bursts start state → has_state (all_nodes explored) (nodes_of netlist state) ≡ true =
+    λ whole state reached. all-there netlist cap bursts start steps explored so_far.transitions whole reached.0 start state stable first reached.1 in
     record {
       transitions = so_far.transitions;
       order = order;
       stable = λ k d few. (right k d few).stable;
       reached = λ k d few. (right k d few).reached;
       once = subst (IsDistinct same_state) done so_far.once;
-      complete = λ whole state reached.
-          all-there netlist cap bursts start steps explored so_far.transitions whole reached.0 start state stable
-          (subst (λ (list : List (List Bool)). has_state list (nodes_of netlist start) ≡ true) (sym order) (has-first (nodes_of netlist start) (ends_of netlist (all_transitions explored))))
-          reached.1;
+      complete = complete;
+      safe = λ whole hazards unsettled state burst i reached.
+          all-safe netlist cap bursts start steps explored so_far.transitions whole hazards unsettled state burst i
+          (all-stable netlist cap bursts start steps explored so_far.transitions whole reached.0 start state stable reached.1) (complete whole state reached);
     }

@@ -4,6 +4,8 @@ pub mod FoundLemmas
 pub mod TransitionLemmas
 -- An exploration state by state
 pub mod ProgressLemmas
+-- A clean transition: each node changes at most once in it, along every run
+pub mod SafeLemmas
 -- An exploration that is done: if no state was left out, it has every state that bursts lead to
 pub mod ExplorationLemmas
 -- Every burst from a stable state comes to something, by the laws of the crates below

@@ -1,12 +1,16 @@
 -- All that bursts lead to from a start: states in the order in which they are found, each with its transitions.
-use Rattle.std.specs.Prelude.{◌≡◌, ℕ, Bool, true, List, [], ◌∷◌, length, map, All, fold, nat_le, if◌then◌else◌}
+use Rattle.std.specs.Prelude.{◌≡◌, ℕ, ◌<◌, Bool, true, List, [], ◌∷◌, length, map, All, Contains, count_by, fold, nat_le, if◌then◌else◌}
 use Rattle.std.specs.List.{flat_map, list_all, IsDistinct}
 use Rattle.hz_core.specs.Netlist.{Netlist}
+use Rattle.hz_net.specs.Network.{network_of}
 use Rattle.hz_net.specs.Starts.{IsStableStart}
 use Rattle.hz_net.specs.Variables.{expansion_of}
+use Rattle.hz_edges.specs.Edges.{ChangesAtMost}
 use Rattle.hz_states.specs.States.{has_state, same_state, with_state}
 use Rattle.hz_explore.specs.Limits.{most_states}
-use Rattle.hz_explore.specs.Reached.{nodes_of, IsReached}
+use Rattle.hz_explore.specs.Bursts.{applies}
+use Rattle.hz_explore.specs.Counts.{count_of, is_hazard, is_open}
+use Rattle.hz_explore.specs.Reached.{input_after, nodes_of, IsReached}
 use Rattle.hz_explore.specs.Transitions.{Transition, AreTransitions, ends_of}
 
 -- A state by the values of its nodes, and its transitions.
@@ -40,12 +44,23 @@ abbrev pub is_whole : Netlist → List Explored → Bool
 is_whole netlist explored =
     list_all (has_state (all_nodes explored)) (ends_of netlist (all_transitions explored))
 
+-- how many transitions have a hazard, and how many leave a variable unsettled
+abbrev pub hazards_in : Netlist → List Explored → ℕ
+hazards_in netlist explored =
+    count_by (λ one. is_hazard (count_of netlist one)) (all_transitions explored)
+
+abbrev pub unsettled_in : Netlist → List Explored → ℕ
+unsettled_in netlist explored =
+    count_by (λ one. is_open (count_of netlist one)) (all_transitions explored)
+
 -- The exploration of a circuit by bursts from a start:
 -- each state has its transitions;
 -- the states are the start and then those in which transitions end, in the order in which they are first seen, as long as there is
 -- room.
 -- So each of them is a stable start, bursts lead to it, and none stands twice; and if none was left out, every state that bursts lead
--- to is there: what is true of all transitions is true of every burst, in whatever order they come one after the other.
+-- to is there.
+-- If besides no transition has a hazard or leaves a variable unsettled, the circuit is safe: in whatever order the bursts come, one
+-- after the other has settled, each node changes at most once in each burst, along every run, whatever the delays.
 pub record IsExploration (netlist : Netlist) (cap : ℕ) (bursts : List (List (ℕ × Bool)))
     (start : List Bool) (explored : List Explored) : Type 0 where
   pub transitions :
@@ -58,3 +73,8 @@ pub record IsExploration (netlist : Netlist) (cap : ℕ) (bursts : List (List (�
   pub complete : is_whole netlist explored ≡ true →
       (state : List Bool) → IsReached netlist bursts start state →
       has_state (all_nodes explored) (nodes_of netlist state) ≡ true
+  pub safe : is_whole netlist explored ≡ true → hazards_in netlist explored ≡ 0 →
+      unsettled_in netlist explored ≡ 0 →
+      (state : List Bool) (burst : List (ℕ × Bool)) (i : ℕ) → IsReached netlist bursts start state →
+      Contains bursts burst → applies state burst ≡ true → i < length netlist.names →
+      ChangesAtMost (network_of netlist) (input_after netlist state burst) state i 1
