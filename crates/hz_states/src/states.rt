@@ -19,8 +19,8 @@ pub struct Added {
 /// The states of a circuit that were found so far, each once. The number of a state is its place in the order in which they were
 /// found, and begins with 0.
 ///
-/// A state is a bit for each node. It is kept eight bits to a byte, so a state of up to 128 nodes takes 64 bytes with all that the
-/// table needs for it, and one of more nodes an allocation besides.
+/// A state is a list of bits, one for each node. It is kept eight bits to a byte: 65,536 states of up to 128 nodes take 4 MB with all
+/// that the table needs for them. Each state of more nodes has an allocation besides.
 ///
 /// States are hashed with a key. If the key is a digest of the netlist, states that were chosen to collide without it are as good
 /// as others.
