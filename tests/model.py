@@ -117,6 +117,11 @@ class Circuit:
         """The state in which each node has a given bit and each wire its source's."""
         return nodes + "".join(nodes[self.names.index(source)] for source in self.wires)
 
+    def changed(self, nodes, assigned):
+        """The circuit with a stable start of these nodes, and the input after inputs are assigned."""
+        new = "".join(assigned.get(name, bit) for name, bit in zip(self.inputs, nodes))
+        return Circuit(self.inputs, self.gates, nodes, new, "".join(node for _, node in self.cuts))
+
     def netlist(self):
         lines = [f"INPUT({name})" for name in self.primary]
         lines += [f"{name} = DFF({node})" for name, node in self.cuts]
