@@ -78,7 +78,7 @@ def parser():
     job = _job(jobs, "summary", summary.run, "a line for each change, and what each hazard means")
     job.add_argument("--only", metavar="NODE,..", help="speak of these nodes alone")
     job.add_argument("--outputs", action="store_true", help="speak of the outputs alone")
-    job.add_argument("--roots", action="store_true", help="leave out the echoes: hazards to which other hazards lead")
+    job.add_argument("--roots", action="store_true", help="leave out the echoes: nodes that read the hazard of another one of these nodes")
     job.add_argument("--all", action="store_true", help="speak of all nodes, the clean ones as well")
     job.add_argument("--fail", action="store_true", help="write each hazard as FILE:LINE: .., and end with 1 if there is one")
     job.add_argument("--json", action="store_true", help="write it as JSON")
