@@ -122,6 +122,7 @@ document.addEventListener("keydown", event => {
   KEYS[event.key]();
 });
 listenToCanvas();
+window.addEventListener("beforeprint", fitAll);
 window.addEventListener("resize", () => {
   camera.shown = "";
   drawCircuit();

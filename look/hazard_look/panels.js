@@ -138,7 +138,7 @@ function drawWave() {
   const end = Math.min(steps().length, begin + WINDOW), cycle = run().cycle;
   const variables = waveVariables(), left = 130, share = (room.clientWidth - left - 40) / (end - begin + 1);
   const unit = Math.max(10, Math.min(44, share)), width = left + (end - begin + 1) * unit + 10;
-  const svg = make("svg", { width, height: variables.length * ROW + 6, role: "img", "aria-label": "waveform" });
+  const svg = make("svg", { width, height: variables.length * ROW + 6, viewBox: `0 0 ${width} ${variables.length * ROW + 6}`, role: "img", "aria-label": "waveform" });
   const at = step => left + (step - begin) * unit;
   if (cycle !== null && cycle < steps().length) {
     const from = at(Math.max(cycle, begin));
