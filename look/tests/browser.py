@@ -5,6 +5,7 @@ import re
 import shutil
 import subprocess
 
+import exploring
 import week
 
 BROWSERS = ("chromium", "chromium-browser", "google-chrome")
@@ -36,7 +37,7 @@ document.body.append(Object.assign(document.createElement("pre"), { id: "told", 
 """
 
 
-def rows(folder, call, write, example):
+def rows(folder, call, write, example, hazard):
     """Rows of name, found, wanted."""
     browser = next((path for path in map(shutil.which, BROWSERS) if path), None)
     if browser is None:
@@ -52,6 +53,8 @@ def rows(folder, call, write, example):
     yield from _other_root(opened, call, write, folder)
     yield from _clean(opened, call, write, folder)
     yield from _large(opened, call, write, folder)
+    if exploring.is_known(hazard, example):
+        yield from _states(opened, call, write, folder)
 
 
 def _opened(folder, browser, write, page, actions, address="", size="1400,900"):
@@ -184,3 +187,19 @@ def _large(opened, call, write, folder):
     page = call(["page", write(folder, "d.bench", chain(100)), write(folder, "d.txt", "start a=0 c=1\nchange a=1\n")])[1]
     told, errors = opened(page, 'tell("opened"); press("all"); tell("whole"); press("whole"); tell("fitted");')
     yield "a whole circuit and its map", (errors, told["opened"]["boxes"], told["opened"]["map"], told["whole"]["boxes"], told["whole"]["map"], told["fitted"]["map"]), ([], 60, 60, 102, 102, 0)
+
+
+def _states(opened, call, write, folder):
+    """The graph of a flow table: a click on an arrow opens its change, in the circuit."""
+    page = call(["table", "--page", write(folder, "l.bench", exploring.LATCH), write(folder, "l.txt", "start r=0 s=0 q=1\nchange r=1\nchange r=0\nchange r=1 s=1\nchange r=0 s=0\n")])[1]
+    told, errors = opened(page, """
+        const arrows = () => [...document.querySelectorAll(".move")], isShown = () => !document.getElementById("states").hidden;
+        tell("opened"); told.arrows = arrows().map(one => one.getAttribute("aria-label")); told.states = count(".state"); told.shown = [isShown()];
+        arrows()[0].dispatchEvent(new MouseEvent("click")); tell("clicked"); told.shown.push(isShown()); told.script = [...document.querySelectorAll("code")].pop().textContent;
+        key("s"); told.shown.push(isShown()); document.querySelectorAll(".state")[1].dispatchEvent(new MouseEvent("click")); tell("state"); told.shown.push(isShown());
+        arrows()[0].dispatchEvent(new KeyboardEvent("keydown", { key: "Enter", bubbles: true })); told.shown.push(isShown());""")
+    yield "the arrows of a graph", (errors, told["states"], told["arrows"]), (
+        [], 5, ["1 to 2, r=1: clean", "1 to 3, r=1 s=1: 2 hazards", "2 to 4, r=0: clean", "3 to 5, r=0: clean", "3 unsettled, r=0 s=0: 2 hazards", "4 to 2, r=1: clean",
+                "4 to 3, r=1 s=1: 2 hazards", "5 to 3, r=1: clean"])
+    yield "states and circuit", (told["shown"], told["opened"]["nav"].count("unsettled"), told["script"]), ([True, False, True, True, False], 1, "start r=0 s=0 q=1\nchange r=1")
+    yield "the changes that open", (told["opened"]["chosen"], told["clicked"]["chosen"], told["state"]["chosen"], told["clicked"]["boxes"]), ("qb", "r", "r", 4)
