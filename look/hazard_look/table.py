@@ -31,7 +31,11 @@ class Burst(NamedTuple):
 def run(words, out):
     """Writes the table of a netlist and a script, or the page of it."""
     with file_of(script.without_repeats(words.script)) as path:
-        found = words.program.explore(words.netlist, path)
+        return _written(words, out, words.program.explore(words.netlist, path))
+
+
+def _written(words, out, found):
+    """Writes an exploration, and answers the status."""
     statements = script.must_have_no_edges(words.script)
     circuit = load(words.netlist)
     if words.page:
