@@ -23,10 +23,6 @@ class Burst(NamedTuple):
     def title(self):
         return spelt(self.values)[1:] or "nothing"
 
-    def of(self, state):
-        """Its transition in a state, if it applies."""
-        return next((one for one in state.transitions if one.burst == self.values), None)
-
 
 def run(words, out):
     """Writes the table of a netlist and a script, or the page of it."""
@@ -66,7 +62,7 @@ class _Teller:
 
     def state(self, state):
         """Takes up a state; answers the lines that are told at once."""
-        made = [(burst, burst.of(state)) for burst in self.bursts]
+        made = list(_by_bursts(state.transitions, self.bursts))
         found = [(burst, transition) for burst, transition in made if transition and not transition.is_clean()]
         self.told += len(found)
         if self.words.fail:
@@ -93,6 +89,16 @@ class _Teller:
         rest = self.told - min(shown, len(self.findings)) // 3 - (not totals.is_whole)
         lines += [""] * bool(self.findings) + self.findings[:shown] + ([f".. and {rest} more, which --all has"] if rest else [])
         return lines + ["", counted(totals)]
+
+
+def _by_bursts(transitions, bursts):
+    """Each burst with its transition, or None if it does not apply. The transitions stand in the order of the bursts."""
+    waiting = iter(transitions)
+    transition = next(waiting, None)
+    for burst in bursts:
+        is_own = transition is not None and transition.burst == burst.values
+        yield burst, transition if is_own else None
+        transition = next(waiting, None) if is_own else transition
 
 
 def labelled(circuit):
