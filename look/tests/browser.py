@@ -18,13 +18,15 @@ const press = id => document.getElementById(id).click();
 const key = name => document.dispatchEvent(new KeyboardEvent("keydown", { key: name, bubbles: true, cancelable: true }));
 const boxOf = name => [...document.querySelectorAll(".box")].find(one => one.dataset.node === name);
 const count = selector => document.querySelectorAll(selector).length;
-const isIn = (box, { x, y }) => {
-  const [left, top] = box.getAttribute("transform").match(/[-\\d.]+/g).map(Number);
-  return x > left + 2 && x < left + 110 && y > top + 1 && y < top + 45;
+const isIn = ([left, top], { x, y }) => x > left + 2 && x < left + 110 && y > top + 1 && y < top + 45;
+const crosses = (path, boxes) => [...Array(Math.ceil(path.getTotalLength() / 4)).keys()].some(at => {
+  const point = path.getPointAtLength(4 * at);
+  return boxes.some(box => isIn(box, point));
+});
+const crossings = () => {
+  const boxes = [...document.querySelectorAll("#drawing .box")].map(box => box.getAttribute("transform").match(/[-\\d.]+/g).map(Number));
+  return [...document.querySelectorAll("#drawing path.wire")].filter(path => crosses(path, boxes)).map(path => path.textContent);
 };
-const crosses = path => [...Array(Math.ceil(path.getTotalLength() / 3)).keys()].some(at =>
-  [...document.querySelectorAll(".box")].some(box => isIn(box, path.getPointAtLength(3 * at))));
-const crossings = () => [...document.querySelectorAll("#drawing path.wire")].filter(crosses).map(path => path.textContent);
 const tell = name => {
   told[name] = { step: text("step"), now: text("now"), row: text("row").slice(0, 60), boxes: count("#drawing .box"), edges: text("edges"),
     rings: count("#drawing .ring"), late: count("#drawing .late"), traces: count(".trace"), changes: count("nav button"), why: document.querySelector(".why")?.textContent ?? "",
@@ -65,7 +67,7 @@ def _opened(folder, browser, write, page, actions, address="", size="1400,900"):
     path = write(folder, "page.html", f"{before}</style>{script}{after}")
     options = ["--headless", "--no-sandbox", "--disable-gpu", "--dump-dom", f"--user-data-dir={folder}/browser", f"--window-size={size}"]
     done = subprocess.run([browser] + options + [f"file://{path}{address}"],
-                          stdout=subprocess.PIPE, stderr=subprocess.DEVNULL, timeout=300, check=False)
+                          stdout=subprocess.PIPE, stderr=subprocess.DEVNULL, timeout=900, check=False)
     found = re.search(r'<pre id="told">(.*?)</pre>', done.stdout.decode(), re.S)
     answer = json.loads(html.unescape(found[1])) if found else {"told": {}, "errors": ["no answer"]}
     return answer["told"], answer["errors"]

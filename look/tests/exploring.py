@@ -89,11 +89,28 @@ def rows(folder, run, write, hazard, example, circuits, model):
         1, f"{race}:2: state 1 r=0 s=0 q=1, r=1 s=1: 1 node static, 1 node maybe-dynamic\n{race}:3: state 2 r=1 s=1 q=0, r=0 s=0: q is unsettled\n2 findings\n")
     edge = write(folder, "e.txt", "start r=0 s=0 q=1\n#clock r\n")
     yield "an edge in a table", run(["table", latch, edge], folder)[:2], (2, "")
+    yield from _odd(folder, run, write, latch)
     for name in ("mutex", "celement"):
         yield from _as_found(hazard, name, *example(name))
     for name, circuit in circuits.random_circuits(model, 12, seed=17, gates=(2, 5)):
         script = "start" + circuit.script().split("start", 1)[1].split("\n")[0] + "\n"
         yield from _as_found(hazard, name, write(folder, "x.bench", circuit.netlist()), write(folder, "x.txt", script))
+
+
+def _odd(folder, run, write, latch):
+    """Files that are none, a circuit in which nothing can happen, and more findings than are shown."""
+    held, empty = write(folder, "h.bench", "q = OR(q)\n"), write(folder, "h.txt", "start q=1\n")
+    for name, files, status in (("no script", [latch, "none"], 6), ("no netlist", ["none", empty], 6), ("an empty script", [latch, write(folder, "n.txt", "")], 4), ("a strange script", [latch, held], 4)):
+        found, out, errors = run(["table"] + files, folder)
+        yield f"a table of {name}", (found, out, errors.splitlines()[-1].startswith("hazard-look: ")), (status, "", True)
+    yield "a table without changes", run(["table", held, empty], folder)[:2], (0, f"state\n1 q=1\n{table.LEGEND}\n\n1 state; 0 changes: 0 clean, 0 with hazards, 0 unsettled\n")
+    yield "a page without changes", run(["table", "--page", held, empty], folder)[0], 2
+    count = 20
+    wide = write(folder, "w.bench", "".join(f"INPUT(a{at})\nn{at} = NOT(a{at})\nz{at} = AND(a{at}, n{at})\n" for at in range(count)))
+    script = write(folder, "w.txt", "start" + "".join(f" a{at}=0" for at in range(count)) + "\n" + "".join(f"change a{at}=1\n" for at in range(count - 15)))
+    lines = run(["table", wide, script], folder)[1].splitlines()
+    yield "a wide table", (lines[1].endswith(" ..   2!    3!    4!    5!    6!"), lines[-3:]), (True, [".. and 68 more, which --all has", "", "32 states; 80 changes: 0 clean, 80 with hazards, 0 unsettled"])
+    yield "all of a wide table", run(["table", "--all", wide, script], folder)[1].count("  change a"), 80
 
 
 def _as_found(hazard, name, bench, script):
