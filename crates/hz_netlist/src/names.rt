@@ -14,6 +14,10 @@ use std::marker::Model;
 // How many names a table has room for at first.
 const FIRST_ROOM: usize = 1000;
 
+// How many bytes of a text a name takes at least, on average. Those at its head may take fewer, as
+// lines of inputs are short, but a table with room by them alone is too large for the cache.
+const LEAST_BYTES: usize = 26;
+
 /// The lines that define and use a name first.
 #[derive(Clone, Copy)]
 pub(crate) struct Lines {
@@ -130,6 +134,31 @@ impl<'a> NameTable<'a> {
         Ok(place as u32)
     }
 
+    // The number of a name that a line defines; a new name comes last. The table keeps the name as
+    // it stands in this line, so the names of gates are read in the order of the text later.
+    fn sight_defined(&mut self, name: &'a [u8]) -> Result<u32, Memory>
+        ensures seen { OnOk result (self.new ≡ with_sight self.old name.now) }
+        ensures number { IfOk result (λ number. position (bytes_eq name.now)
+            (seen_names self.new) ≡ Some number) }
+        ensures err { OnErr result (self.new ≡ self.old) }
+    {
+        let Ok(_) = u32::try_from(self.names.len()) else {
+            return Err(Memory);
+        };
+        self.lines.reserve(1)?;
+        let Ok((place, known)) = self.names.replace_full(Name::new(name)) else {
+            return Err(Memory);
+        };
+        let is_new = known.is_none();
+        if is_new {
+            self.lines.push_reserved(Lines {
+                definer: None,
+                user: None,
+            });
+        }
+        Ok(place as u32)
+    }
+
     /// Notes that a line defines a name; the first line that did before, if one did.
     pub fn define(&mut self, number: u32, line: u32) -> Option<u32>
         requires { number < length self.old }
@@ -164,7 +193,7 @@ impl<'a> NameTable<'a> {
         ensures first { IfOk result (λ one. one.first ≡ definer_in self.old name.now) }
         ensures err { OnErr result (self.new ≡ self.old) }
     {
-        let number = self.sight(name)?;
+        let number = self.sight_defined(name)?;
         let first = self.define(number, line);
         Ok(Definition { number, first })
     }
@@ -193,8 +222,8 @@ impl<'a> NameTable<'a> {
     }
 
     /// Takes room for the names of the rest of the text, so many bytes, if the table is full: as
-    /// many to a byte as were found in what was read so far. So a table of a million names is made
-    /// anew once or twice, and not twenty times.
+    /// many to a byte as were found in what was read so far, but no more than names take at least.
+    /// So a table of a million names is made anew once or twice, and not twenty times.
     #[inline(always)]
     pub fn make_room(&mut self, left: usize) -> Result<(), Memory>
         ensures { self.new ≡ self.old }
@@ -205,7 +234,7 @@ impl<'a> NameTable<'a> {
         }
         let read = self.text_bytes.saturating_sub(left);
         let more = names.saturating_mul(left) / read.max(1);
-        self.reserve(more.max(FIRST_ROOM))
+        self.reserve(more.min(left / LEAST_BYTES).max(FIRST_ROOM))
     }
 
     // Makes room for that many more names.
