@@ -745,6 +745,19 @@ def edge_cases():
     yield Case("edges", "script: changes of a hundred latches", changes_of_many, 250)
 
 
+def explorations():
+    """Circuits by `explore`, with one change each, which leads to one state or to none."""
+    for name, make, least in (
+            ("chain", chain, 12_000),
+            ("gates of 256 pins", wide, 90),
+            ("ladder", ladder, 4_000),
+            ("latches, critical", latches, 4_000),
+            ("latches that settle", settled_latches, 4_000),
+            ("random gates with feedback", random_feedback, 5_000),
+            ("flip-flops in a row", flip_flops, 24_000)):
+        yield Case("explore", name, make, least)
+
+
 def replays():
     """Run texts, by `replay`, `convert` and `vcd`."""
     texts = (
@@ -833,4 +846,5 @@ def cases():
     yield from pattern_cases()
     yield from splits()
     yield from edge_cases()
+    yield from explorations()
     yield Case("demo", "NUMBER", None, 2_000)

@@ -3,7 +3,7 @@
 _hazard_look() {
   local word=${COMP_WORDS[COMP_CWORD]} job=${COMP_WORDS[1]} at place=0 ends=()
   if ((COMP_CWORD == 1)); then
-    COMPREPLY=($(compgen -W 'start summary expect why testbench page clock from-yosys from-verilog --help --version' -- "$word"))
+    COMPREPLY=($(compgen -W 'start summary expect why testbench page table clock from-yosys from-verilog --help --version' -- "$word"))
     return
   fi
   case ${COMP_WORDS[COMP_CWORD - 1]} in
@@ -14,6 +14,7 @@ _hazard_look() {
     case $job in
       summary) COMPREPLY=($(compgen -W '--help --hazard --only --outputs --roots --all --fail --json' -- "$word")) ;;
       expect) COMPREPLY=($(compgen -W '--help --hazard --json --junit' -- "$word")) ;;
+      table) COMPREPLY=($(compgen -W '--help --hazard --all --fail --page' -- "$word")) ;;
       why) COMPREPLY=($(compgen -W '--help --hazard --save' -- "$word")) ;;
       from-yosys) COMPREPLY=($(compgen -W '--help --top --join' -- "$word")) ;;
       from-verilog) COMPREPLY=($(compgen -W '--help --gates --top --join' -- "$word")) ;;

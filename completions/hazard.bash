@@ -24,7 +24,7 @@ _hazard() {
   if [[ $word == -* ]]; then
     COMPREPLY=($(compgen -W '--cap --show' -- "$word"))
   elif ((COMP_CWORD == 1)); then
-    COMPREPLY=($(compgen -W 'analyse edges split replay convert vcd batch reset demo' -- "$word"))
+    COMPREPLY=($(compgen -W 'analyse edges explore split replay convert vcd batch reset demo' -- "$word"))
   elif [[ ${COMP_WORDS[1]} == demo ]]; then
     COMPREPLY=()
   else

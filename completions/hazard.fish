@@ -1,6 +1,7 @@
 # Completion of hazard's words for fish.
 complete -c hazard -n '__fish_is_first_token' -f -a analyse -d 'analyse the changes of a script on a netlist'
 complete -c hazard -n '__fish_is_first_token' -f -a edges -d 'say how often each variable may change, behind feedback too'
+complete -c hazard -n '__fish_is_first_token' -f -a explore -d 'make the changes of a script in every order, from each state that they lead to'
 complete -c hazard -n '__fish_is_first_token' -f -a split -d 'look for two runs of an unsettled change that end differently'
 complete -c hazard -n '__fish_is_first_token' -f -a replay -d 'replay the runs of a run text on a netlist'
 complete -c hazard -n '__fish_is_first_token' -f -a convert -d 'write a run text in format 2'

@@ -4,6 +4,8 @@ Nothing here is quick. The ternary extension goes through all lists of bits that
 list of its whole states, and reached states are walked through one by one. A state is a text of a letter for each
 variable: 0, 1, and X in a ternary state.
 """
+import copy
+import random
 from itertools import combinations, product
 
 GATES = {
@@ -391,6 +393,46 @@ class Circuit:
         lines.append(f"patterns {len(patterns)}" + "".join(f" {kind} {count}" for kind, count in counts.items()))
         return "\n".join(lines) + "\n"
 
+    def moved(self, state, burst):
+        """The same circuit, whose change is a burst from a state."""
+        new = list(state[:len(self.inputs)])
+        for i, bit in burst:
+            new[i] = bit
+        changed = copy.copy(self)
+        changed.start, changed.new = state, "".join(new)
+        return changed
+
+    def single_bursts(self):
+        """Each input alone, to 0 and to 1."""
+        return [[(i, bit)] for i in range(len(self.inputs)) for bit in "01"]
+
+    def exploration(self, bursts, most=65536):
+        """The states to which bursts lead from the start, breadth first, and their transitions: from, burst, and where it ends. That is a
+        number, "more" for a state that there was no room for, or the first variable that is X."""
+        states, transitions = [self.start], []
+        for number, state in enumerate(states, 1):
+            for burst in bursts:
+                if not burst or any(state[i] == bit for i, bit in burst):
+                    continue
+                end = self.moved(state, burst).algorithm_b()[-1]
+                if "X" in end:
+                    transitions.append((number, burst, self.variables()[end.index("X")]))
+                    continue
+                if end not in states and len(states) < most:
+                    states.append(end)
+                transitions.append((number, burst, states.index(end) + 1 if end in states else "more"))
+        return states, transitions
+
+    def exploration_lines(self, bursts):
+        """The lines of the job `explore` behind its head, without the numbers of classes: those of states and of transitions."""
+        states, transitions = self.exploration(bursts)
+        for number, state in enumerate(states, 1):
+            yield f"state {number}" + "".join(f" {name}={bit}" for name, bit in zip(self.names, state))
+            for source, burst, end in transitions:
+                if source == number:
+                    words = "".join(f" {self.names[i]}={bit}" for i, bit in burst)
+                    yield f"{number} to {end}{words}" if isinstance(end, int) else f"{number} unsettled{words} {end}"
+
     def unknown_start(self, held):
         """The start of which nothing is known but the held gates."""
         return "".join(held.get(name, "X") for name in self.names) + "X" * len(self.wires)
@@ -611,3 +653,22 @@ def small_changes():
                 for bits in product("01", repeat=len(inputs)):
                     new = "".join(bits)
                     yield f"{name} from {nodes} to {new}", Circuit(inputs, gates, nodes, new, *data)
+
+
+def random_circuits(count):
+    """Circuits of one to three inputs and up to five gates, most with feedback, at one of their stable starts."""
+    chance = random.Random(4)
+    while count:
+        inputs = "abc"[:chance.randint(1, 3)]
+        names = inputs + "uvwyz"[:chance.randint(1, 5)]
+        gates = []
+        for name in names[len(inputs):]:
+            kind = chance.choice(list(GATES))
+            pins = 1 if kind in ("NOT", "BUFF") else chance.randint(2, 3)
+            gates.append((name, kind, "".join(chance.choice(names) for _ in range(pins))))
+        circuit = Circuit(inputs, gates, "0" * len(names), "0" * len(inputs))
+        starts = list(circuit.stable_starts())
+        if starts:
+            count -= 1
+            circuit.start = circuit.expanded(chance.choice(starts))
+            yield circuit

@@ -91,7 +91,7 @@ def jobs(program, folder):
     netlist, script = write(folder, "latch.bench", LATCH), write(folder, "latch.txt", SCRIPT)
     report = run(program, ["analyse", netlist, script], folder)[1]
     runs = write(folder, "latch.runs", report[report.index(b"runs 2\n"):])
-    return [["analyse", netlist, script], ["analyse", netlist, script, "--show", "all"], ["edges", netlist, script], ["split", netlist, script], ["replay", netlist, runs], ["convert", netlist, runs],
+    return [["analyse", netlist, script], ["analyse", netlist, script, "--show", "all"], ["edges", netlist, script], ["explore", netlist, script], ["split", netlist, script], ["replay", netlist, runs], ["convert", netlist, runs],
             ["vcd", netlist, runs], *[[job, netlist, write(folder, "latch.patterns", PATTERNS)] for job in ("batch", "reset")],
             ["batch", netlist, write(folder, "many.patterns", MANY_PATTERNS)], ["demo", "1"],
             ["analyse", write(folder, "mux.blif", COVERS), write(folder, "mux.txt", "start s=1 x=1 y=1\nchange s=0\n")]]

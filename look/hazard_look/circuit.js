@@ -1,6 +1,8 @@
 // The drawing of the circuit: boxes and wires, zoom and pan, and a small map of all of it.
 
-const MOST_WITHOUT_MAP = 60, MOST_FAN = 24;
+const MOST_FAN = 24;
+// how large a drawing is shown that fits, and how small one that does not
+const MOST_FITTED = 1.4, LEAST_FITTED = 0.75;
 // The part of the drawing that is seen, and the size of the whole; `shown` says which nodes it was made for.
 const camera = { x: 0, y: 0, scale: 1, width: 1, height: 1, shown: "" };
 
@@ -24,14 +26,10 @@ function drawCircuit() {
   if (!change()) return say("The script has no change.");
   if (change().stopped) return say(`This change was not analysed: ${change().stopped} did not settle in an earlier one.`);
   if (!NODES) return say("The circuit has no node.");
-  const nodes = drawnNodes(), places = placesOf(nodes);
+  const nodes = drawnNodes(), { clientWidth: width, clientHeight: height } = byId("canvas"), places = inBands(placesOf(nodes), { width, height });
   if (!isWhole()) say(`${nodes.length} of ${NODES} nodes: what leads to ${DATA.names[view.node]} and may move.`);
   const value = valuesAfter(view.step), moved = new Set(view.step ? steps()[view.step - 1] : []);
-  const xs = [...places.values()].map(place => place.x), ys = [...places.values()].map(place => place.y);
-  camera.left = Math.min(...xs) - ROOM.left;
-  camera.top = Math.min(...ys) - ROOM.above;
-  camera.width = Math.max(...xs) + BOX.width + ROOM.right - camera.left;
-  camera.height = Math.max(...ys) + BOX.height + ROOM.below - camera.top;
+  Object.assign(camera, extentOf(places));
   const svg = byId("drawing"), boxes = make("g", {}), wires = make("g", {});
   for (const node of nodes) DATA.sources[node].forEach((source, pin) => wires.append(wire(node, source, pin, places, value, moved)));
   for (const node of nodes) boxes.append(box(node, places.get(node), value, moved));
@@ -39,10 +37,10 @@ function drawCircuit() {
   const shown = `${view.change}/${nodes.length === NODES ? "" : nodes.join()}`;
   if (shown !== camera.shown) {
     camera.shown = shown;
-    fit();
+    fit(LEAST_FITTED, places.get(view.node));
   }
   keepInSight(places.get(view.node));
-  if (nodes.length > MOST_WITHOUT_MAP) drawMap(nodes, places);
+  drawMap(nodes, places);
   look();
 }
 
@@ -52,7 +50,7 @@ function wire(node, source, pin, places, value, moved) {
   const looks = ["wire", value[variable] && "high", isUnstable(variable, value) && "late", moved.has(variable) && "moved",
     DATA.loops[node] && DATA.loops[node] === DATA.loops[source] && "loop", view.faded && !mayMove(source) && "faded"].filter(Boolean).join(" ");
   const isStub = !from || !mayMove(source) && readers[source].length > MOST_FAN;
-  const made = isStub ? make("g", { class: looks }) : make("path", { class: looks, d: pathOf(from, x2, y2, pin, variable, places) });
+  const made = isStub ? make("g", { class: looks }) : make("path", { class: looks, d: pathOf(from, to, y2, pin, variable, places) });
   if (isStub) {
     made.append(make("path", { class: looks, d: `M${x2 - 18} ${y2}H${x2}` }));
     made.append(make("text", { class: "from", x: x2 - 20, y: y2 + 3 }, cut(DATA.names[source], 7)));
@@ -61,8 +59,9 @@ function wire(node, source, pin, places, value, moved) {
   return made;
 }
 
-function pathOf(from, x2, y2, pin, variable, places) {
-  const x1 = from.x + BOX.width, y1 = from.y + BOX.height / 2;
+function pathOf(from, to, y2, pin, variable, places) {
+  const x1 = from.x + BOX.width, y1 = from.y + BOX.height / 2, x2 = to.x;
+  if (from.band !== to.band) return across(x1, y1, x2, y2, variable, to.band > from.band ? to.above : to.below);
   return x2 > x1 ? forward(x1, y1, x2, y2, pin, places) : backward(x1, y1, x2, y2, variable % 3, places);
 }
 
@@ -96,32 +95,37 @@ function box(node, place, value, moved) {
 
 // ---- the camera ----
 
-/** Shows all of the drawing, or as much of it as can be read, around the chosen node. */
-function fit() {
+/** Shows all of the drawing; or, if it were smaller than is said, as much as there is room for, around a box. */
+function fit(least, place) {
   const { clientWidth: width, clientHeight: height } = byId("canvas");
-  const whole = Math.min(width / camera.width, height / camera.height);
-  camera.scale = Math.min(1.4, Math.max(whole, 0.55));
-  camera.x = camera.left + (camera.width - width / camera.scale) / 2;
-  camera.y = camera.top + (camera.height - height / camera.scale) / 2;
+  camera.scale = Math.min(MOST_FITTED, Math.max(least, Math.min(width / camera.width, height / camera.height)));
+  centerOn(place);
 }
 
-/** Shows all of the drawing, however small. */
 function fitAll() {
-  const { clientWidth: width, clientHeight: height } = byId("canvas");
-  camera.scale = Math.min(1.4, width / camera.width, height / camera.height);
-  camera.x = camera.left + (camera.width - width / camera.scale) / 2;
-  camera.y = camera.top + (camera.height - height / camera.scale) / 2;
+  fit(0, { x: camera.left, y: camera.top });
   look();
 }
+
+/** What the camera sees, in the measure of the drawing. */
+const seen = () => ({ width: byId("canvas").clientWidth / camera.scale, height: byId("canvas").clientHeight / camera.scale });
+
+/** Moves the camera over a point, but not beyond the drawing; of one that fits it sees all. */
+function center(x, y) {
+  const { width, height } = seen();
+  const begin = (wanted, first, all, part) => (all <= part ? first + (all - part) / 2 : Math.max(first, Math.min(first + all - part, wanted - part / 2)));
+  camera.x = begin(x, camera.left, camera.width, width);
+  camera.y = begin(y, camera.top, camera.height, height);
+}
+
+const centerOn = ({ x, y }) => center(x + BOX.width / 2, y + BOX.height / 2);
 
 /** Moves the camera to a node that it does not see. */
 function keepInSight(place) {
   if (!place) return;
-  const width = byId("canvas").clientWidth / camera.scale, height = byId("canvas").clientHeight / camera.scale;
+  const { width, height } = seen();
   const isSeen = place.x > camera.x && place.x + BOX.width < camera.x + width && place.y > camera.y && place.y + BOX.height < camera.y + height;
-  if (isSeen) return;
-  camera.x = place.x + BOX.width / 2 - width / 2;
-  camera.y = place.y + BOX.height / 2 - height / 2;
+  if (!isSeen) centerOn(place);
 }
 
 /** Makes the drawing larger or smaller around a point of the canvas, or around its middle. */
@@ -134,13 +138,14 @@ function zoom(factor, point) {
   look();
 }
 
-/** Turns the camera to where it stands. */
+/** Turns the camera to where it stands. The map is there if that is not all of the drawing. */
 function look() {
-  const { clientWidth: width, clientHeight: height } = byId("canvas");
-  const seen = [camera.x, camera.y, width / camera.scale, height / camera.scale];
-  byId("drawing").setAttribute("viewBox", seen.map(one => one.toFixed(1)).join(" "));
+  const { width, height } = seen(), part = [camera.x, camera.y, width, height];
+  byId("drawing").setAttribute("viewBox", part.map(one => one.toFixed(1)).join(" "));
   const frame = document.querySelector("#map .frame");
-  ["x", "y", "width", "height"].forEach((name, at) => frame?.setAttribute(name, seen[at].toFixed(1)));
+  ["x", "y", "width", "height"].forEach((name, at) => frame?.setAttribute(name, part[at].toFixed(1)));
+  const isAll = camera.x <= camera.left + 1 && camera.y <= camera.top + 1 && camera.x + width >= camera.left + camera.width - 1 && camera.y + height >= camera.top + camera.height - 1;
+  byId("map").toggleAttribute("hidden", isAll);
 }
 
 function drawMap(nodes, places) {
@@ -173,8 +178,7 @@ function listenToCanvas() {
   byId("map").addEventListener("click", event => {
     event.stopPropagation();
     const map = byId("map"), at = new DOMPoint(event.clientX, event.clientY).matrixTransform(map.getScreenCTM().inverse());
-    camera.x = at.x - canvas.clientWidth / camera.scale / 2;
-    camera.y = at.y - canvas.clientHeight / camera.scale / 2;
+    center(at.x, at.y);
     look();
   });
   byId("larger").addEventListener("click", () => zoom(1.25));

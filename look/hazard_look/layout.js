@@ -2,8 +2,9 @@
 // Where the boxes of the circuit stand, and which way its wires take between them. `page.js` follows in the same script.
 
 const BOX = { width: 112, height: 46, across: 62, down: 26 };
-// room for wires around the boxes
-const ROOM = { left: 24, right: 50, above: 14, below: 44 };
+// room for wires around the boxes, and between two bands of columns
+const ROOM = { left: 46, right: 50, above: 14, below: 44, between: 64 };
+const MOST_BANDS = 4, LARGER = 1.15;
 
 /** The place of each drawn node: that of Graphviz, or one by layers. */
 function placesOf(nodes) {
@@ -77,6 +78,49 @@ function freeHeight(tops, wanted, room) {
   return [wanted, ...tops.flatMap(top => [top - room, top + BOX.height + room])]
     .filter(y => tops.every(top => y < top - 5 || y > top + BOX.height + 5))
     .reduce((best, one) => (Math.abs(one - wanted) < Math.abs(best - wanted) ? one : best));
+}
+
+/** What the boxes and the wires around them take. */
+function extentOf(places) {
+  const xs = [...places.values()].map(place => place.x), ys = [...places.values()].map(place => place.y);
+  const left = Math.min(...xs) - ROOM.left, top = Math.min(...ys) - ROOM.above;
+  return { left, top, width: Math.max(...xs) + BOX.width + ROOM.right - left, height: Math.max(...ys) + BOX.height + ROOM.below - top };
+}
+
+/** The places, with their columns in bands, one below the other, as long as a canvas of this size shows more bands clearly larger. */
+function inBands(places, canvas) {
+  const columns = [...new Set([...places.values()].map(place => Math.round(place.x)))].sort((one, other) => one - other);
+  let best = places, scale = 0;
+  for (let count = 1; count <= Math.min(MOST_BANDS, columns.length); count++) {
+    const made = banded(places, columns, Math.ceil(columns.length / count)), { width, height } = extentOf(made);
+    const larger = Math.min(canvas.width / width, canvas.height / height, MOST_FITTED);
+    if (larger > LARGER * scale) [best, scale] = [made, larger];
+  }
+  return best;
+}
+
+/** The places in bands of so many columns. Each has the heights between the bands: the one above its own, and the one below. */
+function banded(places, columns, most) {
+  const bands = [], made = new Map();
+  for (const [node, place] of places) {
+    const column = columns.indexOf(Math.round(place.x)), number = Math.floor(column / most);
+    (bands[number] = bands[number] || []).push({ node, x: columns[column % most], y: place.y });
+  }
+  let top = Math.min(...[...places.values()].map(place => place.y));
+  bands.forEach((band, number) => {
+    const first = Math.min(...band.map(({ y }) => y)), height = Math.max(...band.map(({ y }) => y)) - first + BOX.height;
+    for (const { node, x, y } of band) made.set(node, { x, y: y - first + top, band: number, above: top - ROOM.between / 2, below: top + height + ROOM.between / 2 });
+    top += height + ROOM.between;
+  });
+  return made;
+}
+
+/** The path of a wire from one band to another: between the columns, and level between the bands if it passes a column. */
+function across(x1, y1, x2, y2, lane, level) {
+  const turn = 34 + 12 * (lane % 3), y = level + 5 * (lane % 7) - 15;
+  if (x2 <= x1) return `M${x1} ${y1}C${x1 + turn} ${y1} ${x1 + turn} ${y} ${x1} ${y}H${x2}C${x2 - turn} ${y} ${x2 - turn} ${y2} ${x2} ${y2}`;
+  if (x2 < x1 + BOX.width) return `M${x1} ${y1}C${x1 + turn} ${y1} ${x2 - turn} ${y2} ${x2} ${y2}`;
+  return `M${x1} ${y1}C${x1 + turn} ${y1} ${x1 + 8} ${y} ${x1 + 52} ${y}H${x2 - 52}C${x2 - 8} ${y} ${x2 - turn} ${y2} ${x2} ${y2}`;
 }
 
 /** The path of a wire that goes on to the right: level at each column of boxes, and there between them. */

@@ -3,7 +3,7 @@
 
 const MOST_NEAR = 60, MOST_LISTED = 200;
 const LOOKS = ["still", "once", "pulses", "pulses", "pulses", "pulses", "open"];
-const view = { change: 0, node: 0, run: 0, step: 0, hidden: false, faded: false, whole: false, timer: null, speed: 2 };
+const view = { change: 0, node: 0, run: 0, step: 0, hidden: false, faded: false, whole: false, states: false, timer: null, speed: 2 };
 const gateOf = [], sourceOf = [], pinOf = [], firstWire = [], readers = DATA.names.map(() => []);
 const byId = id => document.getElementById(id);
 

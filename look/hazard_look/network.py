@@ -69,6 +69,20 @@ class Network:
         """The variables that read it."""
         return [self.gate[variable]] if variable >= self.nodes else self.fan_out[variable]
 
+    def sources_of(self, gate):
+        """The nodes that the pins of a gate read, as they are written."""
+        return [self.number[source] for source in self.netlist.gates[gate - self.inputs].sources]
+
+    def sorted_text(self):
+        """The netlist with the pins of each gate in the order of the nodes."""
+        gates = [f"{gate.name} = {gate.kind}({', '.join(self.names[pin] for pin in sorted(self.sources_of(place)))})" for place, gate in enumerate(self.netlist.gates, self.inputs)]
+        return "\n".join([f"INPUT({name})" for name in self.netlist.inputs] + gates) + "\n"
+
+    def name_by_sorted_pins(self, word):
+        """The name of a variable of that netlist here, if the wires of this network stand in the same order."""
+        gate, is_wire, pin = word.removesuffix(")").partition("(")
+        return self.names[self.first_wire[self.number[gate]] + int(pin) - 1] if is_wire else word
+
     def cone(self, node):
         """The variables on which a node depends, with itself. Who asks does not change the set."""
         if self._cone[0] != node:

@@ -4,7 +4,7 @@ const KEYS = {
   ArrowRight: () => go(view.step + 1), ArrowLeft: () => go(view.step - 1), Home: () => go(0), End: () => go(steps().length),
   n: () => goToEdge(1), p: () => goToEdge(-1), PageDown: () => chooseChange(view.change + 1), PageUp: () => chooseChange(view.change - 1),
   ArrowDown: () => chooseHazard(1), ArrowUp: () => chooseHazard(-1), " ": () => play(), "+": () => zoom(1.25), "-": () => zoom(0.8), 0: () => fitAll(),
-  "/": () => byId("search").focus(),
+  "/": () => byId("search").focus(), s: () => showStates(!view.states),
 };
 
 /** Goes to a step of the run, the nearest that there is. */
@@ -58,6 +58,7 @@ function chooseHazard(way) {
 function choose(some) {
   Object.assign(view, some);
   drawChanges();
+  drawStates();
   drawCircuit();
   drawRow();
   drawPlayer();
@@ -87,12 +88,15 @@ function open() {
   view.change = number ? asked : Math.max(0, failed >= 0 ? failed : hazardous);
   const node = name ? DATA.names.indexOf(decoded(name)) : -1;
   view.node = node >= 0 ? node : usualNode(view.change);
+  view.states = Boolean(DATA.states) && !number;
   view.run = Math.min(which ? Math.max(0, +which || 0) : usualRun(view.node), Math.max(0, runsOf().length - 1));
   choose({ step: Math.min(step ? Math.max(0, +step || 0) : isAnalysed() ? opening(view.node) : 0, steps().length) });
 }
 
 document.title = byId("title").textContent = DATA.title;
 if (DATA.checked) byId("title").title = `${DATA.checked} expectations checked`;
+byId("views").hidden = !DATA.states;
+byId("counted").textContent = DATA.counted ?? "";
 byId("hidden").addEventListener("change", event => choose({ hidden: event.target.checked }));
 byId("faded").addEventListener("change", event => choose({ faded: event.target.checked }));
 byId("all").addEventListener("change", event => choose({ whole: event.target.checked }));
@@ -105,6 +109,8 @@ byId("speed").addEventListener("change", event => {
   view.speed = +event.target.value;
   if (view.timer) [play(), play()];
 });
+byId("graph").addEventListener("click", () => showStates(true));
+byId("gates").addEventListener("click", () => showStates(false));
 const BUTTONS = { first: () => go(0), back: () => go(view.step - 1), on: () => go(view.step + 1), last: () => go(steps().length),
   before: () => goToEdge(-1), after: () => goToEdge(1), play };
 for (const [name, act] of Object.entries(BUTTONS)) byId(name).addEventListener("click", act);
@@ -122,6 +128,7 @@ document.addEventListener("keydown", event => {
   KEYS[event.key]();
 });
 listenToCanvas();
+window.addEventListener("beforeprint", fitAll);
 window.addEventListener("resize", () => {
   camera.shown = "";
   drawCircuit();

@@ -16,7 +16,7 @@ from .report import CLASSES
 from .summary import MEANINGS, roots
 
 HERE = os.path.dirname(os.path.abspath(__file__))
-PROGRAM = ("layout.js", "model.js", "circuit.js", "panels.js", "page.js")
+PROGRAM = ("layout.js", "model.js", "circuit.js", "panels.js", "states.js", "page.js")
 # A circuit of more nodes is shown as what leads to a node.
 MOST_DRAWN = 300
 # A page has no more changes of variables in its runs; later runs are left out, and it says so.
@@ -29,28 +29,33 @@ SEVERITY = ("unsettled", "dynamic", "static", "maybe-dynamic", "maybe-static")
 def run(words, out):
     """Writes the page of a netlist and a script."""
     report = words.program.edges(words.netlist, words.script)
-    statements = script.must_be_written_out(words.script)
+    line_of = script.lines_of_changes(script.must_be_written_out(words.script))
     circuit = load(words.netlist)
-    network = Network(circuit)
-    gathered = _Changes(words, circuit, network, statements)
-    tally = expect.checked(words, gathered.each(report.changes))
+    gathered = Changes(words, circuit)
+    tally = expect.checked(words, gathered.each(report.changes, line_of))
     for finding in tally.findings:
         if not finding["holds"]:
             gathered.found[finding["number"] - 1].setdefault("failed", []).append(f"{finding['expectation']}: {finding['remark']}")
+    write(words, out, gathered, checked=tally.all)
+    return DONE
+
+
+def write(words, out, gathered, **more):
+    """Writes the page of some changes, with more data."""
+    circuit = gathered.circuit
     data = {
         "title": f"{os.path.basename(words.netlist)}, {os.path.basename(words.script)}",
         "files": [words.netlist, words.script],
         "most": MOST_DRAWN,
         "kinds": CLASSES,
         "meanings": MEANINGS,
-        **_circuit(circuit, network),
+        **_circuit(circuit, gathered.network),
         "places": _places(circuit) if len(circuit.nodes) <= MOST_DRAWN else None,
-        "checked": tally.all,
+        **more,
         "changes": gathered.found,
     }
     program = "".join(map(_part, PROGRAM))
     out.write(_filled("page.html", style=_part("page.css"), program=program, data=_as_script(data)))
-    return DONE
 
 
 def _part(name):
@@ -87,21 +92,24 @@ def _circuit(circuit, network):
     }
 
 
-class _Changes:
-    """Gathers the changes of a report for the page, while they are read."""
+class Changes:
+    """Gathers changes for the page, while they are read."""
 
-    def __init__(self, words, circuit, network, statements):
-        self.words, self.circuit, self.network = words, circuit, network
-        self.sorted, self.line_of = None, script.lines_of_changes(statements)
+    def __init__(self, words, circuit):
+        self.words, self.circuit, self.network, self.sorted = words, circuit, Network(circuit), None
         self.left, self.whys, self.searched, self.found = MOST_FLIPS, MOST_WHYS, MOST_SEARCHED, []
         data = {cut.data for cut in circuit.cuts}
         self.noise = data - {source for gate in circuit.gates for source in gate.sources} - set(circuit.outputs)
 
-    def each(self, changes):
+    def each(self, changes, line_of):
         """The changes, each of which is noted first."""
         for change in changes:
-            self.found.append({"title": change.title(), "line": self.line_of[change.number], **(self._of(change))})
+            self.note(change, title=change.title(), line=line_of[change.number])
             yield change
+
+    def note(self, change, **head):
+        """Notes a change, with what the page says in front of it."""
+        self.found.append({**head, **self._of(change)})
 
     def _of(self, change):
         """A change: its rows as a letter a node, the nodes that are not clean, and the runs."""

@@ -12,6 +12,7 @@ const put = (room, tag, text, looks) => {
 
 // ---- the changes ----
 
+const lookOfChange = one => (one.failed ? "failed" : one.stopped ? "stopped" : one.end.includes("X") ? "open" : one.hazards.length ? "pulses" : "once");
 const verdictOf = one => {
   if (one.stopped) return "not analysed";
   const count = one.hazards.length, roots = one.roots;
@@ -28,9 +29,8 @@ function drawChanges() {
   if (part.length < shown.length) more(list, "changes", `changes ${part[0] + 1} to ${part[part.length - 1] + 1} of ${DATA.changes.length}: show all`, drawChanges);
   for (const at of part) {
     const one = DATA.changes[at];
-    const worst = one.failed ? "failed" : one.stopped ? "stopped" : one.end.includes("X") ? "open" : one.hazards.length ? "pulses" : "once";
-    const button = put(list, "button", undefined, `${worst}${at === view.change ? " chosen" : ""}`);
-    put(button, "span", one.title).title = `${DATA.files[1]}:${one.line}: ${one.title}`;
+    const button = put(list, "button", undefined, `${lookOfChange(one)}${at === view.change ? " chosen" : ""}`);
+    put(button, "span", one.title).title = one.script ?? `${DATA.files[1]}:${one.line}: ${one.title}`;
     put(button, "small", verdictOf(one) + (one.failed ? `; ${one.failed.length} #expect failed` : ""));
     if (at === view.change) button.setAttribute("aria-current", "true");
     button.addEventListener("click", () => chooseChange(at));
@@ -82,8 +82,12 @@ function drawWhy(room, node) {
   }
   if (!told.length && change().hazards.includes(node)) {
     put(room, "p", "A short run, and which wires have to be slow:", "ask");
-    const words = ["hazard-look", "why", ...DATA.files, DATA.names[node], view.change + 1];
+    const words = ["hazard-look", "why", DATA.files[0], ...(change().script ? ["SCRIPT", DATA.names[node]] : [DATA.files[1], DATA.names[node], view.change + 1])];
     put(room, "code", words.map(word => (/^[\w./@:+-]+$/.test(word) ? word : `'${word}'`)).join(" "));
+  }
+  if (change().script) {
+    put(room, "p", "The script of this change:", "ask");
+    put(room, "code", change().script);
   }
 }
 
@@ -138,7 +142,7 @@ function drawWave() {
   const end = Math.min(steps().length, begin + WINDOW), cycle = run().cycle;
   const variables = waveVariables(), left = 130, share = (room.clientWidth - left - 40) / (end - begin + 1);
   const unit = Math.max(10, Math.min(44, share)), width = left + (end - begin + 1) * unit + 10;
-  const svg = make("svg", { width, height: variables.length * ROW + 6, role: "img", "aria-label": "waveform" });
+  const svg = make("svg", { width, height: variables.length * ROW + 6, viewBox: `0 0 ${width} ${variables.length * ROW + 6}`, role: "img", "aria-label": "waveform" });
   const at = step => left + (step - begin) * unit;
   if (cycle !== null && cycle < steps().length) {
     const from = at(Math.max(cycle, begin));

@@ -7,7 +7,7 @@ import subprocess
 import sys
 import tempfile
 
-from . import report
+from . import exploration, report
 from .errors import DOES_NOT_HOLD, NAME_NOT_READ, NO_PROGRAM, NOT_ACCEPTED, OUTPUT_FAILED, OWN_FAULT, SCRIPT_FAULT, SIGNALLED, Failure, begins_with_mark, read_file
 from .terminal import Progress
 
@@ -70,16 +70,23 @@ class Program:
     def edges(self, netlist, script):
         """The report of two files. Its changes are read while the program writes them."""
         with self._understood():
-            found = report.read(self._lines(["edges", netlist, script]))
-        return found._replace(changes=self._changes(found.changes))
+            found = report.read(self.lines(["edges", netlist, script]))
+        return found._replace(changes=self._watched(found.changes, "change"))
 
-    def _changes(self, changes):
-        progress = Progress("hazard-look: change")
+    def explore(self, netlist, script):
+        """The exploration of two files. Its states are read while the program writes them."""
+        with self._understood():
+            found = exploration.read(self.lines(["explore", netlist, script]))
+        return found._replace(rows=self._watched(found.rows, "state"))
+
+    def _watched(self, rows, what):
+        """The rows of a report, with a line that says how far it is."""
+        progress = Progress(f"hazard-look: {what}")
         try:
             with self._understood():
-                for change in changes:
-                    yield change
-                    progress.at(change.number)
+                for number, row in enumerate(rows, 1):
+                    yield row
+                    progress.at(number)
         finally:
             progress.end()
 
@@ -93,14 +100,14 @@ class Program:
 
     def edges_of_text(self, netlist, script):
         """The changes of the report on a netlist in a file and a script in a text, read while the program writes them."""
-        with _file_of(script) as path:
+        with file_of(script) as path:
             yield from self.edges(netlist, path).changes
 
     def last_runs(self, netlist, script):
         """The lines of the last runs of a report of `hazard analyse`: of the change that leaves a node unsettled, if one does, in which
         such nodes go on and on."""
         found, taken = [], None
-        for line in self._lines(["analyse", netlist, script]):
+        for line in self.lines(["analyse", netlist, script]):
             taken = [] if line == "runs 2" else taken
             if taken is not None:
                 taken.append(line)
@@ -110,7 +117,7 @@ class Program:
 
     def must_read(self, netlist):
         """Fails with the program's refusal unless it reads a netlist. A script that is none is only looked at after that."""
-        with _file_of("") as path:
+        with file_of("") as path:
             try:
                 self.edges(netlist, path)
             except Failure as failure:
@@ -119,7 +126,7 @@ class Program:
 
     def replay(self, netlist, run_text):
         """Whether the program accepts each run of a run text, and the line that it answers."""
-        with _file_of(run_text.text()) as path, self._running(["replay", netlist, path]) as running:
+        with file_of(run_text.text()) as path, self._running(["replay", netlist, path]) as running:
             line = running.stdout.read().strip()
         return running.returncode == 0, line
 
@@ -129,7 +136,7 @@ class Program:
         if not accepted:
             raise Failure(f"a run that was to be shown is not accepted by `hazard replay`: {line}", NOT_ACCEPTED)
 
-    def _lines(self, words):
+    def lines(self, words):
         """The lines that the program writes. A refusal, or an end before the end, is a failure."""
         with self._running(words) as running:
             for number, line in enumerate(running.stdout):
@@ -180,7 +187,7 @@ def _is_of_script(path, number):
 
 
 @contextlib.contextmanager
-def _file_of(text):
+def file_of(text):
     """The path of a file with a text, which is there as long as the program needs it."""
     with contextlib.ExitStack() as stack:
         try:

@@ -85,16 +85,34 @@ def fault_of(path, number, what, status):
     return Failure(f"{path}:{number}: {what}", status)
 
 
-def must_be_written_out(path):
+def must_have_no_edges(path):
     """Fails if a script, which `hazard` has accepted, has edges `#clock ..`: for `hazard` they are comments, so nothing would happen.
-    It also fails if it has no change. Answers the statements."""
+    Answers the statements."""
     statements = list(read(path))
     for statement in statements:
         if statement.is_edge():
             raise fault_of(path, statement.number, "the edge is not written out; call `hazard-look clock` first", WRONG_WORDS)
+    return statements
+
+
+def must_be_written_out(path):
+    """The same for a script that has to have a change."""
+    statements = must_have_no_edges(path)
     if all(statement.keyword != "change" for statement in statements):
         raise Failure(f"{NO_CHANGE}, so there is nothing to say: write a line `change INPUT=BIT` behind the start", WRONG_WORDS)
     return statements
+
+
+def without_repeats(path):
+    """The text of a script in which each change stands once: a line that repeats one is empty."""
+    rows, seen = read_file(path).split("\n"), set()
+    for line in lines_of("\n".join(rows)):
+        values = assigned(line.tokens[1:]) if line.tokens[:1] and line.tokens[0].lower() == "change" else None
+        if values is not None and frozenset(values.items()) in seen:
+            rows[line.number - 1] = ""
+        elif values is not None:
+            seen.add(frozenset(values.items()))
+    return "\n".join(rows)
 
 
 def edges_of(statements):

@@ -28,8 +28,12 @@ def _always(text):
 
 
 def line(circuit, known, preferred):
-    """The line: each input and flip-flop, and a gate of each loop. Of a loop a gate that is preferred is listed if there is one,
-    else one with a name of the designer's, else the one that most gates read."""
+    """The line, with `?` for each value that is not known."""
+    return "start" + "".join(f" {name}={known.get(name, '?')}" for name in nodes_of(circuit, preferred))
+
+
+def nodes_of(circuit, preferred=()):
+    """What a start lists: each input and flip-flop, and a gate of each loop, from which all other gates follow. Of a loop a gate that is
+    preferred is listed if there is one, else one with a name of the designer's, else the one that most gates read."""
     readers = circuit.readers()
-    nodes = circuit.start_nodes(lambda name: (name not in preferred, bool(_INNER.match(name)), -len(readers[name])))
-    return "start" + "".join(f" {name}={known.get(name, '?')}" for name in nodes)
+    return circuit.start_nodes(lambda name: (name not in preferred, bool(_INNER.match(name)), -len(readers[name])))

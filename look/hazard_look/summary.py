@@ -37,10 +37,10 @@ def run(words, out):
 
 
 class Finding:
-    """What is told of a change: its rows that are not clean, roots before echoes."""
+    """What is told of a change: its rows that are not clean, roots before echoes. If other nodes are not spoken of, they make no echoes."""
 
-    def __init__(self, circuit, change):
-        rows = [row for row in change.rows.values() if not is_clean(row)]
+    def __init__(self, circuit, change, spoken_of=None):
+        rows = [row for row in change.rows.values() if not is_clean(row) and (spoken_of is None or row.name in spoken_of)]
         names = roots(circuit, [row.name for row in rows])
         self.roots = [row for row in rows if row.name in names]
         self.echoes = [row for row in rows if row.name not in names]
@@ -77,7 +77,7 @@ class _Teller:
             self.stopped = (self.stopped or change)._replace(stopped=change.stopped)
             self.last = change.number
             return []
-        finding = Finding(self.circuit, change)
+        finding = Finding(self.circuit, change, self.chosen if self.words.roots else None)
         told = [row for row in finding.roots + ([] if self.words.roots else finding.echoes) if row.name in self.chosen]
         pulses = self._pulses(change)
         for line in clock.left_out(self.circuit, change, self.following[change.number]) if change.number in self.following else ():

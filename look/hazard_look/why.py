@@ -6,7 +6,9 @@ from .conditions import TooMany, conditions
 from .circuit import load, no_node
 from .errors import DONE, OUTPUT_FAILED, WRONG_WORDS, Failure
 from .history import History
+from .lines import spelt
 from .network import Network
+from .program import file_of
 from .runtext import Run
 from .script import NO_CHANGE, must_be_written_out
 from .search import Searcher
@@ -76,7 +78,7 @@ def change_of(words, report):
 
 def explained(words, network, change, row):
     """A searcher for the runs of a change, and those that show the class of a node."""
-    searcher = Searcher(network, change.run_lines)
+    searcher = Searcher(network, _run_of_sorted_pins(words, network, change, row) or change.run_lines)
     moving, node = {network.number[one.name] for one in change.rows.values() if one.moves()}, network.number[row.name]
     if row.kind == "unsettled":
         return searcher, _endless(words, searcher, node, moving)
@@ -84,6 +86,23 @@ def explained(words, network, change, row):
     found = searcher.edges(node, wanted, moving)
     told, compared = _told(History(searcher.follower, found, moving), node, row.name, wanted) if wanted > 1 else ([], [])
     return searcher, [Shown(title, found, None, told, compared)]
+
+
+def _run_of_sorted_pins(words, network, change, row):
+    """The lines of the run in the report on the same circuit with the pins of each gate in the order of the nodes: the order in which they
+    are written then decides nothing. None if they are so, or if that run shows less of a node."""
+    if all(list(pins) == sorted(pins) for pins in map(network.sources_of, range(network.inputs, network.nodes))):
+        return None
+    text = runtext.head(change.run_lines)
+    script = f"start{spelt(text.start)}\nchange{spelt(text.target)}\n"
+    with file_of(network.sorted_text()) as path:
+        found, = words.program.edges_of_text(path, script)
+    own = found.rows[row.name]
+    if own.kind != row.kind:
+        return None
+    run, = runtext.read(found.run_lines).runs
+    steps = [[network.name_by_sorted_pins(word) for word in step] for step in run.lead]
+    return text.of([runtext.Run(steps, None)]).text().splitlines()
 
 
 def _told(history, node, name, edges):

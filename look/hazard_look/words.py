@@ -5,7 +5,7 @@ import re
 import sys
 import traceback
 
-from . import VERSION, clock, expect, from_verilog, from_yosys, page, program, start, summary, terminal, testbench, why
+from . import VERSION, clock, expect, from_verilog, from_yosys, page, program, start, summary, table, terminal, testbench, why
 from .errors import INTERRUPTED, OUTPUT_FAILED, OWN_FAULT, WRONG_WORDS, Failure, must_be_plain, say
 
 ABOUT = """The companion of `hazard`: it shows what a circuit does, asks why, and keeps it as a test. Each value and class
@@ -78,7 +78,7 @@ def parser():
     job = _job(jobs, "summary", summary.run, "a line for each change, and what each hazard means")
     job.add_argument("--only", metavar="NODE,..", help="speak of these nodes alone")
     job.add_argument("--outputs", action="store_true", help="speak of the outputs alone")
-    job.add_argument("--roots", action="store_true", help="leave out the echoes: hazards to which other hazards lead")
+    job.add_argument("--roots", action="store_true", help="leave out the echoes: nodes that read the hazard of another one of these nodes")
     job.add_argument("--all", action="store_true", help="speak of all nodes, the clean ones as well")
     job.add_argument("--fail", action="store_true", help="write each hazard as FILE:LINE: .., and end with 1 if there is one")
     job.add_argument("--json", action="store_true", help="write it as JSON")
@@ -91,6 +91,11 @@ def parser():
     job.add_argument("--save", metavar="FILE", help="keep the run as a run text for `hazard replay`")
     _node(_job(jobs, "testbench", testbench.run, "Verilog with delays under which a node makes its hazard"))
     _job(jobs, "page", page.run, "one self-contained page: the circuit, its hazards, a player of the runs")
+    job = _job(jobs, "table", table.run, "the flow table: each state that the changes reach, in any order, by each of them")
+    job.add_argument("--all", action="store_true", help="write all states and all changes that are not clean")
+    form = job.add_mutually_exclusive_group()
+    form.add_argument("--fail", action="store_true", help="write each change that is not clean as FILE:LINE: .., and end with 1 if there is one")
+    form.add_argument("--page", action="store_true", help="write a page with the states as a graph, each change of which opens")
     _job(jobs, "clock", clock.run, "a script whose lines `#clock ck` are written out as changes")
     job = _plain_job(jobs, "from-yosys", from_yosys.run, "a netlist from what yosys' `write_json` gives after `synth`")
     job.add_argument("design", metavar="DESIGN.json", help="the design, flattened and of simple gates")

@@ -5,6 +5,9 @@ import re
 import shutil
 import subprocess
 
+import exploring
+import week
+
 BROWSERS = ("chromium", "chromium-browser", "google-chrome")
 # What a person would do with the page; `tell` notes what is then to be seen.
 ACTIONS = """
@@ -15,17 +18,19 @@ const press = id => document.getElementById(id).click();
 const key = name => document.dispatchEvent(new KeyboardEvent("keydown", { key: name, bubbles: true, cancelable: true }));
 const boxOf = name => [...document.querySelectorAll(".box")].find(one => one.dataset.node === name);
 const count = selector => document.querySelectorAll(selector).length;
-const isIn = (box, { x, y }) => {
-  const [left, top] = box.getAttribute("transform").match(/[-\\d.]+/g).map(Number);
-  return x > left + 2 && x < left + 110 && y > top + 1 && y < top + 45;
+const isIn = ([left, top], { x, y }) => x > left + 2 && x < left + 110 && y > top + 1 && y < top + 45;
+const crosses = (path, boxes) => [...Array(Math.ceil(path.getTotalLength() / 4)).keys()].some(at => {
+  const point = path.getPointAtLength(4 * at);
+  return boxes.some(box => isIn(box, point));
+});
+const crossings = () => {
+  const boxes = [...document.querySelectorAll("#drawing .box")].map(box => box.getAttribute("transform").match(/[-\\d.]+/g).map(Number));
+  return [...document.querySelectorAll("#drawing path.wire")].filter(path => crosses(path, boxes)).map(path => path.textContent);
 };
-const crosses = path => [...Array(Math.ceil(path.getTotalLength() / 3)).keys()].some(at =>
-  [...document.querySelectorAll(".box")].some(box => isIn(box, path.getPointAtLength(3 * at))));
-const crossings = () => [...document.querySelectorAll("#drawing path.wire")].filter(crosses).map(path => path.textContent);
 const tell = name => {
   told[name] = { step: text("step"), now: text("now"), row: text("row").slice(0, 60), boxes: count("#drawing .box"), edges: text("edges"),
     rings: count("#drawing .ring"), late: count("#drawing .late"), traces: count(".trace"), changes: count("nav button"), why: document.querySelector(".why")?.textContent ?? "",
-    chosen: document.querySelector("#drawing .chosen")?.dataset.node ?? "", nav: text("changes"), map: count("#map .spot"), view: document.getElementById("drawing").getAttribute("viewBox"),
+    chosen: document.querySelector("#drawing .chosen")?.dataset.node ?? "", nav: text("changes"), map: document.getElementById("map").hasAttribute("hidden") ? 0 : count("#map .spot"), view: document.getElementById("drawing").getAttribute("viewBox"),
     which: document.getElementById("which").selectedOptions[0]?.textContent ?? "", wide: document.documentElement.scrollWidth > window.innerWidth };
 };
 """
@@ -34,7 +39,7 @@ document.body.append(Object.assign(document.createElement("pre"), { id: "told", 
 """
 
 
-def rows(folder, call, write, example):
+def rows(folder, call, write, example, hazard):
     """Rows of name, found, wanted."""
     browser = next((path for path in map(shutil.which, BROWSERS) if path), None)
     if browser is None:
@@ -44,11 +49,14 @@ def rows(folder, call, write, example):
     yield from _small(opened, call, example)
     yield from _addresses(opened, call, example)
     yield from _crossings(opened, call, example)
+    yield from _bands(opened, call, write, folder)
     yield from _stopped(opened, call, write, folder, example)
     yield from _expected(opened, call, write, folder)
     yield from _other_root(opened, call, write, folder)
     yield from _clean(opened, call, write, folder)
     yield from _large(opened, call, write, folder)
+    if exploring.is_known(hazard, example):
+        yield from _states(opened, call, write, folder)
 
 
 def _opened(folder, browser, write, page, actions, address="", size="1400,900"):
@@ -59,7 +67,7 @@ def _opened(folder, browser, write, page, actions, address="", size="1400,900"):
     path = write(folder, "page.html", f"{before}</style>{script}{after}")
     options = ["--headless", "--no-sandbox", "--disable-gpu", "--dump-dom", f"--user-data-dir={folder}/browser", f"--window-size={size}"]
     done = subprocess.run([browser] + options + [f"file://{path}{address}"],
-                          stdout=subprocess.PIPE, stderr=subprocess.DEVNULL, timeout=300, check=False)
+                          stdout=subprocess.PIPE, stderr=subprocess.DEVNULL, timeout=900, check=False)
     found = re.search(r'<pre id="told">(.*?)</pre>', done.stdout.decode(), re.S)
     answer = json.loads(html.unescape(found[1])) if found else {"told": {}, "errors": ["no answer"]}
     return answer["told"], answer["errors"]
@@ -106,6 +114,15 @@ def _crossings(opened, call, example):
         for page in (call(["page"] + example(name))[1], re.sub(r'"places":\[\[.*?\]\]', '"places":null', call(["page"] + example(name))[1])):
             told, errors = opened(page, 'tell("opened"); told.opened.crossings = crossings();')
             yield f"wires behind boxes of {name}", (errors, told["opened"]["crossings"]), ([], [])
+
+
+def _bands(opened, call, write, folder):
+    """A circuit that is longer than the canvas is laid in bands: all of it is seen, large enough to be read, and no wire passes behind a box."""
+    page = call(["page", write(folder, "s.bench", week.SCAN), write(folder, "s.txt", "start d=0 si=0 se=0 ck=1 m=1 q=1\nchange ck=0\n")])[1]
+    for places in (page, re.sub(r'"places":\[\[.*?\]\]', '"places":null', page)):
+        told, errors = opened(places, 'tell("opened"); told.opened.crossings = crossings(); told.opened.scale = camera.scale;')
+        first = told["opened"]
+        yield "bands of a long circuit", (errors, first["boxes"], first["map"], first["crossings"], first["scale"] > 0.75), ([], 18, 0, [], True)
 
 
 def _stopped(opened, call, write, folder, example):
@@ -171,4 +188,20 @@ def _large(opened, call, write, folder):
     yield "its last step", told["last"]["step"], f"step {2 * count + 1} of {2 * count + 1}"
     page = call(["page", write(folder, "d.bench", chain(100)), write(folder, "d.txt", "start a=0 c=1\nchange a=1\n")])[1]
     told, errors = opened(page, 'tell("opened"); press("all"); tell("whole"); press("whole"); tell("fitted");')
-    yield "a whole circuit and its map", (errors, told["opened"]["boxes"], told["opened"]["map"], told["whole"]["boxes"], told["whole"]["map"]), ([], 60, 0, 102, 102)
+    yield "a whole circuit and its map", (errors, told["opened"]["boxes"], told["opened"]["map"], told["whole"]["boxes"], told["whole"]["map"], told["fitted"]["map"]), ([], 60, 60, 102, 102, 0)
+
+
+def _states(opened, call, write, folder):
+    """The graph of a flow table: a click on an arrow opens its change, in the circuit."""
+    page = call(["table", "--page", write(folder, "l.bench", exploring.LATCH), write(folder, "l.txt", "start r=0 s=0 q=1\nchange r=1\nchange r=0\nchange r=1 s=1\nchange r=0 s=0\n")])[1]
+    told, errors = opened(page, """
+        const arrows = () => [...document.querySelectorAll(".move")], isShown = () => !document.getElementById("states").hidden;
+        tell("opened"); told.arrows = arrows().map(one => one.getAttribute("aria-label")); told.states = count(".state"); told.shown = [isShown()];
+        arrows()[0].dispatchEvent(new MouseEvent("click")); tell("clicked"); told.shown.push(isShown()); told.script = [...document.querySelectorAll("code")].pop().textContent;
+        key("s"); told.shown.push(isShown()); document.querySelectorAll(".state")[1].dispatchEvent(new MouseEvent("click")); tell("state"); told.shown.push(isShown());
+        arrows()[0].dispatchEvent(new KeyboardEvent("keydown", { key: "Enter", bubbles: true })); told.shown.push(isShown());""")
+    yield "the arrows of a graph", (errors, told["states"], told["arrows"]), (
+        [], 5, ["1 to 2, r=1: clean", "1 to 3, r=1 s=1: 2 hazards", "2 to 4, r=0: clean", "3 to 5, r=0: clean", "3 unsettled, r=0 s=0: 2 hazards", "4 to 2, r=1: clean",
+                "4 to 3, r=1 s=1: 2 hazards", "5 to 3, r=1: clean"])
+    yield "states and circuit", (told["shown"], told["opened"]["nav"].count("unsettled"), told["script"]), ([True, False, True, True, False], 1, "start r=0 s=0 q=1\nchange r=1")
+    yield "the changes that open", (told["opened"]["chosen"], told["clicked"]["chosen"], told["state"]["chosen"], told["clicked"]["boxes"]), ("qb", "r", "r", 4)

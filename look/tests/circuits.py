@@ -42,3 +42,42 @@ def _rest(chance, model, inputs, rows):
             return state[:len(circuit.names)]
         state = model.turned(state, [chance.choice(unstable)])
     return None
+
+
+def multiplier(size):
+    """A netlist of an array multiplier: rows of half and full adders."""
+    gates, row, outputs = [f"p{i}_{j} = AND(a{i}, b{j})" for i in range(size) for j in range(size)], [f"p0_{j}" for j in range(size)], []
+    for i in range(1, size):
+        outputs.append(row.pop(0))
+        carry, sums = None, []
+        for j in range(size):
+            pins = [f"p{i}_{j}"] + row[j:j + 1] + ([carry] if carry else [])
+            name, carry = _adder(gates, f"{i}_{j}", pins)
+            sums.append(name)
+        row = sums + ([carry] if carry else [])
+    nodes = [f"{letter}{at}" for letter in "ab" for at in range(size)]
+    return "".join(f"INPUT({node})\n" for node in nodes) + "".join(f"OUTPUT({node})\n" for node in outputs + row) + "\n".join(gates) + "\n"
+
+
+def _adder(gates, place, pins):
+    """The sum and the carry of one to three pins."""
+    if len(pins) == 1:
+        return pins[0], None
+    pairs = [(one, other) for at, one in enumerate(pins) for other in pins[at + 1:]]
+    gates += [f"s{place} = XOR({', '.join(pins)})"] + [f"c{place}_{at} = AND({one}, {other})" for at, (one, other) in enumerate(pairs)]
+    if len(pairs) == 1:
+        return f"s{place}", f"c{place}_0"
+    gates.append(f"c{place} = OR(c{place}_0, c{place}_1, c{place}_2)")
+    return f"s{place}", f"c{place}"
+
+
+def products(size, changes):
+    """A script for it, in which four inputs change at a time."""
+    chance = random.Random(size)
+    values = {f"{letter}{at}": chance.randint(0, 1) for letter in "ab" for at in range(size)}
+    lines = ["start" + "".join(f" {name}={bit}" for name, bit in values.items())]
+    for _ in range(changes):
+        moved = {name: 1 - values[name] for name in chance.sample(sorted(values), 4)}
+        values.update(moved)
+        lines.append("change" + "".join(f" {name}={bit}" for name, bit in moved.items()))
+    return "\n".join(lines) + "\n"

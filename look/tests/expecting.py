@@ -1,8 +1,10 @@
 """Expectations that hold, that do not, that can't be read, and that could be left out unseen."""
 import json
 import os
+import re
 import xml.etree.ElementTree as tree
 
+ROOT = os.path.dirname(os.path.dirname(os.path.dirname(os.path.abspath(__file__))))
 GATE = "INPUT(ck)\nINPUT(en)\ngck = AND(ck, en)\n"
 # a clock edge at which z pulses by itself, and one at which it is cut in two
 EDGE = "INPUT(ck)\nINPUT(a)\nn = NOT(ck)\nu = AND(ck, a)\nv = AND(n, a)\nz = OR(u, v)\nco = AND(ck, q)\nd = NOT(q)\nq = DFF(d)\n"
@@ -108,6 +110,12 @@ def _as_data(folder, gate, run, write):
     found = json.loads(run(["summary", "--json", bench, text], folder)[1])
     yield "a summary as data", [(one["node"], one["kind"], one["root"], one["place"].rsplit(":")[-1]) for one in found["changes"][0]["hazards"]], [
         ("h", "static-0", True, "4"), ("k", "static-0", False, "5")]
+    with open(os.path.join(ROOT, "docs", "USING.md"), encoding="utf-8") as file:
+        matcher = re.search(r"^\^.*\$$", file.read(), re.M)[0]
+    told = run(["summary", "--fail", "h.bench", "h.txt"], folder)[1].splitlines() + run(["expect", "g.bench", "j.txt"], folder)[1].splitlines()
+    told += run(["expect", "g.bench", write(folder, "k.txt", "start ck=1 en=1 #expects gck\nchange en=0\n")], folder)[2].splitlines()
+    yield "what a problem matcher finds", [found and found.groups()[:2] for found in (re.match(matcher, line) for line in told)], [
+        ("h.txt", "3"), ("h.txt", "3"), ("j.txt", "2"), None, (f"{folder}/k.txt", "1")]
     yield "a summary that fails", run(["summary", "--fail", "h.bench", "h.txt", "--roots"], folder)[:2], (
         1, "h.txt:3: change 1 a=1: h static-0: it is 0 before and after, and may pulse to 1 in between (h.bench:4)\n")
     yield "a summary that does not fail", run(["summary", "--fail", "h.bench", "h.txt", "--only", "n"], folder)[:2], (0, "0 findings\n")

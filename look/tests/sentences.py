@@ -1,5 +1,5 @@
 """What `why` says of delays: each assignment of delays that satisfies a sentence does what the sentence says, in iverilog too, and the order
-of the pins changes hardly any sentence."""
+of the pins changes no sentence."""
 import heapq
 import math
 import os
@@ -175,8 +175,7 @@ def _in_iverilog(folder, write, case, delays):
 
 
 def _permuted(folder, model, write, call):
-    """The same netlist with the pins of each gate in another order: the same words, but for the numbers of the pins and for few nodes, of
-    which the report has another run then."""
+    """The same netlist with the pins of each gate in another order: the same words, but for the numbers of the pins."""
     chance, told_of, others = random.Random(4), 0, []
     for name, circuit in circuits.random_circuits(model, 40, seed=99, gates=(4, 12)):
         bench, script = write(folder, "p.bench", circuit.netlist()), write(folder, "p.txt", circuit.script())
@@ -193,8 +192,8 @@ def _permuted(folder, model, write, call):
             told = [re.sub(r"\(\d+\)|\s+", " ", "\n".join(_sentences(call(["why", path, script, node])[1]))) for path in (bench, other)]
             others += [(name, node)] if told[0] != told[1] else []
             told_of += bool(told[0].strip())
-    print(f"sentences of permuted pins: {told_of}, {len(others)} of them other ones")
-    yield "sentences of permuted pins", (told_of > 20, len(others) * 20 <= told_of), (True, True)
+    print(f"sentences of permuted pins: {told_of}")
+    yield "sentences of permuted pins", (told_of > 20, others), (True, [])
 
 
 def _sentences(text):

@@ -15,6 +15,7 @@ use Rattle.hz_options.specs.declared.show.Show.{Show}
 use Rattle.hz_edges.specs.Edges.{EdgesOf, begin_of}
 use Rattle.hz_edges.specs.EdgesExist.{EdgesExist}
 use Rattle.hz_edges.specs.EdgeReports.{EdgeAnalysis, Found, Stopped, IsRightAnalysis, analysis_of, edge_analysis_text, edge_analyses_text}
+use Rattle.hz_edges.proofs.EdgesThere.{beside-finding}
 use Rattle.hz_edges.proofs.EdgesReplay.{edges-replay}
 
 -- the lines of further analyses come behind those before them
@@ -50,7 +51,7 @@ module _ (exist : EdgesExist) (read : PrintedRunsAreRead) (netlist : Netlist) (c
   -- beside a right finding there is what is right of its edges
   pub found-edges : (start : List Bool) (change : List (ℕ × Bool)) (finding : FindingOf) → IsStableStart netlist start → IsFindingOfChange netlist cap start change finding → (edges : EdgesOf) × IsRightAnalysis netlist cap (Found finding edges)
   found-edges start change finding begins right =
-      let found = exist netlist (changed_input (take netlist.inputs start) change) start cap finding circuit whole begins low high right in
+      let found = beside-finding exist netlist (changed_input (take netlist.inputs start) change) start cap finding circuit whole begins low high right in
       let stable : IsStableStart netlist (begin_of finding) = subst (IsStableStart netlist) (sym right.starts) begins in
       let long : length finding.input ≡ netlist.inputs = ap length right.input_is ∙ input-long netlist start change circuit begins in
       (found.0, edges-replay read netlist cap finding found.0 circuit stable long found.1)

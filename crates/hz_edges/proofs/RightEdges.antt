@@ -17,26 +17,26 @@ use Rattle.hz_bounds.specs.Ranges.{bound_of, IsMostChanges}
 use Rattle.hz_bounds.specs.Telling.{AreStill}
 use Rattle.hz_bounds.proofs.Meeting.{exact-met}
 use Rattle.hz_desk.specs.Finding.{FindingOf, values_a, values_b}
-use Rattle.hz_edges.specs.Edges.{EdgesOf, AreRightEdges, ChangesAtMost, begin_of}
+use Rattle.hz_edges.specs.Edges.{EdgesOf, AreEdgesOfChange, AreRightEdges, ChangesAtMost, begin_of}
 
-module _ (netlist : Netlist) (cap : ℕ) (finding : FindingOf) (edges : EdgesOf) (circuit : IsCircuit netlist) (whole : IsWhole netlist) (begins : IsStableStart netlist (begin_of finding)) (inductive : IsInductive (network_of netlist) finding.input (begin_of finding) cap edges.told) (witness : IsWitness (network_of netlist) finding.input (begin_of finding) (values_a finding.rows) (values_b finding.rows) edges.steps edges.counts) where
+module _ (netlist : Netlist) (cap : ℕ) (input start : List Bool) (a b : List Tri) (edges : EdgesOf) (circuit : IsCircuit netlist) (whole : IsWhole netlist) (begins : IsStableStart netlist start) (inductive : IsInductive (network_of netlist) input start cap edges.told) (witness : IsWitness (network_of netlist) input start a b edges.steps edges.counts) where
   abbrev net : List Driver
   net = network_of netlist
 
-  bounded : (i : ℕ) → i < length net → (count : Count) → (told_at edges.told i).changes ≡ count → IfSome (bound_of count) (ChangesAtMost net finding.input (begin_of finding) i)
+  bounded : (i : ℕ) → i < length net → (count : Count) → (told_at edges.told i).changes ≡ count → IfSome (bound_of count) (ChangesAtMost net input start i)
   bounded i few (Exact most) same =
-      λ steps run. subst (λ (count : Count). Bounds count (variable_history (begin_of finding) steps i)) same
-      (inductive-covers netlist circuit whole finding.input (begin_of finding) begins cap edges.told inductive steps run i few).bounded
+      λ steps run. subst (λ (count : Count). Bounds count (variable_history start steps i)) same
+      (inductive-covers netlist circuit whole input start begins cap edges.told inductive steps run i few).bounded
   bounded i few Many same = tt
 
-  met : (i : ℕ) → i < length net → (count : Count) → (told_at edges.told i).changes ≡ count → bound_of count ≡ Some (get_or edges.counts i 0) → IsMostChanges net finding.input (begin_of finding) i (get_or edges.counts i 0)
+  met : (i : ℕ) → i < length net → (count : Count) → (told_at edges.told i).changes ≡ count → bound_of count ≡ Some (get_or edges.counts i 0) → IsMostChanges net input start i (get_or edges.counts i 0)
   met i few (Exact most) same is =
       let equal : most ≡ get_or edges.counts i 0 = same_Some most (get_or edges.counts i 0) is in
-      exact-met netlist finding.input (begin_of finding) (values_a finding.rows) (values_b finding.rows) cap edges.told edges.steps edges.counts i (get_or edges.counts i 0) circuit whole begins inductive witness few
+      exact-met netlist input start a b cap edges.told edges.steps edges.counts i (get_or edges.counts i 0) circuit whole begins inductive witness few
       (same ∙ ap Exact equal) (omega arith)
   met i few Many same is = absurd cc
 
-  pub right-edges : AreFreeWords net finding.input (begin_of finding) cap edges.told → AreStill net (begin_of finding) (values_a finding.rows) edges.told → AreRightEdges net cap finding edges
+  pub right-edges : AreFreeWords net input start cap edges.told → AreStill net start a edges.told → AreEdgesOfChange net cap input start a b edges
   right-edges free still = record {
     bound = λ i few. bounded i few (told_at edges.told i).changes refl;
     exact = λ i few is. met i few (told_at edges.told i).changes refl is;
@@ -46,12 +46,9 @@ module _ (netlist : Netlist) (cap : ℕ) (finding : FindingOf) (edges : EdgesOf)
   }
 
 -- the same by other names
-pub right-found : (netlist : Netlist) (cap : ℕ) (finding : FindingOf) (edges : EdgesOf) (input start : List Bool) (a b : List Tri) → IsCircuit netlist → IsWhole netlist → IsStableStart netlist (begin_of finding) →
-    start ≡ begin_of finding → input ≡ finding.input → a ≡ values_a finding.rows → b ≡ values_b finding.rows → IsInductive (network_of netlist) input start cap edges.told →
-    AreFreeWords (network_of netlist) input start cap edges.told → AreStill (network_of netlist) start a edges.told → IsWitness (network_of netlist) input start a b edges.steps edges.counts →
-    AreRightEdges (network_of netlist) cap finding edges
-right-found netlist cap finding edges input start a b circuit whole stable starts inputs same_a same_b inductive free still witness =
-    right-edges netlist cap finding edges circuit whole stable (rw (starts, inputs) at inductive) (rw (starts, inputs, same_a, same_b) at witness) (rw (starts, inputs) at free) (rw (starts, same_a) at still)
+pub right-found : (net : List Driver) (cap : ℕ) (finding : FindingOf) (edges : EdgesOf) (input start : List Bool) (a b : List Tri) →
+    start ≡ begin_of finding → input ≡ finding.input → a ≡ values_a finding.rows → b ≡ values_b finding.rows → AreEdgesOfChange net cap input start a b edges → AreRightEdges net cap finding edges
+right-found net cap finding edges input start a b starts inputs same_a same_b right = rw (starts, inputs, same_a, same_b) at right
 
 -- where a call went well, all that it promises of that holds
 pub ok-all : {P Q R S T : Type 0} (result : Result (Unit {0}) Memory) → OnOk result P → OnOk result Q → OnOk result R → OnOk result S → (P → Q → R → S → T) → OnOk result T

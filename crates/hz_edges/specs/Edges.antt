@@ -1,5 +1,6 @@
 -- How often variables change in a change, along one run and along every run.
 use Rattle.std.specs.Prelude.{◌≡◌, ℕ, ◌<◌, ◌≤◌, Bool, Some, List, length, map, IfSome, slice_index_or}
+use Rattle.hz_core.specs.declared.tri.Tri.{Tri}
 use Rattle.hz_net.specs.Network.{Driver}
 use Rattle.hz_gmw.specs.Runs.{IsRun}
 use Rattle.hz_word.specs.declared.word.Word.{Word}
@@ -33,22 +34,27 @@ ChangesAtMost net input start i most =
     (steps : List (List ℕ)) → IsRun net input start steps →
     change_count (variable_history start steps i) ≤ most
 
--- What is found so of a change is right, beside a finding of the change:
--- a bound holds along every run from the start of the change;
+-- What is found so of a change from a start to an input is right, beside the results of Algorithms A and B:
+-- a bound holds along every run from the start;
 -- if a variable changes just as often along the run as its bound allows, its number is exact: no run changes it more often, and one
 -- does so often;
 -- the run is a witness: each node that is X in the result of Algorithm A changes in it, and in its last state each variable that is
 -- not X in the result of Algorithm B has its value and is stable; the counts are those of this run;
 -- a feedback-free variable is told its word, up to the cap;
 -- and a variable that Algorithm A keeps is told no change.
-pub record AreRightEdges (net : List Driver) (cap : ℕ) (finding : FindingOf)
+pub record AreEdgesOfChange (net : List Driver) (cap : ℕ) (input start : List Bool) (a b : List Tri)
     (edges : EdgesOf) : Type 0 where
   pub bound : (i : ℕ) → i < length net →
-      IfSome (range_at edges i).most (ChangesAtMost net finding.input (begin_of finding) i)
+      IfSome (range_at edges i).most (ChangesAtMost net input start i)
   pub exact : (i : ℕ) → i < length net →
       (range_at edges i).most ≡ Some (range_at edges i).least →
-      IsMostChanges net finding.input (begin_of finding) i (range_at edges i).least
-  pub witness : IsWitness net finding.input (begin_of finding) (values_a finding.rows)
-      (values_b finding.rows) edges.steps edges.counts
-  pub free : AreFreeWords net finding.input (begin_of finding) cap edges.told
-  pub still : AreStill net (begin_of finding) (values_a finding.rows) edges.told
+      IsMostChanges net input start i (range_at edges i).least
+  pub witness : IsWitness net input start a b edges.steps edges.counts
+  pub free : AreFreeWords net input start cap edges.told
+  pub still : AreStill net start a edges.told
+
+-- what is found so is right beside a finding of the change
+abbrev pub AreRightEdges : List Driver → ℕ → FindingOf → EdgesOf → Type 0
+AreRightEdges net cap finding edges =
+    AreEdgesOfChange net cap finding.input (begin_of finding) (values_a finding.rows)
+    (values_b finding.rows) edges

@@ -1,10 +1,11 @@
-//! The law that there are edges beside every finding.
+//! The law that there are edges of every change.
 ghost use Rattle.hz_edges.specs.EdgesExist.{EdgesExist};
 
 use hz_bounds::words_are_told;
 use hz_witness::witnesses_exist;
 
-/// Beside every right finding there are right edges. So the report of changes is known to be there before it is made.
+/// Beside the results of both algorithms there are right edges, for every change. So the report of changes is known to be there before it
+/// is made.
 pub fn edges_exist()
     ensures { EdgesExist }
 {

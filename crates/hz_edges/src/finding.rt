@@ -11,7 +11,7 @@ ghost use Rattle.hz_cycle.specs.Cycles.{AreResultsOfBoth};
 ghost use Rattle.hz_free.specs.Inductive.{AreFreeWords, IsInductive};
 ghost use Rattle.hz_bounds.specs.Telling.{AreStill};
 ghost use Rattle.hz_witness.specs.Witness.{IsWitness};
-ghost use Rattle.hz_edges.specs.Edges.{AreRightEdges, begin_of, range_at};
+ghost use Rattle.hz_edges.specs.Edges.{AreEdgesOfChange, AreRightEdges, begin_of, range_at};
 ghost use Rattle.hz_edges.specs.Room.{edges_of, IsEdgeRoom};
 
 use hz_bounds::{Range, range_of, tell};
@@ -28,18 +28,24 @@ use std::alloc::Global;
 
 /// What is found of a change: what each variable is told, one run, and its counts; and what they are found with.
 #[derive(Drop)]
-pub(crate) struct EdgeRoom {
+pub struct EdgeRoom {
+    /// What each variable is told of its changes.
     pub told: Vec<Word>,
+    /// One run of the change.
     pub run: Run,
+    /// How often the run changes each variable.
     pub counts: Vec<u32>,
-    passes: Passes,
-    a: Vec<Tri>,
-    b: Vec<Tri>,
+    /// The ranks and the settling rounds.
+    pub passes: Passes,
+    /// The result of Algorithm A.
+    pub a: Vec<Tri>,
+    /// The result of Algorithm B.
+    pub b: Vec<Tri>,
 }
 
 impl EdgeRoom {
-    // Room for the changes of a network.
-    pub(crate) fn new(alloc: Global, net: &Net) -> Result<EdgeRoom, Memory>
+    /// Room for the changes of a network.
+    pub fn new(alloc: Global, net: &Net) -> Result<EdgeRoom, Memory>
         ensures { IfOk result (IsEdgeRoom net.now) }
     {
         net.keeps_shape();
@@ -58,8 +64,8 @@ impl EdgeRoom {
         })
     }
 
-    // How often a variable changes, along the run and along every run.
-    pub(crate) fn range(&self, var: u32) -> Range
+    /// How often a variable changes, along the run and along every run.
+    pub fn range(&self, var: u32) -> Range
         requires told { var < length self.now.told.items }
         requires counts { var < length self.now.counts.items }
         ensures { result ≡ range_at (edges_of self.now) var }
@@ -99,12 +105,51 @@ impl EdgeRoom {
             start: finding.rows.starts(),
             input: finding.input.as_slice(),
         };
-        self.passes
-            .make(&change, self.a.as_mut_slice(), self.b.as_mut_slice());
-        self.find_by_passes(alloc, &change, free, cap)
+        self.make_passes(&change);
+        self.find_edges(alloc, &change, free, cap)
     }
 
-    // The same, given the results of both passes.
+    /// Makes both passes of a change, and keeps their results. It takes no memory.
+    pub fn make_passes(&mut self, change: &Change)
+        requires room { IsEdgeRoom change.now.net.now self.old }
+        requires start { IsStableStart change.now.net.now change.now.start.now }
+        requires input { IsInput change.now.net.now change.now.input.now }
+        ensures results { AreResultsOfBoth change.now.net.now change.now.start.now
+            change.now.input.now self.new.a.items self.new.passes.ranks.items self.new.b.items
+            self.new.passes.when.items }
+        ensures room { IsEdgeRoom change.now.net.now self.new }
+    {
+        self.passes
+            .make(change, self.a.as_mut_slice(), self.b.as_mut_slice());
+    }
+
+    /// Finds how often the variables change in a change whose passes were made last.
+    pub fn find_edges(
+        &mut self,
+        alloc: Global,
+        change: &Change,
+        free: &Free,
+        cap: u64,
+    ) -> Result<(), Memory>
+        requires room { IsEdgeRoom change.now.net.now self.old }
+        requires free { IsFreePart change.now.net.now free.now }
+        requires results { AreResultsOfBoth change.now.net.now change.now.start.now
+            change.now.input.now self.old.a.items self.old.passes.ranks.items self.old.b.items
+            self.old.passes.when.items }
+        requires cap_low { 1 ≤ cap }
+        requires cap_high { cap ≤ greatest_cap }
+        ensures found { OnOk result
+            (AreEdgesOfChange (network_of change.now.net.now) cap change.now.input.now
+            change.now.start.now self.old.a.items self.old.b.items (edges_of self.new)) }
+        ensures a { self.new.a ≡ self.old.a }
+        ensures b { self.new.b ≡ self.old.b }
+        ensures room { IsEdgeRoom change.now.net.now self.new }
+    {
+        change.net.keeps_shape();
+        self.find_by_passes(alloc, change, free, cap)
+    }
+
+    // The same. It says what is told and what the run is.
     fn find_by_passes(
         &mut self,
         alloc: Global,
@@ -129,6 +174,8 @@ impl EdgeRoom {
         ensures witness { OnOk result (IsWitness (network_of change.now.net.now)
             change.now.input.now change.now.start.now self.old.a.items self.old.b.items
             self.new.run.steps self.new.counts.items) }
+        ensures a { self.new.a ≡ self.old.a }
+        ensures b { self.new.b ≡ self.old.b }
         ensures room { IsEdgeRoom change.now.net.now self.new }
     {
         tell(

@@ -4,9 +4,9 @@
 //! |---|---|
 //! | `job` | [`Edges`]: the job, from the start of a script on |
 //! | `reporting` | the report of a script's changes |
-//! | `finding` | what is found of a change beside its finding, and the memory that this takes |
+//! | `finding` | [`EdgeRoom`]: what is found of a change beside the results of both passes, and the memory that this takes |
 //! | `lines` | the lines of one change |
-//! | `existence` | the law that every change has such a finding |
+//! | `existence` | the law that there are edges of every change |
 #![tactic(auto, using(hz_write::proofs::Writers::writes_then, hz_write::proofs::Writers::writes_nothing))]
 
 mod existence;
@@ -16,4 +16,5 @@ mod lines;
 mod reporting;
 
 pub use existence::edges_exist;
+pub use finding::EdgeRoom;
 pub use job::Edges;

@@ -38,6 +38,8 @@ usage:
                           reports what each change of the script may do
   hazard edges NETLIST SCRIPT [--cap N] [--show nodes|all]
                           says how often each variable may change, behind feedback too
+  hazard explore NETLIST SCRIPT [--cap N]
+                          makes the changes in every order, from each state that they lead to
   hazard split NETLIST SCRIPT
                           looks for two runs of an unsettled change that end differently
   hazard replay NETLIST RUNS

@@ -32,3 +32,5 @@ pub mod CompletedLemmas
 pub mod Unlisted
 -- Every listing of the inputs is open, unstable or accepted
 pub mod Decided
+-- The sweep over the nodes: what holds before it, after each wire and each node, and at its end
+pub mod SweepLemmas

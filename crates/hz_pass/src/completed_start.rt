@@ -4,9 +4,11 @@ ghost use Rattle.hz_core.specs.declared.tri.Tri.TheVariants.{Unknown};
 ghost use Rattle.hz_core.specs.Netlist.{IsCircuit, IsGateNumber, primary_inputs};
 ghost use Rattle.hz_net.specs.Network.{network_of, value_at, bit_at, excitation, IsState, IsInput};
 ghost use Rattle.hz_net.specs.Starts.{ListsInputs, IsAcceptedStart};
+ghost use Rattle.hz_pass.specs.Forcing.{AreForcedValues, AreDelivered};
 ghost use Rattle.hz_pass.specs.Completed.{IsStartFault, bit_or_zero, IsLeastUnknown, IsLeastUnstableIn};
 
-use crate::forcing::forced_values;
+use crate::forcing::carried_values;
+use crate::sweep::swept_values;
 use hz_core::{Memory, Tri};
 use hz_net::Net;
 use std::alloc::Global;
@@ -52,6 +54,18 @@ pub fn complete(alloc: Global, net: &Net, listed: &[Option<bool>]) -> Result<Vec
         return Err(StartFault::Unstable { gate });
     }
     Ok(state)
+}
+
+// The value that each node is forced to, X if it is open, and for each wire its source's.
+fn forced_values(alloc: Global, net: &Net, listed: &[Option<bool>]) -> Result<Vec<Tri>, Memory>
+    requires { length listed.now ≡ length net.now.names }
+    ensures forced { IfOk result (λ values. AreForcedValues net.now listed.now values.items) }
+    ensures delivered { IfOk result (λ values. AreDelivered net.now values.items) }
+{
+    if let Some(values) = swept_values(alloc, net, listed)? {
+        return Ok(values);
+    }
+    carried_values(alloc, net, listed)
 }
 
 // The least node that is X. The primary inputs are listed.

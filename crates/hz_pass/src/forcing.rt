@@ -27,7 +27,7 @@ use hz_net::{Net, VarKind};
 use std::alloc::Global;
 
 /// The value that each node is forced to, X if it is open, and for each wire its source's.
-pub(crate) fn forced_values(
+pub(crate) fn carried_values(
     alloc: Global,
     net: &Net,
     listed: &[Option<bool>],
@@ -48,7 +48,7 @@ pub(crate) fn forced_values(
 }
 
 // Sets the listed values, and lets their nodes wait.
-fn set_listed(
+pub(crate) fn set_listed(
     listed: &[Option<bool>],
     values: &mut [Tri],
     waiting: &mut Vec<u32>,
@@ -183,7 +183,7 @@ fn set_gate(net: &Net, gate: u32, values: &mut [Tri], waiting: &mut Vec<u32>) ->
 }
 
 // The ternary extension of a gate's function on its wires.
-fn extend(net: &Net, gate: u32, values: &[Tri]) -> Tri
+pub(crate) fn extend(net: &Net, gate: u32, values: &[Tri]) -> Tri
     requires gate { IsGateNumber net.now gate }
     requires values { IsState net.now values.now }
     ensures { result ≡ gate_extension net.now values.now gate }

@@ -9,6 +9,7 @@
 //! | `forcing` | how values are forced from node to node |
 //! | `laws` | the law that every listing of the inputs is open, unstable or accepted |
 //! | `front` | the frontier of a pass: what a round changed, whose readers the next one evaluates |
+//! | `sweep` | the same by one sweep, if each gate stands behind what it reads |
 //! | `round`, `rounds` | one round of either, and all of them |
 #![tactic(auto)]
 
@@ -21,6 +22,7 @@ mod front;
 mod laws;
 mod round;
 mod rounds;
+mod sweep;
 
 pub use algorithm_a::{spread, spread_from, spread_stable};
 pub use algorithm_b::settle;

@@ -14,12 +14,13 @@ use Rattle.hz_run_text.specs.RunFault.{HasRunFault}
 use Rattle.hz_run_text.specs.RunText.{IsRunValue}
 use Rattle.hz_run_text.specs.RunValue.{RunTextOf}
 use Rattle.hz_words.specs.declared.job.Task.{Task}
-use Rattle.hz_words.specs.declared.job.Task.TheVariants.{Analyse, Edges, Split, Replay, Convert, Vcd, Batch, Reset}
+use Rattle.hz_words.specs.declared.job.Task.TheVariants.{Analyse, Edges, Explore, Split, Replay, Convert, Vcd, Batch, Reset}
 use Rattle.hz_refusal.specs.declared.status.Status.{Status}
 use Rattle.hz_refusal.specs.declared.status.Status.TheVariants as status
 use Rattle.hz_patterns.specs.Batches.{IsBatchOutcome}
 use Rattle.hz_changes.specs.Reports.{Reports}
 use Rattle.hz_edges.specs.EdgeReports.{ReportsEdges}
+use Rattle.hz_explore.specs.ExploreReports.{ReportsExploring}
 use Rattle.hz_patterns.specs.Resets.{IsResetOutcome}
 use Rattle.hz_replay.specs.RunTexts.{IsConvertOutcome, EndsReplay}
 use Rattle.hz_changes.specs.Splits.{SplitsChanges}
@@ -71,6 +72,8 @@ text-ends options Analyse =
     good-ends (codes "script") HasScriptFault IsValue (Started (Reports options)) (λ netlist script own. IsCompletable netlist script.start × (own ≡ status.Done)) (script-ends (Reports options) (λ netlist start changes own said says. says.0))
 text-ends options Edges =
     good-ends (codes "script") HasScriptFault IsValue (Started (ReportsEdges options)) (λ netlist script own. IsCompletable netlist script.start × (own ≡ status.Done)) (script-ends (ReportsEdges options) (λ netlist start changes own said says. says.0))
+text-ends options Explore =
+    good-ends (codes "script") HasScriptFault IsValue (Started (ReportsExploring options)) (λ netlist script own. IsCompletable netlist script.start × (own ≡ status.Done)) (script-ends (ReportsExploring options) (λ netlist start changes own said says. says.0))
 text-ends options Split =
     good-ends (codes "script") HasScriptFault IsValue (Started (SplitsChanges options.cap)) (λ netlist script own. IsCompletable netlist script.start × (own ≡ status.Done)) (script-ends (SplitsChanges options.cap) (λ netlist start changes own said says. says.0))
 text-ends options Replay =

@@ -12,7 +12,7 @@ use Rattle.hz_refusal.specs.Ending.{IsCutShort}
 use Rattle.hz_refusal.specs.Second.{IsToldLine}
 use Rattle.hz_formats.specs.Netlists.{IsNetlistText, IsToldNetlistLine}
 use Rattle.hz_words.specs.declared.job.Task.{Task}
-use Rattle.hz_words.specs.declared.job.Task.TheVariants.{Analyse, Edges, Split, Replay, Convert, Vcd, Batch, Reset}
+use Rattle.hz_words.specs.declared.job.Task.TheVariants.{Analyse, Edges, Explore, Split, Replay, Convert, Vcd, Batch, Reset}
 use Rattle.hz_words.specs.Job.{JobOf, OnFiles, Demo}
 use Rattle.hz_top.specs.Outcome.{Observation, CountsStay}
 use Rattle.hz_top.specs.declared.reached.Reached.{Reached}
@@ -21,6 +21,7 @@ use Rattle.hz_top.specs.declared.reached.Reached.{Reached}
 abbrev pub faults_of : Task → Netlist → List ℕ → TextFault → Type 0
 faults_of Analyse = HasScriptFault
 faults_of Edges = HasScriptFault
+faults_of Explore = HasScriptFault
 faults_of Split = HasScriptFault
 faults_of Replay = HasRunFault
 faults_of Convert = HasRunFault

@@ -10,12 +10,13 @@ use Rattle.hz_pattern_text.specs.PatternText.{IsPatternsValue}
 use Rattle.hz_run_text.specs.RunFault.{HasRunFault}
 use Rattle.hz_run_text.specs.RunText.{IsRunValue}
 use Rattle.hz_words.specs.declared.job.Task.{Task}
-use Rattle.hz_words.specs.declared.job.Task.TheVariants.{Analyse, Edges, Split, Replay, Convert, Vcd, Batch, Reset}
+use Rattle.hz_words.specs.declared.job.Task.TheVariants.{Analyse, Edges, Explore, Split, Replay, Convert, Vcd, Batch, Reset}
 use Rattle.hz_refusal.specs.declared.status.Status.{Status}
 use Rattle.hz_refusal.specs.declared.status.Status.TheVariants.{Done}
 use Rattle.hz_patterns.specs.Batches.{IsBatchOutcome}
 use Rattle.hz_changes.specs.Reports.{Reports}
 use Rattle.hz_edges.specs.EdgeReports.{ReportsEdges}
+use Rattle.hz_explore.specs.ExploreReports.{ReportsExploring}
 use Rattle.hz_patterns.specs.Resets.{IsResetOutcome}
 use Rattle.hz_replay.specs.RunTexts.{IsConvertOutcome, EndsReplay}
 use Rattle.hz_replay.specs.Dumps.{IsVcdOutcome}
@@ -27,6 +28,7 @@ use Rattle.hz_replay.specs.Verdict.{IsReplayOutcome}
 abbrev pub comes_of : Options → Task → Netlist → List ℕ → Status → List ℕ → Type 0
 comes_of options Analyse = OfScript (Started (Reports options))
 comes_of options Edges = OfScript (Started (ReportsEdges options))
+comes_of options Explore = OfScript (Started (ReportsExploring options))
 comes_of options Split = OfScript (Started (SplitsChanges options.cap))
 comes_of options Replay = OfRuns IsReplayOutcome
 comes_of options Convert = OfRuns IsConvertOutcome
@@ -40,6 +42,9 @@ good_of Analyse =
     IsGoodText HasScriptFault IsValue
     (λ netlist script own. IsCompletable netlist script.start × (own ≡ Done))
 good_of Edges =
+    IsGoodText HasScriptFault IsValue
+    (λ netlist script own. IsCompletable netlist script.start × (own ≡ Done))
+good_of Explore =
     IsGoodText HasScriptFault IsValue
     (λ netlist script own. IsCompletable netlist script.start × (own ≡ Done))
 good_of Split =

@@ -17,6 +17,7 @@ ghost use Rattle.hz_top.specs.Tasks.{comes_of};
 use crate::reached::{Answer, Reached};
 use hz_changes::{Analyses, Splits};
 use hz_edges::Edges;
+use hz_explore::Explores;
 use hz_formats::{read_netlist, refuse_netlist};
 use hz_line::MAX_TEXT;
 use hz_net::Net;
@@ -124,6 +125,7 @@ fn work_on_second<F: Files, K: Sink>(
     match work.task {
         Task::Analyse => work_on_script(alloc, &Analyses { options }, net, second, files, out),
         Task::Edges => work_on_script(alloc, &Edges { options }, net, second, files, out),
+        Task::Explore => work_on_script(alloc, &Explores { options }, net, second, files, out),
         Task::Split => work_on_script(alloc, &Splits { options }, net, second, files, out),
         Task::Replay => work_on_runs(alloc, &Replays, net, second, files, out),
         Task::Convert => work_on_runs(alloc, &Converts, net, second, files, out),

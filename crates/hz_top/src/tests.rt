@@ -146,6 +146,8 @@ fn each_put_fails(rt: HostRuntime) -> Result<(), Fail> {
         ("analyse n s", 0),
         ("analyse n s2", 0),
         ("analyse n s3", 0),
+        ("explore n s3", 0),
+        ("explore latch race", 0),
         ("split latch race", 0),
         ("replay n r", 0),
         ("convert n r", 0),

@@ -7,7 +7,7 @@ use Rattle.hz_options.specs.declared.show.Show.{Show}
 use Rattle.hz_words.specs.Command.{Texts, arguments_of}
 use Rattle.hz_words.specs.Values.{cap_of, show_of, demo_of}
 use Rattle.hz_words.specs.declared.job.Task.{Task}
-use Rattle.hz_words.specs.declared.job.Task.TheVariants.{Analyse, Edges, Split, Replay, Convert, Vcd, Batch, Reset}
+use Rattle.hz_words.specs.declared.job.Task.TheVariants.{Analyse, Edges, Explore, Split, Replay, Convert, Vcd, Batch, Reset}
 use Rattle.hz_words.specs.declared.job.Job.{Job}
 use Rattle.hz_words.specs.declared.job.Job.TheVariants as asked
 
@@ -29,8 +29,8 @@ HasNumbersInRange (asked.Demo number options) = IsDemoNumber number × IsCap opt
 -- the tasks on two files, each behind its word
 abbrev pub tasks : List (List ℕ × Task)
 tasks =
-    (codes "analyse", Analyse) ∷ (codes "edges", Edges) ∷ (codes "split", Split) ∷ (codes "replay", Replay)
-    ∷ (codes "convert", Convert)
+    (codes "analyse", Analyse) ∷ (codes "edges", Edges) ∷ (codes "explore", Explore)
+    ∷ (codes "split", Split) ∷ (codes "replay", Replay) ∷ (codes "convert", Convert)
     ∷ (codes "vcd", Vcd) ∷ (codes "batch", Batch) ∷ (codes "reset", Reset) ∷ []
 
 -- the job of a word on two files; the second may not be left out

@@ -15,6 +15,8 @@ pub enum Task {
     Analyse,
     /// How often each variable may change in the changes of a script is found.
     Edges,
+    /// The changes of a script are made in every order, from each state that they lead to.
+    Explore,
     /// Two runs of an unsettled change of a script are looked for.
     Split,
     /// The runs of a run text are replayed.
@@ -107,6 +109,7 @@ fn job_on_files<'w>(
     let task = match word {
         "analyse" => Task::Analyse,
         "edges" => Task::Edges,
+        "explore" => Task::Explore,
         "split" => Task::Split,
         "replay" => Task::Replay,
         "convert" => Task::Convert,

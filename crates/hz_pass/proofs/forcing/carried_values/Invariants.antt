@@ -1,7 +1,7 @@
 use Rattle.std.proofs.Common.{◌+◌, length}
 use Rattle.hz_core.specs.Ternary.{unknown_count}
 use Rattle.hz_pass.specs.Forcing.{ForcedSoFar, only_waiting}
-use Rattle.hz_pass.proofs.forcing.forced_values.Given as goal
+use Rattle.hz_pass.proofs.forcing.carried_values.Given as goal
 
 -- what is set is forced, and all but the nodes that wait are delivered
 abbrev pub invariant-loop-node : goal.invariant-loop-node

@@ -9,7 +9,7 @@ use Rattle.hz_net.specs.Variables.{fan_out_of}
 use Rattle.hz_pass.specs.Forcing.{ForcedSoFar, carrying, only_waiting}
 use Rattle.hz_pass.proofs.ForcingLoop.{forced-begin, forced-pop, forced-end, delivered-end, next-waits}
 use Rattle.hz_pass.proofs.CompletedLemmas.{written-back}
-use Rattle.hz_pass.proofs.forcing.forced_values.Goals as goal
+use Rattle.hz_pass.proofs.forcing.carried_values.Goals as goal
 
 no-nodes : (nodes : List ℕ) → length nodes ≡ 0 → nodes ≡ []
 no-nodes [] none = refl

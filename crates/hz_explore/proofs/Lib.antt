@@ -1,0 +1,24 @@
+-- States that are found one after the other
+pub mod FoundLemmas
+-- The transitions of a state, burst after burst
+pub mod TransitionLemmas
+-- An exploration state by state
+pub mod ProgressLemmas
+-- A clean transition: each node changes at most once in it, along every run
+pub mod SafeLemmas
+-- An exploration that is done: if no state was left out, it has every state that bursts lead to
+pub mod ExplorationLemmas
+-- Every burst from a stable state comes to something, by the laws of the crates below
+pub mod StepLemmas
+-- The lines of states, one state after the other
+pub mod TextLemmas
+-- Transitions that are made one after the other, and their lines
+pub mod MakesLemmas
+-- Where an exploration stands
+pub mod FrontLemmas
+-- The bursts of a script: how many there are, and which inputs they name
+pub mod BurstLemmas
+-- Counts of the classes of nodes
+pub mod CountLemmas
+-- One transition that is made, and its line
+pub mod ChangeLemmas

@@ -1,0 +1,97 @@
+-- A clean transition: each node changes at most once in it, along every run.
+use Rattle.std.proofs.Common.{◌≡◌, ◌∙◌, refl, sym, ap, subst, ℕ, ◌+◌, ◌<◌, ◌≤◌, Bool, true, false, not, cond, List, [], ◌∷◌, length, map, get_or, Option, Some, None, IfSome, All, Contains, count_by, nat_le, nat_eq, le_trans, zero-add, arith}
+use Rattle.std.specs.List.{list_all, range_with_len, AllPass}
+use Rattle.std.proofs.lemmas.Bool.{true≢false}
+use Rattle.std.proofs.lemmas.Bool.Decides.{nat_tests}
+use Rattle.std.proofs.lemmas.List.Elements.{All-contains}
+use Rattle.std.proofs.lemmas.List.Folds.{sum_by-zero}
+use Rattle.std.proofs.lemmas.List.FromFn.{length-map-range_with_len, get_or-map-range_with_len}
+use Rattle.std.proofs.lemmas.List.Sums.{AllPass-from_list_all}
+use Rattle.hz_core.specs.declared.tri.Tri.{Tri}
+use Rattle.hz_core.specs.declared.tri.Tri.TheVariants.{Zero, One, Unknown}
+use Rattle.hz_core.specs.Netlist.{Netlist}
+use Rattle.hz_net.specs.Network.{Driver, network_of}
+use Rattle.hz_bounds.specs.declared.range.Range.{Range}
+use Rattle.hz_bounds.specs.declared.range.EdgeClass.{EdgeClass}
+use Rattle.hz_bounds.specs.declared.range.EdgeClass.TheVariants.{Steady}
+use Rattle.hz_bounds.specs.Ranges.{class_by_end, edge_class_of, is_bounded, settled_class_of}
+use Rattle.hz_edges.specs.Edges.{EdgesOf, AreEdgesOfChange, ChangesAtMost, range_at}
+use Rattle.hz_explore.specs.Reached.{input_after}
+use Rattle.hz_explore.specs.Transitions.{Outcome, Settled, Unsettled, Transition, IsRightOutcome, class_at, node_classes}
+use Rattle.hz_explore.specs.Counts.{Count, Clean, Hazard, Open, count_of, count_of_classes, count_of_outcome, is_clean_class, is_hazard, is_open}
+
+-- what is counted nowhere is not there
+pub none-counted : {X : Type 0} (test : X → Bool) (xs : List X) (x : X) → count_by test xs ≡ 0 → Contains xs x → test x ≡ false
+none-counted {X} test xs x none there = by (test x) refl
+  where
+    all : list_all (λ (y : X). nat_eq (cond (test y) 1 0) 0) xs ≡ true
+    all = sym (sum_by-zero (λ (y : X). cond (test y) 1 0) xs) ∙ ap (λ (n : ℕ). nat_eq n 0) none
+
+    here : nat_eq (cond (test x) 1 0) 0 ≡ true
+    here = All-contains (λ (y : X). nat_eq (cond (test y) 1 0) 0 ≡ true) xs x (AllPass-from_list_all (λ (y : X). nat_eq (cond (test y) 1 0) 0) xs all) there
+
+    by : (is : Bool) → test x ≡ is → test x ≡ false
+    by true e = absurd (true≢false (sym (ap (λ (is : Bool). nat_eq (cond is 1 0) 0) (sym e) ∙ here)))
+    by false e = e
+
+-- a transition that is neither is clean
+pub clean-count : (count : Count) → is_hazard count ≡ false → is_open count ≡ false → count ≡ Clean
+clean-count Clean hazard unsettled = refl
+clean-count Hazard hazard unsettled = absurd (true≢false hazard)
+clean-count Open hazard unsettled = absurd (true≢false unsettled)
+
+-- a clean class is that of a node that changes at most once
+bounded-more : (most : Option ℕ) → is_bounded most 0 ≡ true → is_bounded most 1 ≡ true
+bounded-more None none = absurd (true≢false (sym none))
+bounded-more (Some most) none = grind (arith, nat_tests)
+
+settled-clean : (back : Bool) (range : Range) → is_clean_class (settled_class_of back range) ≡ true → is_bounded range.most 1 ≡ true
+settled-clean true range clean = by (nat_le 2 range.least) refl
+  where
+    by : (some : Bool) → nat_le 2 range.least ≡ some → is_bounded range.most 1 ≡ true
+    by true e = absurd (true≢false (sym (rw e at clean)))
+    by false e = absurd (true≢false (sym (rw e at clean)))
+settled-clean false range clean = by (is_bounded range.most 1) refl (nat_le 3 range.least) refl
+  where
+    by : (once : Bool) → is_bounded range.most 1 ≡ once → (some : Bool) → nat_le 3 range.least ≡ some → is_bounded range.most 1 ≡ true
+    by true e some f = e
+    by false e true f = absurd (true≢false (sym (rw (e, f) at clean)))
+    by false e false f = absurd (true≢false (sym (rw (e, f) at clean)))
+
+ended-clean : (start : Bool) (end : Tri) (range : Range) → is_clean_class (class_by_end start end range) ≡ true → is_bounded range.most 1 ≡ true
+ended-clean start Zero range clean = settled-clean (not start) range clean
+ended-clean start One range clean = settled-clean start range clean
+ended-clean start Unknown range clean = absurd (true≢false (sym clean))
+
+pub clean-bounded : (start : Bool) (end : Tri) (range : Range) → is_clean_class (edge_class_of start end range) ≡ true → is_bounded range.most 1 ≡ true
+clean-bounded start end range clean = by (is_bounded range.most 0) refl
+  where
+    by : (never : Bool) → is_bounded range.most 0 ≡ never → is_bounded range.most 1 ≡ true
+    by true e = bounded-more range.most e
+    by false e = ended-clean start end range (rw e at clean)
+
+once-at-most : (net : List Driver) (input start : List Bool) (i : ℕ) (most : Option ℕ) → is_bounded most 1 ≡ true → IfSome most (ChangesAtMost net input start i) → ChangesAtMost net input start i 1
+once-at-most net input start i None once bound = absurd (true≢false (sym once))
+once-at-most net input start i (Some most) once bound =
+    let few : most ≤ 1 = grind (arith, nat_tests) in
+    λ steps run. le_trans (bound steps run) few
+
+-- so it does in a clean transition
+pub clean-safe : (netlist : Netlist) (cap : ℕ) (one : Transition) (i : ℕ) → count_of netlist one ≡ Clean → IsRightOutcome netlist cap one one.outcome → i < length netlist.names → length netlist.names ≤ length (network_of netlist) →
+    ChangesAtMost (network_of netlist) (input_after netlist one.start one.burst) one.start i 1
+clean-safe netlist cap one i clean right node inside = by one.outcome clean right
+  where
+    not-clean : (all : Bool) → count_of_classes all ≡ Clean → all ≡ true
+    not-clean true e = refl
+    not-clean false e = absurd cc
+
+    by : (outcome : Outcome) → count_of_outcome netlist one outcome ≡ Clean → IsRightOutcome netlist cap one outcome → ChangesAtMost (network_of netlist) (input_after netlist one.start one.burst) one.start i 1
+    by (Settled next edges) e found =
+        let all = not-clean (list_all is_clean_class (node_classes netlist one edges)) e in
+        let long : i < length (node_classes netlist one edges) = omega (arith, node, length-map-range_with_len (class_at one edges) 0 (length netlist.names)) in
+        let here : is_clean_class (class_at one edges i) ≡ true =
+        subst (λ (class : EdgeClass). is_clean_class class ≡ true) (get_or-map-range_with_len (class_at one edges) 0 (length netlist.names) i i Steady node (zero-add i))
+        (AllPass-from_list_all is_clean_class (node_classes netlist one edges) all i Steady long) in
+        once-at-most (network_of netlist) (input_after netlist one.start one.burst) one.start i (range_at edges i).most (clean-bounded _ _ (range_at edges i) here)
+        (found.1.bound i (omega (arith, node, inside)))
+    by (Unsettled var) e found = absurd cc

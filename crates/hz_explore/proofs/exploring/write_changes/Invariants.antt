@@ -1,0 +1,20 @@
+-- The transitions of the bursts so far are made, and their lines are given.
+use Rattle.std.proofs.Common.{◌≡◌, ◌+◌, ◌≤◌, Bool, List, take}
+use Rattle.std.specs.List.{flat_map}
+use Rattle.hz_write.specs.Writer.{Writes, has_failed}
+use Rattle.hz_explore.specs.Transitions.{Transition, ends_of}
+use Rattle.hz_explore.specs.Exploration.{found_by}
+use Rattle.hz_explore.specs.ExploreText.{transition_line}
+use Rattle.hz_explore.specs.Progress.{Extends}
+use Rattle.hz_explore.specs.Inside.{IsExploreRoom, Makes, bursts_in, changes_in}
+use Rattle.hz_explore.proofs.exploring.write_changes.Given as goal
+
+abbrev pub invariant-loop-place : goal.invariant-loop-place
+invariant-loop-place g l =
+    (made : List Transition)
+    × Makes l.exploring.net.now l.exploring.cap (take l.place (bursts_in l.exploring.bursts.now)) l.fn.room.start.items made l.fn.room l.room (has_failed l.writer)
+    × ((all : List (List Bool)) → Extends (found_by l.fn.room.states (ends_of l.exploring.net.now made)) all →
+    Writes g.K.Sink.output g.K.Sink.faults (flat_map (transition_line l.exploring.net.now all l.number) made) l.fn.writer l.writer)
+    × (l.room.start ≡ l.fn.room.start)
+    × IsExploreRoom l.exploring.net.now l.room
+    × (changes_in l.room.totals ≤ changes_in l.fn.room.totals + l.place)

@@ -1,0 +1,111 @@
+-- What nodes and transitions count as.
+use Rattle.std.specs.Prelude.{ℕ, Bool, true, false, List, count_by}
+use Rattle.std.specs.List.{list_all}
+use Rattle.hz_core.specs.Netlist.{Netlist}
+use Rattle.hz_bounds.specs.declared.range.EdgeClass.{EdgeClass}
+use Rattle.hz_bounds.specs.declared.range.EdgeClass.TheVariants.{Steady, Single, Static, MaybeStatic, Dynamic, MaybeDynamic, Unsettled as UnsettledClass}
+use Rattle.hz_states.specs.States.{has_state}
+use Rattle.hz_explore.specs.declared.counting.Classes.{Classes}
+use Rattle.hz_explore.specs.declared.counting.Totals.{Totals}
+use Rattle.hz_explore.specs.Transitions.{Outcome, Settled, Unsettled, Transition, ends_of, node_classes}
+
+-- a node has one of the classes
+abbrev pub is_single : EdgeClass → Bool
+is_single Steady = false
+is_single Single = true
+is_single Static = false
+is_single MaybeStatic = false
+is_single Dynamic = false
+is_single MaybeDynamic = false
+is_single UnsettledClass = false
+
+abbrev pub is_static : EdgeClass → Bool
+is_static Steady = false
+is_static Single = false
+is_static Static = true
+is_static MaybeStatic = false
+is_static Dynamic = false
+is_static MaybeDynamic = false
+is_static UnsettledClass = false
+
+abbrev pub is_dynamic : EdgeClass → Bool
+is_dynamic Steady = false
+is_dynamic Single = false
+is_dynamic Static = false
+is_dynamic MaybeStatic = false
+is_dynamic Dynamic = true
+is_dynamic MaybeDynamic = false
+is_dynamic UnsettledClass = false
+
+abbrev pub is_maybe_dynamic : EdgeClass → Bool
+is_maybe_dynamic Steady = false
+is_maybe_dynamic Single = false
+is_maybe_dynamic Static = false
+is_maybe_dynamic MaybeStatic = false
+is_maybe_dynamic Dynamic = false
+is_maybe_dynamic MaybeDynamic = true
+is_maybe_dynamic UnsettledClass = false
+
+-- a node of this class never changes, or changes once
+abbrev pub is_clean_class : EdgeClass → Bool
+is_clean_class Steady = true
+is_clean_class Single = true
+is_clean_class Static = false
+is_clean_class MaybeStatic = false
+is_clean_class Dynamic = false
+is_clean_class MaybeDynamic = false
+is_clean_class UnsettledClass = false
+
+-- what a transition counts as: it is clean if each node is steady or single, unsettled if a variable is, and else it has a hazard
+pub data Count : Type 0 where
+  Clean : Count
+  Hazard : Count
+  Open : Count
+
+abbrev pub count_of_classes : Bool → Count
+count_of_classes true = Clean
+count_of_classes false = Hazard
+
+abbrev pub count_of_outcome : Netlist → Transition → Outcome → Count
+count_of_outcome netlist transition (Settled next edges) =
+    count_of_classes (list_all is_clean_class (node_classes netlist transition edges))
+count_of_outcome netlist transition (Unsettled var) = Open
+
+abbrev pub count_of : Netlist → Transition → Count
+count_of netlist transition = count_of_outcome netlist transition transition.outcome
+
+abbrev pub is_clean : Count → Bool
+is_clean Clean = true
+is_clean Hazard = false
+is_clean Open = false
+
+abbrev pub is_hazard : Count → Bool
+is_hazard Clean = false
+is_hazard Hazard = true
+is_hazard Open = false
+
+abbrev pub is_open : Count → Bool
+is_open Clean = false
+is_open Hazard = false
+is_open Open = true
+
+-- how many nodes are of each class
+abbrev pub classes_of : List EdgeClass → Classes
+classes_of classes =
+    record {
+      single = count_by is_single classes;
+      fixed = count_by is_static classes;
+      dynamic = count_by is_dynamic classes;
+      maybe_dynamic = count_by is_maybe_dynamic classes;
+      is_clean = list_all is_clean_class classes;
+    }
+
+-- how many transitions are of each kind, and whether each that settles ends in one of these states
+abbrev pub totals_of : Netlist → List (List Bool) → List Transition → Totals
+totals_of netlist states transitions =
+    record {
+      clean = count_by (λ one. is_clean (count_of netlist one)) transitions;
+      hazards = count_by (λ one. is_hazard (count_of netlist one)) transitions;
+      unsettled = count_by (λ one. is_open (count_of netlist one)) transitions;
+      is_whole = list_all (has_state states) (ends_of netlist transitions);
+    }

@@ -1,0 +1,86 @@
+"""The text of `hazard explore`, read state by state: what each burst of a script does in each state that bursts reach."""
+from typing import Dict, Iterator, List, NamedTuple, Optional
+
+from .lines import assignments
+
+# The words of a line that settles which count nodes: a class and a number, four times.
+_COUNTS = 8
+MORE = "more"
+
+
+class Transition(NamedTuple):
+    """A burst in a state: the number of the state in which it settles, None if that one has no number; how many nodes have each class;
+    or the variable that it leaves unsettled."""
+
+    state: int
+    burst: Dict[str, int]
+    target: Optional[int]
+    counts: Dict[str, int]
+    unsettled: Optional[str]
+
+    def hazards(self):
+        """How many nodes have each class that is not clean."""
+        return {kind: count for kind, count in self.counts.items() if count and kind != "single"}
+
+    def is_clean(self):
+        return self.unsettled is None and not self.hazards()
+
+
+class State(NamedTuple):
+    """A state: its number, the values of all nodes, and its transitions, in the order of the bursts."""
+
+    number: int
+    values: Dict[str, int]
+    transitions: List[Transition]
+
+
+class Totals(NamedTuple):
+    """The last line: whether all states were found that bursts reach, and how many states and changes there are of each kind."""
+
+    is_whole: bool
+    states: int
+    changes: int
+    clean: int
+    hazards: int
+    unsettled: int
+
+
+class Exploration(NamedTuple):
+    """The completed start; and the states, which can be gone through once, and behind them the totals."""
+
+    start: Dict[str, int]
+    rows: Iterator
+
+
+def read(lines):
+    """The exploration of some lines, whose head is read at once."""
+    lines = iter(lines)
+    words = next(lines).split()
+    while words[0] != "start":
+        words = next(lines).split()
+    return Exploration(assignments(words[1:]), _rows(lines))
+
+
+def _rows(lines):
+    """Each state, and then the totals."""
+    state = None
+    for line in lines:
+        word, *words = line.split()
+        if word.isdigit():
+            state.transitions.append(_transition(int(word), words))
+            continue
+        if state:
+            yield state
+        if word != "state":
+            yield Totals(word == "all", *map(int, words[1::2]))
+            return
+        state = State(int(words[0]), assignments(words[1:]), [])
+
+
+def _transition(state, words):
+    """The transition of a line, without the number of its state."""
+    if words[0] == "unsettled":
+        return Transition(state, assignments(words[1:-1]), None, {}, words[-1])
+    counts = words[-_COUNTS:]
+    target = None if words[1] == MORE else int(words[1])
+    return Transition(state, assignments(words[2:-_COUNTS]), target, dict(zip(counts[::2], map(int, counts[1::2]))), None)
