@@ -1,5 +1,5 @@
 -- One transition that is made, and its line.
-use Rattle.std.proofs.Common.{◌≡◌, ◌∙◌, refl, sym, ap, subst, ℕ, Bool, true, false, List, [], ◌∷◌, ◌++◌, Option, is_some, codes, decimal, append-nil, append_assoc}
+use Rattle.std.proofs.Common.{◌≡◌, ◌∙◌, refl, sym, ap, subst, ℕ, Bool, true, false, List, [], ◌∷◌, ◌++◌, Option, is_some, codes, decimal, append-nil}
 use Rattle.std.specs.List.{flat_map, list_all}
 use Rattle.hz_core.specs.declared.tri.Tri.{Tri}
 use Rattle.hz_core.specs.Netlist.{Netlist}
@@ -12,7 +12,7 @@ use Rattle.hz_explore.specs.declared.counting.Totals.{Totals}
 use Rattle.hz_explore.specs.declared.room.ExploreRoom.{ExploreRoom}
 use Rattle.hz_explore.specs.Bursts.{applies}
 use Rattle.hz_explore.specs.Reached.{AreResults, nodes_of}
-use Rattle.hz_explore.specs.Transitions.{Settled, Unsettled, Transition, IsRightTransition, AreTransitions, node_classes}
+use Rattle.hz_explore.specs.Transitions.{Settled, Unsettled, Transition, IsRightTransition, node_classes}
 use Rattle.hz_explore.specs.Counts.{Open, classes_of, count_of_classes, is_clean_class, totals_of}
 use Rattle.hz_explore.specs.Exploration.{found_with}
 use Rattle.hz_explore.specs.ExploreText.{burst_text, counts_text, number_text, transition_line}

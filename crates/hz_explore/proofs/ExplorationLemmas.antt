@@ -1,11 +1,11 @@
 -- An exploration that is done: if no state was left out, it has every state that bursts lead to.
-use Rattle.std.proofs.Common.{◌≡◌, ◌∙◌, refl, sym, ap, subst, inl, inr, ℕ, zero, suc, ◌+◌, ◌<◌, ◌≤◌, Bool, true, false, ◌&&◌, ◌||◌, List, [], ◌∷◌, ◌++◌, length, map, filter, get_or, drop, length-take, All, Contains, Option, Some, arith}
-use Rattle.std.specs.List.{cons_option, flat_map, list_all, list_any, IsDistinct}
+use Rattle.std.proofs.Common.{◌≡◌, ◌∙◌, refl, sym, ap, subst, ℕ, zero, suc, ◌<◌, ◌≤◌, Bool, true, false, ◌||◌, List, [], ◌∷◌, length, map, filter, get_or, drop, length-take, All, Contains, Option, Some, arith}
+use Rattle.std.specs.List.{cons_option, IsDistinct}
 use Rattle.std.proofs.lemmas.Bool.{true≢false}
-use Rattle.std.proofs.lemmas.List.Elements.{All-nil, All-cons, All-head, All-tail, All-contains, Contains-append_left, Contains-append_right}
+use Rattle.std.proofs.lemmas.List.Elements.{All-contains, Contains-append_left, Contains-append_right}
 use Rattle.std.proofs.lemmas.List.Sums.{AllPass-from_list_all}
 use Rattle.hz_core.specs.declared.tri.Tri.{Tri}
-use Rattle.hz_core.specs.declared.tri.Tri.TheVariants.{Zero, One, Unknown}
+use Rattle.hz_core.specs.declared.tri.Tri.TheVariants.{Zero, Unknown}
 use Rattle.hz_core.specs.Ternary.{tri_of}
 use Rattle.hz_core.specs.Netlist.{Netlist}
 use Rattle.hz_net.specs.Network.{network_of, value_at}
@@ -13,15 +13,14 @@ use Rattle.hz_net.specs.Passes.{algorithm_a, algorithm_b, IsResult}
 use Rattle.hz_net.specs.Starts.{IsStableStart}
 use Rattle.hz_net.specs.Variables.{expansion_of}
 use Rattle.hz_net.proofs.TernaryStarts.{result-once}
-use Rattle.hz_seq.specs.Sequence.{IsSettledAt}
 use Rattle.hz_edges.specs.Edges.{ChangesAtMost}
 use Rattle.hz_states.specs.States.{has_state, same_state}
 use Rattle.hz_states.specs.Key.{same_state-Decides}
 use Rattle.hz_explore.specs.Bursts.{applies}
-use Rattle.hz_explore.specs.Reached.{nodes_of, input_after, AreResults, Settles, Leads, LeadTo, IsReached}
+use Rattle.hz_explore.specs.Reached.{nodes_of, input_after, Settles, Leads, LeadTo, IsReached}
 use Rattle.hz_explore.specs.Transitions.{Outcome, Settled, Unsettled, Transition, IsRightOutcome, IsRightTransition, AreTransitions, end_of, ends_of}
 use Rattle.hz_explore.specs.Counts.{Clean, count_of, is_hazard, is_open}
-use Rattle.hz_explore.specs.Exploration.{Explored, IsExploration, all_nodes, all_transitions, found_by, hazards_in, is_whole, state_of, unsettled_in}
+use Rattle.hz_explore.specs.Exploration.{Explored, IsExploration, all_nodes, all_transitions, hazards_in, is_whole, state_of, unsettled_in}
 use Rattle.hz_explore.specs.Progress.{IsFound, IsSoFar}
 use Rattle.hz_explore.proofs.FoundLemmas.{has-first}
 use Rattle.hz_explore.proofs.ProgressLemmas.{HasSteps, all-unmap}

@@ -1,6 +1,6 @@
 -- A clean transition: each node changes at most once in it, along every run.
-use Rattle.std.proofs.Common.{◌≡◌, ◌∙◌, refl, sym, ap, subst, ℕ, ◌+◌, ◌<◌, ◌≤◌, Bool, true, false, not, cond, List, [], ◌∷◌, length, map, get_or, Option, Some, None, IfSome, All, Contains, count_by, nat_le, nat_eq, le_trans, zero-add, arith}
-use Rattle.std.specs.List.{list_all, range_with_len, AllPass}
+use Rattle.std.proofs.Common.{◌≡◌, ◌∙◌, refl, sym, ap, subst, ℕ, ◌<◌, ◌≤◌, Bool, true, false, not, cond, List, length, Option, Some, None, IfSome, Contains, count_by, nat_le, nat_eq, le_trans, zero-add, arith}
+use Rattle.std.specs.List.{list_all}
 use Rattle.std.proofs.lemmas.Bool.{true≢false}
 use Rattle.std.proofs.lemmas.Bool.Decides.{nat_tests}
 use Rattle.std.proofs.lemmas.List.Elements.{All-contains}
@@ -15,7 +15,7 @@ use Rattle.hz_bounds.specs.declared.range.Range.{Range}
 use Rattle.hz_bounds.specs.declared.range.EdgeClass.{EdgeClass}
 use Rattle.hz_bounds.specs.declared.range.EdgeClass.TheVariants.{Steady}
 use Rattle.hz_bounds.specs.Ranges.{class_by_end, edge_class_of, is_bounded, settled_class_of}
-use Rattle.hz_edges.specs.Edges.{EdgesOf, AreEdgesOfChange, ChangesAtMost, range_at}
+use Rattle.hz_edges.specs.Edges.{ChangesAtMost, range_at}
 use Rattle.hz_explore.specs.Reached.{input_after}
 use Rattle.hz_explore.specs.Transitions.{Outcome, Settled, Unsettled, Transition, IsRightOutcome, class_at, node_classes}
 use Rattle.hz_explore.specs.Counts.{Count, Clean, Hazard, Open, count_of, count_of_classes, count_of_outcome, is_clean_class, is_hazard, is_open}

@@ -1,5 +1,5 @@
 -- What nodes and transitions count as.
-use Rattle.std.specs.Prelude.{ℕ, Bool, true, false, List, count_by}
+use Rattle.std.specs.Prelude.{Bool, true, false, List, count_by}
 use Rattle.std.specs.List.{list_all}
 use Rattle.hz_core.specs.Netlist.{Netlist}
 use Rattle.hz_bounds.specs.declared.range.EdgeClass.{EdgeClass}

@@ -1,5 +1,5 @@
 -- One burst: it does not apply, or it leaves a variable unsettled, or it settles.
-use Rattle.std.proofs.Common.{◌≡◌, ◌∙◌, refl, sym, ap, subst, ℕ, ◌<◌, Bool, true, false, List, [], ◌∷◌, length, arith}
+use Rattle.std.proofs.Common.{◌≡◌, ◌∙◌, refl, sym, ap, subst, Bool, true, false, List, [], ◌∷◌, length, arith}
 use Rattle.hz_net.proofs.Places.{length-network_of}
 use Rattle.hz_write.specs.Writer.{has_failed}
 use Rattle.hz_write.proofs.Writers.{writes_nothing, writes_same}

@@ -1,6 +1,5 @@
 -- One state after the other.
-use Rattle.std.proofs.Common.{◌≡◌, ◌∙◌, refl, sym, ap, subst, ℕ, ◌+◌, ◌*◌, ◌<◌, ◌≤◌, Bool, true, false, List, [], ◌∷◌, ◌++◌, length, All, append-nil, length-append, arith}
-use Rattle.std.specs.List.{flat_map}
+use Rattle.std.proofs.Common.{◌≡◌, ◌∙◌, refl, sym, ap, subst, ℕ, ◌+◌, ◌<◌, ◌≤◌, Bool, true, false, List, [], ◌∷◌, ◌++◌, length, append-nil, length-append, arith}
 use Rattle.std.proofs.lemmas.Bool.{true≢false}
 use Rattle.std.proofs.lemmas.List.{length-map}
 use Rattle.std.proofs.lemmas.List.Concat.{flat_map-append}
@@ -12,11 +11,11 @@ use Rattle.hz_write.proofs.Writers.{writes_nothing, writes_then, writes_failed}
 use Rattle.hz_states.specs.States.{state_at}
 use Rattle.hz_explore.specs.declared.room.ExploreRoom.{ExploreRoom}
 use Rattle.hz_explore.specs.Reached.{nodes_of}
-use Rattle.hz_explore.specs.Transitions.{Transition, AreTransitions, ends_of}
-use Rattle.hz_explore.specs.Exploration.{Explored, IsExploration, all_nodes, all_transitions, found_by, state_of}
+use Rattle.hz_explore.specs.Transitions.{Transition, ends_of}
+use Rattle.hz_explore.specs.Exploration.{Explored, all_nodes, all_transitions, found_by}
 use Rattle.hz_explore.specs.ExploreText.{all_explored_text, explored_text}
-use Rattle.hz_explore.specs.Progress.{Extends, IsFound, IsSoFar}
-use Rattle.hz_explore.specs.Inside.{Counts, IsCounted, IsExploreRoom, Makes, bursts_in, changes_in}
+use Rattle.hz_explore.specs.Progress.{Extends, IsSoFar}
+use Rattle.hz_explore.specs.Inside.{Counts, IsCounted, bursts_in}
 use Rattle.hz_explore.proofs.FoundLemmas.{extends-by, extends-self}
 use Rattle.hz_explore.proofs.FrontLemmas.{front-at, nodes-expansion, none-behind, single-state}
 use Rattle.hz_explore.proofs.ProgressLemmas.{rest-exists, so-far-first, so-far-next}
