@@ -7,7 +7,7 @@ use Rattle.std.proofs.lemmas.List.Sums.{AllPass-from_list_all}
 use Rattle.hz_core.specs.declared.tri.Tri.{Tri}
 use Rattle.hz_core.specs.declared.tri.Tri.TheVariants.{Zero, Unknown}
 use Rattle.hz_core.specs.Ternary.{tri_of}
-use Rattle.hz_core.specs.Netlist.{Netlist}
+use Rattle.hz_core.specs.Netlist.{Netlist, IsCircuit}
 use Rattle.hz_net.specs.Network.{network_of, value_at}
 use Rattle.hz_net.specs.Passes.{algorithm_a, algorithm_b, IsResult}
 use Rattle.hz_net.specs.Starts.{IsStableStart}
@@ -16,6 +16,7 @@ use Rattle.hz_net.proofs.TernaryStarts.{result-once}
 use Rattle.hz_edges.specs.Edges.{ChangesAtMost}
 use Rattle.hz_states.specs.States.{has_state, same_state}
 use Rattle.hz_states.specs.Key.{same_state-Decides}
+use Rattle.hz_reach.specs.Counts.{EndsByChanges}
 use Rattle.hz_explore.specs.Bursts.{applies}
 use Rattle.hz_explore.specs.Reached.{nodes_of, input_after, Settles, Leads, LeadTo, IsReached}
 use Rattle.hz_explore.specs.Transitions.{Outcome, Settled, Unsettled, Transition, IsRightOutcome, IsRightTransition, AreTransitions, end_of, ends_of}
@@ -24,6 +25,7 @@ use Rattle.hz_explore.specs.Exploration.{Explored, IsExploration, all_nodes, all
 use Rattle.hz_explore.specs.Progress.{IsFound, IsSoFar}
 use Rattle.hz_explore.proofs.FoundLemmas.{has-first}
 use Rattle.hz_explore.proofs.ProgressLemmas.{HasSteps, all-unmap}
+use Rattle.hz_explore.proofs.ToldLemmas.{told-all}
 use Rattle.hz_explore.proofs.SafeLemmas.{clean-count, clean-safe, none-counted}
 
 -- a state that is known has no X, and one list of values is that of one state
@@ -190,9 +192,9 @@ module _ (netlist : Netlist) (cap : ℕ) (bursts : List (List (ℕ × Bool))) (s
       (subst (λ (b : List (ℕ × Bool)). ChangesAtMost (network_of netlist) (input_after netlist one.start b) one.start i 1) at.4 once)
 
 -- once each state that was found is explored, the exploration is done
-pub is-exploration : (netlist : Netlist) (cap : ℕ) (bursts : List (List (ℕ × Bool))) (start : List Bool) → HasSteps netlist cap → IsStableStart netlist start → (explored : List Explored) (found : List (List Bool)) → IsSoFar netlist cap bursts start explored found → found ≡ all_nodes explored →
+pub is-exploration : EndsByChanges → (netlist : Netlist) (cap : ℕ) (bursts : List (List (ℕ × Bool))) (start : List Bool) → IsCircuit netlist → HasSteps netlist cap → IsStableStart netlist start → (explored : List Explored) (found : List (List Bool)) → IsSoFar netlist cap bursts start explored found → found ≡ all_nodes explored →
     IsExploration netlist cap bursts start explored
-is-exploration netlist cap bursts start steps stable explored found so_far done =
+is-exploration ends netlist cap bursts start circuit steps stable explored found so_far done =
     let right : All (λ (one : Explored). IsFound netlist bursts start one.nodes) explored =
     all-unmap (IsFound netlist bursts start) (λ (one : Explored). one.nodes) explored (subst (All (IsFound netlist bursts start)) done so_far.right) in
     let order = sym done ∙ so_far.order in
@@ -203,6 +205,8 @@ is-exploration netlist cap bursts start steps stable explored found so_far done 
     record {
       transitions = so_far.transitions;
       order = order;
+      told = λ k d few.
+          told-all ends netlist cap (state_of netlist (get_or explored k d)) (get_or explored k d).transitions circuit (right k d few).stable (so_far.transitions k d few).start (so_far.transitions k d few).right;
       stable = λ k d few. (right k d few).stable;
       reached = λ k d few. (right k d few).reached;
       once = subst (IsDistinct same_state) done so_far.once;

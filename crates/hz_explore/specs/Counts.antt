@@ -1,5 +1,5 @@
 -- What nodes and transitions count as.
-use Rattle.std.specs.Prelude.{Bool, true, false, List, count_by}
+use Rattle.std.specs.Prelude.{◌≡◌, Bool, true, false, List, All, count_by}
 use Rattle.std.specs.List.{list_all}
 use Rattle.hz_core.specs.Netlist.{Netlist}
 use Rattle.hz_bounds.specs.declared.range.EdgeClass.{EdgeClass}
@@ -55,6 +55,22 @@ is_clean_class MaybeStatic = false
 is_clean_class Dynamic = false
 is_clean_class MaybeDynamic = false
 is_clean_class UnsettledClass = false
+
+-- a node of this class is steady, or the line of its transition counts it
+abbrev pub is_told_class : EdgeClass → Bool
+is_told_class Steady = true
+is_told_class Single = true
+is_told_class Static = true
+is_told_class MaybeStatic = false
+is_told_class Dynamic = true
+is_told_class MaybeDynamic = true
+is_told_class UnsettledClass = false
+
+-- in a transition that settles each node is steady or counted
+abbrev pub AreTold : Netlist → Transition → Outcome → Type 0
+AreTold netlist transition (Settled next edges) =
+    All (λ class. is_told_class class ≡ true) (node_classes netlist transition edges)
+AreTold netlist transition (Unsettled var) = Unit {0}
 
 -- what a transition counts as: it is clean if each node is steady or single, unsettled if a variable is, and else it has a hazard
 pub data Count : Type 0 where

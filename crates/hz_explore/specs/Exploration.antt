@@ -9,7 +9,7 @@ use Rattle.hz_edges.specs.Edges.{ChangesAtMost}
 use Rattle.hz_states.specs.States.{has_state, same_state, with_state}
 use Rattle.hz_explore.specs.Limits.{most_states}
 use Rattle.hz_explore.specs.Bursts.{applies}
-use Rattle.hz_explore.specs.Counts.{count_of, is_hazard, is_open}
+use Rattle.hz_explore.specs.Counts.{AreTold, count_of, is_hazard, is_open}
 use Rattle.hz_explore.specs.Reached.{input_after, nodes_of, IsReached}
 use Rattle.hz_explore.specs.Transitions.{Transition, AreTransitions, ends_of}
 
@@ -54,7 +54,7 @@ unsettled_in netlist explored =
     count_by (λ one. is_open (count_of netlist one)) (all_transitions explored)
 
 -- The exploration of a circuit by bursts from a start:
--- each state has its transitions;
+-- each state has its transitions, and each node is steady in them or counted by its class;
 -- the states are the start and then those in which transitions end, in the order in which they are first seen, as long as there is
 -- room.
 -- So each of them is a stable start, bursts lead to it, and none stands twice; and if none was left out, every state that bursts lead
@@ -67,6 +67,8 @@ pub record IsExploration (netlist : Netlist) (cap : ℕ) (bursts : List (List (�
       All (λ one. AreTransitions netlist cap bursts (state_of netlist one) one.transitions) explored
   pub order : all_nodes explored
       ≡ found_by [] (nodes_of netlist start ∷ ends_of netlist (all_transitions explored))
+  pub told :
+      All (λ one. All (λ each. AreTold netlist each each.outcome) one.transitions) explored
   pub stable : All (λ one. IsStableStart netlist (state_of netlist one)) explored
   pub reached : All (λ one. IsReached netlist bursts start (state_of netlist one)) explored
   pub once : IsDistinct same_state (all_nodes explored)
