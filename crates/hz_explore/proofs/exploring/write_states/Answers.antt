@@ -142,7 +142,7 @@ returns-then-has_failed-clause-gave g c =
     let whole : List Explored = done ++ rest.more in
     let extends : Extends so_far.1 (all_nodes whole) = subst (Extends so_far.1) rest.whole rest.extends in (
       whole,
-      is-exploration netlist cap bursts start steps c.requires.stable whole rest.last rest.so_far rest.whole,
+      is-exploration c.run_ends.ensures netlist cap bursts start exploring.circuit steps c.requires.stable whole rest.last rest.so_far rest.whole,
       writes_then (so_far.4 (all_nodes whole) extends) (writes_failed (all_explored_text netlist (all_nodes whole) (1 + length done) rest.more) failed) (text-append netlist (all_nodes whole) 1 done rest.more),
       λ fine. absurd (true≢false (sym failed ∙ fine)),
     )
@@ -163,7 +163,7 @@ returns-then-number-len-clause-gave g c =
     let all : length found ≤ length done = omega (arith, so_far.3, ap (length {A = List Bool}) same) in
     let nodes = all-done netlist bursts start cap done found c.loop-number.room so_far.2 all in (
       done,
-      is-exploration netlist cap bursts start steps c.requires.stable done found so_far.2 nodes,
+      is-exploration c.run_ends.ensures netlist cap bursts start exploring.circuit steps c.requires.stable done found so_far.2 nodes,
       so_far.4 (all_nodes done) (subst (λ (states : List (List Bool)). Extends states (all_nodes done)) (sym nodes) (extends-self (all_nodes done))),
       λ fine2. counted-done netlist bursts start cap done found c.loop-number.room so_far.2 all (so_far.5 fine2) (so_far.6 fine2),
     )
@@ -182,7 +182,7 @@ returns-clause-gave g c =
     let all : length found ≤ length done = omega (arith, so_far.3, so_far.2.few) in
     let nodes = all-done netlist bursts start cap done found c.loop-number.room so_far.2 all in (
       done,
-      is-exploration netlist cap bursts start steps c.requires.stable done found so_far.2 nodes,
+      is-exploration c.run_ends.ensures netlist cap bursts start exploring.circuit steps c.requires.stable done found so_far.2 nodes,
       so_far.4 (all_nodes done) (subst (λ (states : List (List Bool)). Extends states (all_nodes done)) (sym nodes) (extends-self (all_nodes done))),
       λ fine2. counted-done netlist bursts start cap done found c.loop-number.room so_far.2 all (so_far.5 fine2) (so_far.6 fine2),
     )
