@@ -44,7 +44,7 @@ FILES = {"controller.v": MULTIPLEXER, "top.v": MULTIPLEXER, "mapped.v": MAPPED, 
          "machine.blif": MACHINE}
 # what a block leaves: a file, and how it begins or what it has
 LEFT = {"controller.blif": ".names", "pulse.blif": ".names a d z", "machine.bench": "s = DFF(z)", "controller.bench": "INPUT(s)", "top.bench": "INPUT(s)", "cover.runs": "runs 2\n", "cover.vcd": "$timescale",
-        "answers/0000": "patterns 4 open 0 unstable 0 unsettled 0\n", "circuits/one.report": "z start 1 A X B 1 changes 2 static\n"}
+        "answers/0000": "patterns 4 open 0 unstable 0 unsettled 0\n"}
 # changes of which some settle, one is static, and the last but one is stopped
 CHANGES = "start r=1 s=0\nchange r=0\nchange s=1\nchange s=0\nchange s=1 r=1\nchange s=0 r=0\nchange r=1\n"
 LATCH = "INPUT(r)\nINPUT(s)\nend = NOR(r, runs)\nruns = NOR(s, end)\n"
@@ -94,9 +94,6 @@ def shell_blocks(program, companion, folder):
     for name, text in FILES.items():
         write(folder, name, text)
     shutil.copy(os.path.join(ROOT, "examples", "multiplexer.bench"), os.path.join(folder, "net.bench"))
-    os.mkdir(os.path.join(folder, "circuits"))
-    for end in (".bench", ".txt"):
-        shutil.copy(os.path.join(ROOT, "examples", "multiplexer" + end), os.path.join(folder, "circuits", "one" + end))
     blocks = re.findall(r"^```(\S*)\n(.*?)^```$", read(ROOT, USING), re.S | re.M)
     for name, text in blocks:
         if "." in name:

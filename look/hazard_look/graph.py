@@ -1,5 +1,6 @@
 """The page of a flow table: the states as a graph, each edge of which opens the change that it stands for."""
 import argparse
+import itertools
 
 from . import page, start, table
 from .errors import DONE, WRONG_WORDS, Failure
@@ -8,50 +9,68 @@ from .lines import spelt
 from .program import file_of
 from .script import NO_CHANGE
 
-# The page has the first states, and the first changes of these.
-MOST_STATES, MOST_CHANGES = 300, 2_000
+# The page has the first states, of their changes those that lead to another one or do not settle, and as many as so many reports have.
+MOST_STATES, MOST_REPORTS = 300, 200
 
 
 def run(words, out, circuit, found):
     """Writes the page of an exploration."""
-    states, totals, left = {}, None, MOST_CHANGES
+    states, totals = {}, None
     for row in found.rows:
         if isinstance(row, Totals):
             totals = row
         elif row.number <= MOST_STATES:
-            states[row.number] = row._replace(transitions=row.transitions[:max(0, left)])
-            left -= len(row.transitions)
+            states[row.number] = row._replace(transitions=[one for one in row.transitions if one.unsettled or (one.target or MOST_STATES + 1) <= MOST_STATES])
     if not any(state.transitions for state in states.values()):
         raise Failure(f"{NO_CHANGE} that is possible in the start", WRONG_WORDS)
     listed, names = start.nodes_of(circuit), table.labelled(circuit)
     gathered = page.Changes(words, circuit)
-    for trail in trails(states):
+    for trail in itertools.islice(trails(states), MOST_REPORTS):
         _note(words, gathered, states, listed, trail)
     gathered.found.sort(key=lambda change: change["from"])
-    page.write(words, out, gathered, states=[table.label(state, names) for state in states.values()], counted=table.counted(totals))
+    part = "" if len(gathered.found) == totals.changes else f"; here {len(states)} states and {len(gathered.found)} changes"
+    page.write(words, out, gathered, states=[table.label(state, names) for state in states.values()], counted=table.counted(totals) + part)
     return DONE
 
 
 def trails(states):
-    """Walks along the transitions, which have each once: each goes on where the one before it settles."""
+    """Walks along the transitions, which have each once as a new one: each goes on where the one before it settles, also along transitions
+    that are not new. A pair says of each whether it is."""
     left = {number: list(state.transitions[::-1]) for number, state in states.items()}
     for number in states:
         while left[number]:
-            trail, at = [], number
-            while left.get(at):
-                trail.append(left[at].pop())
-                at = trail[-1].target
+            trail, at, way = [], number, []
+            while way is not None:
+                trail += [(one, False) for one in way]
+                at = way[-1].target if way else at
+                trail.append((left[at].pop(), True))
+                at = trail[-1][0].target
+                way = _way(states, left, at)
             yield trail
+
+
+def _way(states, left, begin):
+    """The fewest transitions from a state to one of which some are left; None if there are none."""
+    ways = {begin: []} if begin else {}
+    for at in (waiting := list(ways)):
+        if left[at]:
+            return ways[at]
+        for one in states[at].transitions:
+            if one.target and one.target not in ways:
+                ways[one.target] = ways[at] + [one]
+                waiting.append(one.target)
+    return None
 
 
 def _note(words, gathered, states, listed, trail):
     """Notes the changes of a walk for the page, by one report on the script that it is."""
-    bursts = [transition.burst for transition in trail]
-    text = "\n".join(table.script_of(listed, states[trail[0].state], bursts)) + "\n"
+    text = "\n".join(table.script_of(listed, states[trail[0][0].state], [transition.burst for transition, _ in trail])) + "\n"
     with file_of(text) as path:
         gathered.words = argparse.Namespace(**dict(vars(words), script=path))
-        for transition, change in zip(trail, words.program.edges(words.netlist, path).changes):
-            end = f"to {transition.target}" if transition.target else "to more" if transition.unsettled is None else "unsettled"
+        for (transition, is_new), change in zip(trail, words.program.edges(words.netlist, path).changes):
+            if not is_new:
+                continue
+            end = f"to {transition.target}" if transition.target else "unsettled"
             gathered.note(change, title=f"{transition.state} {end},{spelt(transition.burst)}", burst=spelt(transition.burst)[1:],
                           script="\n".join(table.script_of(listed, states[transition.state], [transition.burst])),
                           **{"from": transition.state, "to": transition.target or 0})

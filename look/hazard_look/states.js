@@ -50,13 +50,13 @@ function state(number, { x, y }) {
   return made;
 }
 
-/** An arrow from state to state, or to nowhere. `number` tells it from others between the same states. */
+/** An arrow from state to state, or to nowhere if nothing settles. `number` tells it from others between the same states. */
 function move(one, at, places, number) {
   const label = `${one.title}: ${verdictOf(one)}`, from = places.get(one.from), to = places.get(one.to);
   const made = make("g", { class: `move ${lookOfChange(one)}${at === view.change ? " chosen" : ""}`, tabindex: 0, role: "button", "aria-label": label });
   const end = to ?? { x: from.x + 46, y: from.y - 34 - 20 * number }, { path, tip, words } = arrow(from, end, to ? number : 0, Boolean(to));
   made.append(make("path", { class: "near", d: path }), make("path", { d: path }), make("path", { class: "tip", d: tip }));
-  made.append(make("text", words, to ? cut(one.burst, 20) : `${cut(one.burst, 14)} ${one.to ? "→ " + one.to : one.end.includes("X") ? "?" : "…"}`), make("title", {}, label));
+  made.append(make("text", words, to ? cut(one.burst, 20) : `${cut(one.burst, 14)} ?`), make("title", {}, label));
   const show = () => {
     view.states = false;
     chooseChange(at);

@@ -125,4 +125,11 @@ def _read():
     first, second, totals = found.rows
     yield "an exploration that was cut off", (found.start, first.transitions[0].is_clean(), second.transitions[0].target, second.transitions[0].hazards(), totals), (
         {"a": 0, "z": 1}, True, None, {"static": 1, "maybe-dynamic": 2}, exploration.Totals(False, 2, 2, 1, 1, 0))
-    yield "walks", [[one.target for one in trail] for trail in graph.trails({1: first, 2: second})], [[2, None]]
+    yield "walks", [[(one.target, is_new) for one, is_new in trail] for trail in graph.trails({1: first, 2: second})], [[(2, True), (None, True)]]
+    step = lambda state, target, bit: exploration.Transition(state, {"a": bit}, target, {}, None)
+    ring = {1: first._replace(transitions=[step(1, 2, 1), step(1, 2, 0)]), 2: second._replace(transitions=[step(2, 1, 0)])}
+    yield "a walk that goes round", [[(one.state, is_new) for one, is_new in trail] for trail in graph.trails(ring)], [[(1, True), (2, True), (1, True)]]
+    ring[2] = second._replace(transitions=[step(2, 3, 0)])
+    ring[3] = second._replace(number=3, transitions=[step(3, 1, 0), step(3, 1, 1), step(3, 2, 1)])
+    found = list(graph.trails(ring))
+    yield "a walk that repeats", (len(found), sum(is_new for _, is_new in found[0])), (1, 6)

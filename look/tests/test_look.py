@@ -45,7 +45,7 @@ else:
         script += "\nchange" + "".join(f" {name}={1 - start['abc'.index(name)]}" for name in changed) + "\n"
         return "".join(f"INPUT({name})\n" for name in "abc") + "\n".join(rows) + "\n", script
 
-    @settings(max_examples=60, deadline=None)
+    @settings(max_examples=60, deadline=None, database=None)
     @given(circuits())
     def test_sentences_of_small_circuits(tmp_path_factory, made):
         """With delays that satisfy a sentence the node does what it says."""

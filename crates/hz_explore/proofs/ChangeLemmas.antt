@@ -1,5 +1,5 @@
 -- One transition that is made, and its line.
-use Rattle.std.proofs.Common.{◌≡◌, ◌∙◌, refl, sym, ap, subst, ℕ, Bool, true, false, List, [], ◌∷◌, ◌++◌, Option, is_some, codes, decimal, append-nil, append_assoc}
+use Rattle.std.proofs.Common.{◌≡◌, ◌∙◌, refl, sym, ap, subst, ℕ, Bool, true, false, List, [], ◌∷◌, ◌++◌, Option, is_some, codes, decimal, append-nil}
 use Rattle.std.specs.List.{flat_map, list_all}
 use Rattle.hz_core.specs.declared.tri.Tri.{Tri}
 use Rattle.hz_core.specs.Netlist.{Netlist}
@@ -12,8 +12,8 @@ use Rattle.hz_explore.specs.declared.counting.Totals.{Totals}
 use Rattle.hz_explore.specs.declared.room.ExploreRoom.{ExploreRoom}
 use Rattle.hz_explore.specs.Bursts.{applies}
 use Rattle.hz_explore.specs.Reached.{AreResults, nodes_of}
-use Rattle.hz_explore.specs.Transitions.{Settled, Unsettled, Transition, IsRightTransition, AreTransitions, node_classes}
-use Rattle.hz_explore.specs.Counts.{Open, classes_of, count_of_classes, is_clean_class, totals_of}
+use Rattle.hz_explore.specs.Transitions.{Settled, Unsettled, Transition, IsRightTransition, node_classes}
+use Rattle.hz_explore.specs.Counts.{NotSettled, classes_of, count_of_classes, is_clean_class, totals_of}
 use Rattle.hz_explore.specs.Exploration.{found_with}
 use Rattle.hz_explore.specs.ExploreText.{burst_text, counts_text, number_text, transition_line}
 use Rattle.hz_explore.specs.Progress.{Extends, counted}
@@ -43,13 +43,13 @@ settled_one state burst a b next edges = record { start = state; burst = burst; 
 
 module _ (netlist : Netlist) (cap : ℕ) (state : List Bool) (burst : List (ℕ × Bool)) (a b : List Tri) (was now : ExploreRoom) (failed : Bool) (can : applies state burst ≡ true) where
   -- one that leaves a variable unsettled
-  pub unsettled-made : (var : ℕ) → IsRightTransition netlist cap (unsettled_one state burst a b var) → now.states ≡ was.states → now.totals ≡ counted was.totals Open true → Makes netlist cap (burst ∷ []) state (unsettled_one state burst a b var ∷ []) was now failed
+  pub unsettled-made : (var : ℕ) → IsRightTransition netlist cap (unsettled_one state burst a b var) → now.states ≡ was.states → now.totals ≡ counted was.totals NotSettled true → Makes netlist cap (burst ∷ []) state (unsettled_one state burst a b var ∷ []) was now failed
   unsettled-made var right states totals = record {
     transitions = transition-one netlist cap state (unsettled_one state burst a b var) refl can right;
     found = λ fine. states;
     counts = λ fine before counts all ext.
         totals
-        ∙ (ap (λ (t : Totals). counted t Open true) (counts all (subst (λ (list : List (List Bool)). Extends list all) states ext))
+        ∙ (ap (λ (t : Totals). counted t NotSettled true) (counts all (subst (λ (list : List (List Bool)). Extends list all) states ext))
         ∙ sym (totals-more netlist all before (unsettled_one state burst a b var)));
   }
 

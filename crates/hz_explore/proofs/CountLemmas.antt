@@ -1,5 +1,5 @@
 -- Counts of the classes of nodes.
-use Rattle.std.proofs.Common.{◌≡◌, ◌∙◌, ap, subst, ℕ, ◌≤◌, Bool, length, map, count_by}
+use Rattle.std.proofs.Common.{subst, ℕ, ◌≤◌, Bool, map, count_by}
 use Rattle.std.specs.List.{range_with_len}
 use Rattle.std.proofs.lemmas.List.FromFn.{length-map-range_with_len}
 use Rattle.std.proofs.lemmas.List.Sums.{count_by-le-length}

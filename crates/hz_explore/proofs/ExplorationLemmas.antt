@@ -1,30 +1,31 @@
 -- An exploration that is done: if no state was left out, it has every state that bursts lead to.
-use Rattle.std.proofs.Common.{◌≡◌, ◌∙◌, refl, sym, ap, subst, inl, inr, ℕ, zero, suc, ◌+◌, ◌<◌, ◌≤◌, Bool, true, false, ◌&&◌, ◌||◌, List, [], ◌∷◌, ◌++◌, length, map, filter, get_or, drop, length-take, All, Contains, Option, Some, arith}
-use Rattle.std.specs.List.{cons_option, flat_map, list_all, list_any, IsDistinct}
+use Rattle.std.proofs.Common.{◌≡◌, ◌∙◌, refl, sym, ap, subst, ℕ, zero, suc, ◌<◌, ◌≤◌, Bool, true, false, ◌||◌, List, [], ◌∷◌, length, map, filter, get_or, drop, length-take, All, Contains, Option, Some, arith}
+use Rattle.std.specs.List.{cons_option, IsDistinct}
 use Rattle.std.proofs.lemmas.Bool.{true≢false}
-use Rattle.std.proofs.lemmas.List.Elements.{All-nil, All-cons, All-head, All-tail, All-contains, Contains-append_left, Contains-append_right}
+use Rattle.std.proofs.lemmas.List.Elements.{All-contains, Contains-append_left, Contains-append_right}
 use Rattle.std.proofs.lemmas.List.Sums.{AllPass-from_list_all}
 use Rattle.hz_core.specs.declared.tri.Tri.{Tri}
-use Rattle.hz_core.specs.declared.tri.Tri.TheVariants.{Zero, One, Unknown}
+use Rattle.hz_core.specs.declared.tri.Tri.TheVariants.{Zero, Unknown}
 use Rattle.hz_core.specs.Ternary.{tri_of}
-use Rattle.hz_core.specs.Netlist.{Netlist}
+use Rattle.hz_core.specs.Netlist.{Netlist, IsCircuit}
 use Rattle.hz_net.specs.Network.{network_of, value_at}
 use Rattle.hz_net.specs.Passes.{algorithm_a, algorithm_b, IsResult}
 use Rattle.hz_net.specs.Starts.{IsStableStart}
 use Rattle.hz_net.specs.Variables.{expansion_of}
 use Rattle.hz_net.proofs.TernaryStarts.{result-once}
-use Rattle.hz_seq.specs.Sequence.{IsSettledAt}
 use Rattle.hz_edges.specs.Edges.{ChangesAtMost}
 use Rattle.hz_states.specs.States.{has_state, same_state}
 use Rattle.hz_states.specs.Key.{same_state-Decides}
+use Rattle.hz_reach.specs.Counts.{EndsByChanges}
 use Rattle.hz_explore.specs.Bursts.{applies}
-use Rattle.hz_explore.specs.Reached.{nodes_of, input_after, AreResults, Settles, Leads, LeadTo, IsReached}
+use Rattle.hz_explore.specs.Reached.{nodes_of, input_after, Settles, Leads, LeadTo, IsReached}
 use Rattle.hz_explore.specs.Transitions.{Outcome, Settled, Unsettled, Transition, IsRightOutcome, IsRightTransition, AreTransitions, end_of, ends_of}
-use Rattle.hz_explore.specs.Counts.{Clean, count_of, is_hazard, is_open}
-use Rattle.hz_explore.specs.Exploration.{Explored, IsExploration, all_nodes, all_transitions, found_by, hazards_in, is_whole, state_of, unsettled_in}
+use Rattle.hz_explore.specs.Counts.{Clean, count_of, count_of_outcome, is_hazard, is_not_settled}
+use Rattle.hz_explore.specs.Exploration.{Explored, IsExploration, all_nodes, all_transitions, hazards_in, is_whole, state_of, unsettled_in}
 use Rattle.hz_explore.specs.Progress.{IsFound, IsSoFar}
 use Rattle.hz_explore.proofs.FoundLemmas.{has-first}
 use Rattle.hz_explore.proofs.ProgressLemmas.{HasSteps, all-unmap}
+use Rattle.hz_explore.proofs.ToldLemmas.{told-all}
 use Rattle.hz_explore.proofs.SafeLemmas.{clean-count, clean-safe, none-counted}
 
 -- a state that is known has no X, and one list of values is that of one state
@@ -115,6 +116,11 @@ transition-there (first ∷ explored) one transition there inside = by there.0 t
     by zero few same rest = Contains-append_left first.transitions (all_transitions explored) transition (subst (λ (e : Explored). Contains e.transitions transition) (sym same) inside)
     by (suc k) few same rest = Contains-append_right first.transitions (all_transitions explored) transition (rest k (omega (arith, few)) same)
 
+-- a transition that counts as settled does settle
+settles-if : (netlist : Netlist) (cap : ℕ) (one : Transition) (outcome : Outcome) → IsRightTransition netlist cap one → IsRightOutcome netlist cap one outcome → is_not_settled (count_of_outcome netlist one outcome) ≡ false → (next : List Bool) × Settles netlist one.start one.burst next
+settles-if netlist cap one (Settled next edges) right found settled = (next, record { a = one.a; b = one.b; results = right.results; settled = found.0 })
+settles-if netlist cap one (Unsettled var) right found settled = absurd (true≢false settled)
+
 module _ (netlist : Netlist) (cap : ℕ) (bursts : List (List (ℕ × Bool))) (start : List Bool) (steps : HasSteps netlist cap) (explored : List Explored) (are : All (λ (one : Explored). AreTransitions netlist cap bursts (state_of netlist one) one.transitions) explored) (whole : is_whole netlist explored ≡ true) where
   -- a right transition ends where its burst settles
   ends-so : (one : Transition) (next : List Bool) (outcome : Outcome) → IsRightTransition netlist cap one → Settles netlist one.start one.burst next → one.outcome ≡ outcome → end_of netlist one.outcome ≡ Some (nodes_of netlist next)
@@ -176,6 +182,16 @@ module _ (netlist : Netlist) (cap : ℕ) (bursts : List (List (ℕ × Bool))) (s
   all-stable [] state last stable leads = subst (IsStableStart netlist) leads stable
   all-stable (burst ∷ path) state last stable leads = all-stable path leads.0 last (steps.stable state leads.0 burst stable leads.1.settles) leads.2
 
+  -- if no transition is unsettled, each burst settles
+  pub all-settle : unsettled_in netlist explored ≡ 0 → (state : List Bool) (burst : List (ℕ × Bool)) → IsStableStart netlist state → has_state (all_nodes explored) (nodes_of netlist state) ≡ true → Contains bursts burst → applies state burst ≡ true →
+      (next : List Bool) × Settles netlist state burst next
+  all-settle unsettled state burst stable has listed can =
+      let at = transition-at state burst stable has listed can in
+      let settled = settles-if netlist cap at.0 at.0.outcome at.2 at.2.outcome (none-counted (λ (t : Transition). is_not_settled (count_of netlist t)) (all_transitions explored) at.0 unsettled at.1) in (
+        settled.0,
+        subst (λ (from : List Bool). Settles netlist from burst settled.0) at.3 (subst (λ (b : List (ℕ × Bool)). Settles netlist at.0.start b settled.0) at.4 settled.1),
+      )
+
   -- if no transition has a hazard or is unsettled, each node changes at most once in each burst
   pub all-safe : hazards_in netlist explored ≡ 0 → unsettled_in netlist explored ≡ 0 → (state : List Bool) (burst : List (ℕ × Bool)) (i : ℕ) → IsStableStart netlist state → has_state (all_nodes explored) (nodes_of netlist state) ≡ true → Contains bursts burst → applies state burst ≡ true → i < length netlist.names →
       ChangesAtMost (network_of netlist) (input_after netlist state burst) state i 1
@@ -184,16 +200,16 @@ module _ (netlist : Netlist) (cap : ℕ) (bursts : List (List (ℕ × Bool))) (s
       let one : Transition = at.0 in
       let clean : count_of netlist one ≡ Clean =
       clean-count (count_of netlist one) (none-counted (λ (t : Transition). is_hazard (count_of netlist t)) (all_transitions explored) one hazards at.1)
-      (none-counted (λ (t : Transition). is_open (count_of netlist t)) (all_transitions explored) one unsettled at.1) in
+      (none-counted (λ (t : Transition). is_not_settled (count_of netlist t)) (all_transitions explored) one unsettled at.1) in
       let inside : length netlist.names ≤ length (network_of netlist) = omega (arith, steps.long state stable, stable.long, length-take (length netlist.names) state) in
       let once = clean-safe netlist cap one i clean at.2.outcome node inside in
       subst (λ (from : List Bool). ChangesAtMost (network_of netlist) (input_after netlist from burst) from i 1) at.3
       (subst (λ (b : List (ℕ × Bool)). ChangesAtMost (network_of netlist) (input_after netlist one.start b) one.start i 1) at.4 once)
 
 -- once each state that was found is explored, the exploration is done
-pub is-exploration : (netlist : Netlist) (cap : ℕ) (bursts : List (List (ℕ × Bool))) (start : List Bool) → HasSteps netlist cap → IsStableStart netlist start → (explored : List Explored) (found : List (List Bool)) → IsSoFar netlist cap bursts start explored found → found ≡ all_nodes explored →
+pub is-exploration : EndsByChanges → (netlist : Netlist) (cap : ℕ) (bursts : List (List (ℕ × Bool))) (start : List Bool) → IsCircuit netlist → HasSteps netlist cap → IsStableStart netlist start → (explored : List Explored) (found : List (List Bool)) → IsSoFar netlist cap bursts start explored found → found ≡ all_nodes explored →
     IsExploration netlist cap bursts start explored
-is-exploration netlist cap bursts start steps stable explored found so_far done =
+is-exploration ends netlist cap bursts start circuit steps stable explored found so_far done =
     let right : All (λ (one : Explored). IsFound netlist bursts start one.nodes) explored =
     all-unmap (IsFound netlist bursts start) (λ (one : Explored). one.nodes) explored (subst (All (IsFound netlist bursts start)) done so_far.right) in
     let order = sym done ∙ so_far.order in
@@ -204,10 +220,15 @@ is-exploration netlist cap bursts start steps stable explored found so_far done 
     record {
       transitions = so_far.transitions;
       order = order;
+      told = λ k d few.
+          told-all ends netlist cap (state_of netlist (get_or explored k d)) (get_or explored k d).transitions circuit (right k d few).stable (so_far.transitions k d few).start (so_far.transitions k d few).right;
       stable = λ k d few. (right k d few).stable;
       reached = λ k d few. (right k d few).reached;
       once = subst (IsDistinct same_state) done so_far.once;
       complete = complete;
+      settles = λ whole unsettled state burst reached.
+          all-settle netlist cap bursts start steps explored so_far.transitions whole unsettled state burst
+          (all-stable netlist cap bursts start steps explored so_far.transitions whole reached.0 start state stable reached.1) (complete whole state reached);
       safe = λ whole hazards unsettled state burst i reached.
           all-safe netlist cap bursts start steps explored so_far.transitions whole hazards unsettled state burst i
           (all-stable netlist cap bursts start steps explored so_far.transitions whole reached.0 start state stable reached.1) (complete whole state reached);

@@ -1,12 +1,9 @@
 -- Where an exploration stands.
-use Rattle.std.proofs.Common.{◌≡◌, ◌∙◌, refl, sym, ap, subst, ℕ, zero, suc, ◌+◌, ◌<◌, ◌≤◌, Bool, List, [], ◌∷◌, ◌++◌, length, take, append_assoc, append-nil, length-append, arith}
-use Rattle.std.proofs.lemmas.List.{length-map}
-use Rattle.std.proofs.Math.Seq.{take-length}
+use Rattle.std.proofs.Common.{◌≡◌, ◌∙◌, refl, sym, ap, subst, ℕ, ◌<◌, ◌≤◌, Bool, List, [], ◌∷◌, ◌++◌, length, take, append-nil, length-append, arith}
 use Rattle.hz_core.specs.Netlist.{Netlist}
 use Rattle.hz_net.specs.Variables.{expansion_of}
 use Rattle.hz_states.specs.States.{state_at}
 use Rattle.hz_explore.specs.Reached.{nodes_of}
-use Rattle.hz_explore.specs.Exploration.{Explored, all_nodes}
 
 -- one state alone
 pub single-state : (states : List (List Bool)) → length states ≡ 1 → states ≡ state_at states 0 ∷ []

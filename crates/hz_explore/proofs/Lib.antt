@@ -6,6 +6,8 @@ pub mod TransitionLemmas
 pub mod ProgressLemmas
 -- A clean transition: each node changes at most once in it, along every run
 pub mod SafeLemmas
+-- In a transition that settles each node is steady or counted
+pub mod ToldLemmas
 -- An exploration that is done: if no state was left out, it has every state that bursts lead to
 pub mod ExplorationLemmas
 -- Every burst from a stable state comes to something, by the laws of the crates below

@@ -1,8 +1,6 @@
 -- Transitions that are made one after the other, and their lines.
-use Rattle.std.proofs.Common.{◌≡◌, ◌∙◌, refl, sym, ap, subst, ℕ, Bool, true, false, List, [], ◌∷◌, ◌++◌, append_assoc, append-nil}
-use Rattle.std.specs.List.{flat_map}
+use Rattle.std.proofs.Common.{◌≡◌, ◌∙◌, refl, sym, ap, subst, ℕ, Bool, true, false, List, [], ◌++◌, append_assoc, append-nil}
 use Rattle.std.proofs.lemmas.Bool.{true≢false}
-use Rattle.std.proofs.lemmas.List.Concat.{flat_map-append}
 use Rattle.std.proofs.lemmas.List.Sums.{fold-append}
 use Rattle.hz_core.specs.Netlist.{Netlist}
 use Rattle.hz_explore.specs.declared.room.ExploreRoom.{ExploreRoom}
@@ -10,7 +8,6 @@ use Rattle.hz_explore.specs.Transitions.{Transition, AreTransitions, ends_of}
 use Rattle.hz_explore.specs.Exploration.{found_by, found_with}
 use Rattle.hz_explore.specs.Progress.{Extends}
 use Rattle.hz_explore.specs.Inside.{Counts, Makes}
-use Rattle.hz_explore.proofs.FoundLemmas.{extends-by}
 use Rattle.hz_explore.proofs.TransitionLemmas.{transitions-none, transitions-append, ends-append}
 
 -- states that are found by some transitions and then by others

@@ -1,6 +1,6 @@
 -- An exploration state by state.
-use Rattle.std.proofs.Common.{◌≡◌, ◌∙◌, refl, sym, ap, subst, inl, inr, ℕ, zero, suc, ◌+◌, ◌<◌, ◌≤◌, Bool, true, false, List, [], ◌∷◌, ◌++◌, length, map, filter, All, Contains, append_assoc, append-nil, length-append, arith}
-use Rattle.std.specs.List.{cons_option, flat_map, IsDistinct}
+use Rattle.std.proofs.Common.{◌≡◌, ◌∙◌, refl, sym, ap, subst, ℕ, zero, suc, ◌+◌, ◌≤◌, Bool, true, false, List, [], ◌∷◌, ◌++◌, length, map, filter, All, Contains, append_assoc, append-nil, length-append, arith}
+use Rattle.std.specs.List.{cons_option, IsDistinct}
 use Rattle.std.proofs.lemmas.List.{map-append, length-map}
 use Rattle.std.proofs.lemmas.List.Concat.{flat_map-append}
 use Rattle.std.proofs.lemmas.List.Elements.{All-nil, All-cons, All-head, All-tail, All-append, All-contains_itself}
@@ -8,7 +8,7 @@ use Rattle.std.proofs.lemmas.List.Sums.{fold-append}
 use Rattle.hz_core.specs.Netlist.{Netlist}
 use Rattle.hz_net.specs.Starts.{IsStableStart}
 use Rattle.hz_net.specs.Variables.{expansion_of}
-use Rattle.hz_states.specs.States.{has_state, same_state}
+use Rattle.hz_states.specs.States.{same_state}
 use Rattle.hz_explore.specs.Limits.{most_states}
 use Rattle.hz_explore.specs.Bursts.{applies}
 use Rattle.hz_explore.specs.Reached.{nodes_of, Settles, Leads, LeadTo, IsReached}

@@ -1,6 +1,6 @@
 -- A clean transition: each node changes at most once in it, along every run.
-use Rattle.std.proofs.Common.{◌≡◌, ◌∙◌, refl, sym, ap, subst, ℕ, ◌+◌, ◌<◌, ◌≤◌, Bool, true, false, not, cond, List, [], ◌∷◌, length, map, get_or, Option, Some, None, IfSome, All, Contains, count_by, nat_le, nat_eq, le_trans, zero-add, arith}
-use Rattle.std.specs.List.{list_all, range_with_len, AllPass}
+use Rattle.std.proofs.Common.{◌≡◌, ◌∙◌, refl, sym, ap, subst, ℕ, ◌<◌, ◌≤◌, Bool, true, false, not, cond, List, length, Option, Some, None, IfSome, Contains, count_by, nat_le, nat_eq, le_trans, zero-add, arith}
+use Rattle.std.specs.List.{list_all}
 use Rattle.std.proofs.lemmas.Bool.{true≢false}
 use Rattle.std.proofs.lemmas.Bool.Decides.{nat_tests}
 use Rattle.std.proofs.lemmas.List.Elements.{All-contains}
@@ -15,10 +15,10 @@ use Rattle.hz_bounds.specs.declared.range.Range.{Range}
 use Rattle.hz_bounds.specs.declared.range.EdgeClass.{EdgeClass}
 use Rattle.hz_bounds.specs.declared.range.EdgeClass.TheVariants.{Steady}
 use Rattle.hz_bounds.specs.Ranges.{class_by_end, edge_class_of, is_bounded, settled_class_of}
-use Rattle.hz_edges.specs.Edges.{EdgesOf, AreEdgesOfChange, ChangesAtMost, range_at}
+use Rattle.hz_edges.specs.Edges.{ChangesAtMost, range_at}
 use Rattle.hz_explore.specs.Reached.{input_after}
 use Rattle.hz_explore.specs.Transitions.{Outcome, Settled, Unsettled, Transition, IsRightOutcome, class_at, node_classes}
-use Rattle.hz_explore.specs.Counts.{Count, Clean, Hazard, Open, count_of, count_of_classes, count_of_outcome, is_clean_class, is_hazard, is_open}
+use Rattle.hz_explore.specs.Counts.{Count, Clean, Hazard, NotSettled, count_of, count_of_classes, count_of_outcome, is_clean_class, is_hazard, is_not_settled}
 
 -- what is counted nowhere is not there
 pub none-counted : {X : Type 0} (test : X → Bool) (xs : List X) (x : X) → count_by test xs ≡ 0 → Contains xs x → test x ≡ false
@@ -35,10 +35,10 @@ none-counted {X} test xs x none there = by (test x) refl
     by false e = e
 
 -- a transition that is neither is clean
-pub clean-count : (count : Count) → is_hazard count ≡ false → is_open count ≡ false → count ≡ Clean
+pub clean-count : (count : Count) → is_hazard count ≡ false → is_not_settled count ≡ false → count ≡ Clean
 clean-count Clean hazard unsettled = refl
 clean-count Hazard hazard unsettled = absurd (true≢false hazard)
-clean-count Open hazard unsettled = absurd (true≢false unsettled)
+clean-count NotSettled hazard unsettled = absurd (true≢false unsettled)
 
 -- a clean class is that of a node that changes at most once
 bounded-more : (most : Option ℕ) → is_bounded most 0 ≡ true → is_bounded most 1 ≡ true

@@ -17,7 +17,7 @@ use Rattle.hz_seq.proofs.Existence.{settled-or-unknown}
 use Rattle.hz_seq.proofs.FirstAnalyses.{input-long}
 use Rattle.hz_seq.proofs.NextStart.{next-start}
 use Rattle.hz_edges.specs.EdgesExist.{EdgesExist}
-use Rattle.hz_explore.specs.Reached.{input_after, nodes_of, Settles, AreResults}
+use Rattle.hz_explore.specs.Reached.{input_after, Settles, AreResults}
 use Rattle.hz_explore.specs.Transitions.{Settled, Unsettled, Transition, IsRightTransition}
 use Rattle.hz_explore.proofs.ProgressLemmas.{HasSteps}
 

@@ -1,5 +1,5 @@
 -- The lines of states, one state after the other.
-use Rattle.std.proofs.Common.{◌≡◌, ◌∙◌, refl, sym, ap, ℕ, suc, ◌+◌, Bool, List, [], ◌∷◌, ◌++◌, length, append_assoc, append-nil, arith}
+use Rattle.std.proofs.Common.{◌≡◌, ◌∙◌, sym, ap, ℕ, suc, ◌+◌, Bool, List, [], ◌∷◌, ◌++◌, length, append_assoc, append-nil, arith}
 use Rattle.hz_core.specs.Netlist.{Netlist}
 use Rattle.hz_explore.specs.Exploration.{Explored}
 use Rattle.hz_explore.specs.ExploreText.{all_explored_text, explored_text}

@@ -1,8 +1,8 @@
 -- The transitions of a state, burst after burst.
-use Rattle.std.proofs.Common.{◌≡◌, ◌∙◌, refl, sym, ap, subst, ℕ, ◌+◌, Bool, true, false, ◌&&◌, cond, List, [], ◌∷◌, ◌++◌, length, map, filter, Option, Some, None, All, Contains, count_by, sum_by, append_assoc, append-nil, filter_map, arith}
+use Rattle.std.proofs.Common.{◌≡◌, ◌∙◌, refl, sym, ap, ℕ, ◌+◌, Bool, true, false, ◌&&◌, cond, List, [], ◌∷◌, ◌++◌, map, filter, count_by, arith}
 use Rattle.std.specs.List.{list_all}
 use Rattle.std.proofs.lemmas.List.{map-append}
-use Rattle.std.proofs.lemmas.List.Elements.{All-nil, All-cons, All-head, All-tail, All-append, filter-append, filter_map-append}
+use Rattle.std.proofs.lemmas.List.Elements.{All-nil, All-cons, All-append, filter-append, filter_map-append}
 use Rattle.std.proofs.lemmas.List.Folds.{list_all-append}
 use Rattle.std.proofs.lemmas.List.Sums.{sum_by-append}
 use Rattle.hz_core.specs.Netlist.{Netlist}
@@ -11,7 +11,7 @@ use Rattle.hz_explore.specs.declared.counting.Totals.{Totals}
 use Rattle.hz_explore.specs.Bursts.{applies}
 use Rattle.hz_explore.specs.Reached.{nodes_of}
 use Rattle.hz_explore.specs.Transitions.{Outcome, Settled, Unsettled, Transition, IsRightTransition, AreTransitions, end_of, ends_of}
-use Rattle.hz_explore.specs.Counts.{Count, Clean, Hazard, Open, count_of, count_of_classes, count_of_outcome, is_clean, is_hazard, is_open, totals_of}
+use Rattle.hz_explore.specs.Counts.{Count, Clean, Hazard, NotSettled, count_of, count_of_classes, count_of_outcome, is_clean, is_hazard, is_not_settled, totals_of}
 use Rattle.hz_explore.specs.Progress.{counted}
 
 module _ (netlist : Netlist) (cap : ℕ) (state : List Bool) where
@@ -71,7 +71,7 @@ by_counts totals count whole =
     record {
       clean = totals.clean + cond (is_clean count) 1 0;
       hazards = totals.hazards + cond (is_hazard count) 1 0;
-      unsettled = totals.unsettled + cond (is_open count) 1 0;
+      unsettled = totals.unsettled + cond (is_not_settled count) 1 0;
       is_whole = whole;
     }
 
@@ -89,9 +89,9 @@ same-totals : {clean clean2 hazards hazards2 unsettled unsettled2 : ℕ} {whole 
     the-totals clean hazards unsettled whole ≡ the-totals clean2 hazards2 unsettled2 whole2
 same-totals a b c d = rw (a, b, c, d) refl
 
-not-open : (clean : Bool) → count_of_classes clean ≡ Open → ⊥
-not-open true e = cc
-not-open false e = cc
+no-classes-unsettled : (clean : Bool) → count_of_classes clean ≡ NotSettled → ⊥
+no-classes-unsettled true e = cc
+no-classes-unsettled false e = cc
 
 -- totals with one transition more
 pub totals-more : (netlist : Netlist) (states : List (List Bool)) (transitions : List Transition) (one : Transition) →
@@ -99,7 +99,7 @@ pub totals-more : (netlist : Netlist) (states : List (List Bool)) (transitions :
 totals-more netlist states transitions one =
     let clean = count-more (λ (t : Transition). is_clean (count_of netlist t)) transitions one in
     let hazards = count-more (λ (t : Transition). is_hazard (count_of netlist t)) transitions one in
-    let open_ = count-more (λ (t : Transition). is_open (count_of netlist t)) transitions one in
+    let open_ = count-more (λ (t : Transition). is_not_settled (count_of netlist t)) transitions one in
     let whole = ap (list_all (has_state states)) (ends-append netlist transitions (one ∷ [])) ∙ list_all-append (has_state states) (ends_of netlist transitions) (ends_of netlist (one ∷ [])) in
     rw (clean, hazards, open_, whole) (by one.outcome refl (count_of netlist one) refl)
   where
@@ -108,7 +108,7 @@ totals-more netlist states transitions one =
         ≡ counted (totals_of netlist states transitions) (count_of netlist one) (is_listed netlist states one.outcome)
     by (Settled next edges) o Clean c = rw (c, o) (same-totals refl (plus-none _) (plus-none _) (ap (λ (here : Bool). list_all (has_state states) (ends_of netlist transitions) && here) (and-true _)))
     by (Settled next edges) o Hazard c = rw (c, o) (same-totals (plus-none _) refl (plus-none _) (ap (λ (here : Bool). list_all (has_state states) (ends_of netlist transitions) && here) (and-true _)))
-    by (Settled next edges) o Open c = absurd (not-open _ (ap (count_of_outcome netlist one) (sym o) ∙ c))
+    by (Settled next edges) o NotSettled c = absurd (no-classes-unsettled _ (ap (count_of_outcome netlist one) (sym o) ∙ c))
     by (Unsettled var) o Clean c = absurd cc
     by (Unsettled var) o Hazard c = absurd cc
-    by (Unsettled var) o Open c = rw (c, o) (same-totals (plus-none _) (plus-none _) refl (and-true _))
+    by (Unsettled var) o NotSettled c = rw (c, o) (same-totals (plus-none _) (plus-none _) refl (and-true _))

@@ -1,5 +1,5 @@
 -- What nodes and transitions count as.
-use Rattle.std.specs.Prelude.{ℕ, Bool, true, false, List, count_by}
+use Rattle.std.specs.Prelude.{◌≡◌, Bool, true, false, List, All, count_by}
 use Rattle.std.specs.List.{list_all}
 use Rattle.hz_core.specs.Netlist.{Netlist}
 use Rattle.hz_bounds.specs.declared.range.EdgeClass.{EdgeClass}
@@ -56,11 +56,27 @@ is_clean_class Dynamic = false
 is_clean_class MaybeDynamic = false
 is_clean_class UnsettledClass = false
 
+-- a node of this class is steady, or the line of its transition counts it
+abbrev pub is_told_class : EdgeClass → Bool
+is_told_class Steady = true
+is_told_class Single = true
+is_told_class Static = true
+is_told_class MaybeStatic = false
+is_told_class Dynamic = true
+is_told_class MaybeDynamic = true
+is_told_class UnsettledClass = false
+
+-- in a transition that settles each node is steady or counted
+abbrev pub AreTold : Netlist → Transition → Outcome → Type 0
+AreTold netlist transition (Settled next edges) =
+    All (λ class. is_told_class class ≡ true) (node_classes netlist transition edges)
+AreTold netlist transition (Unsettled var) = Unit {0}
+
 -- what a transition counts as: it is clean if each node is steady or single, unsettled if a variable is, and else it has a hazard
 pub data Count : Type 0 where
   Clean : Count
   Hazard : Count
-  Open : Count
+  NotSettled : Count
 
 abbrev pub count_of_classes : Bool → Count
 count_of_classes true = Clean
@@ -69,7 +85,7 @@ count_of_classes false = Hazard
 abbrev pub count_of_outcome : Netlist → Transition → Outcome → Count
 count_of_outcome netlist transition (Settled next edges) =
     count_of_classes (list_all is_clean_class (node_classes netlist transition edges))
-count_of_outcome netlist transition (Unsettled var) = Open
+count_of_outcome netlist transition (Unsettled var) = NotSettled
 
 abbrev pub count_of : Netlist → Transition → Count
 count_of netlist transition = count_of_outcome netlist transition transition.outcome
@@ -77,17 +93,17 @@ count_of netlist transition = count_of_outcome netlist transition transition.out
 abbrev pub is_clean : Count → Bool
 is_clean Clean = true
 is_clean Hazard = false
-is_clean Open = false
+is_clean NotSettled = false
 
 abbrev pub is_hazard : Count → Bool
 is_hazard Clean = false
 is_hazard Hazard = true
-is_hazard Open = false
+is_hazard NotSettled = false
 
-abbrev pub is_open : Count → Bool
-is_open Clean = false
-is_open Hazard = false
-is_open Open = true
+abbrev pub is_not_settled : Count → Bool
+is_not_settled Clean = false
+is_not_settled Hazard = false
+is_not_settled NotSettled = true
 
 -- how many nodes are of each class
 abbrev pub classes_of : List EdgeClass → Classes
@@ -106,6 +122,6 @@ totals_of netlist states transitions =
     record {
       clean = count_by (λ one. is_clean (count_of netlist one)) transitions;
       hazards = count_by (λ one. is_hazard (count_of netlist one)) transitions;
-      unsettled = count_by (λ one. is_open (count_of netlist one)) transitions;
+      unsettled = count_by (λ one. is_not_settled (count_of netlist one)) transitions;
       is_whole = list_all (has_state states) (ends_of netlist transitions);
     }

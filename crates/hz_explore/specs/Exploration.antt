@@ -9,8 +9,8 @@ use Rattle.hz_edges.specs.Edges.{ChangesAtMost}
 use Rattle.hz_states.specs.States.{has_state, same_state, with_state}
 use Rattle.hz_explore.specs.Limits.{most_states}
 use Rattle.hz_explore.specs.Bursts.{applies}
-use Rattle.hz_explore.specs.Counts.{count_of, is_hazard, is_open}
-use Rattle.hz_explore.specs.Reached.{input_after, nodes_of, IsReached}
+use Rattle.hz_explore.specs.Counts.{AreTold, count_of, is_hazard, is_not_settled}
+use Rattle.hz_explore.specs.Reached.{input_after, nodes_of, IsReached, Settles}
 use Rattle.hz_explore.specs.Transitions.{Transition, AreTransitions, ends_of}
 
 -- A state by the values of its nodes, and its transitions.
@@ -51,28 +51,35 @@ hazards_in netlist explored =
 
 abbrev pub unsettled_in : Netlist → List Explored → ℕ
 unsettled_in netlist explored =
-    count_by (λ one. is_open (count_of netlist one)) (all_transitions explored)
+    count_by (λ one. is_not_settled (count_of netlist one)) (all_transitions explored)
 
 -- The exploration of a circuit by bursts from a start:
--- each state has its transitions;
+-- each state has its transitions, and each node is steady in them or counted by its class;
 -- the states are the start and then those in which transitions end, in the order in which they are first seen, as long as there is
 -- room.
 -- So each of them is a stable start, bursts lead to it, and none stands twice; and if none was left out, every state that bursts lead
 -- to is there.
--- If besides no transition has a hazard or leaves a variable unsettled, the circuit is safe: in whatever order the bursts come, one
--- after the other has settled, each node changes at most once in each burst, along every run, whatever the delays.
+-- If besides no transition leaves a variable unsettled, each burst settles, in whatever order they come, each after the one before it has
+-- settled. If no transition has a hazard either, the circuit is safe: each node changes at most once in each burst, along every run,
+-- whatever the delays.
 pub record IsExploration (netlist : Netlist) (cap : ℕ) (bursts : List (List (ℕ × Bool)))
     (start : List Bool) (explored : List Explored) : Type 0 where
   pub transitions :
       All (λ one. AreTransitions netlist cap bursts (state_of netlist one) one.transitions) explored
   pub order : all_nodes explored
       ≡ found_by [] (nodes_of netlist start ∷ ends_of netlist (all_transitions explored))
+  pub told :
+      All (λ one. All (λ each. AreTold netlist each each.outcome) one.transitions) explored
   pub stable : All (λ one. IsStableStart netlist (state_of netlist one)) explored
   pub reached : All (λ one. IsReached netlist bursts start (state_of netlist one)) explored
   pub once : IsDistinct same_state (all_nodes explored)
   pub complete : is_whole netlist explored ≡ true →
       (state : List Bool) → IsReached netlist bursts start state →
       has_state (all_nodes explored) (nodes_of netlist state) ≡ true
+  pub settles : is_whole netlist explored ≡ true → unsettled_in netlist explored ≡ 0 →
+      (state : List Bool) (burst : List (ℕ × Bool)) → IsReached netlist bursts start state →
+      Contains bursts burst → applies state burst ≡ true →
+      (next : List Bool) × Settles netlist state burst next
   pub safe : is_whole netlist explored ≡ true → hazards_in netlist explored ≡ 0 →
       unsettled_in netlist explored ≡ 0 →
       (state : List Bool) (burst : List (ℕ × Bool)) (i : ℕ) → IsReached netlist bursts start state →

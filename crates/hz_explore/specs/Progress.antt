@@ -9,7 +9,7 @@ use Rattle.hz_explore.specs.declared.counting.Totals.{Totals}
 use Rattle.hz_explore.specs.Limits.{most_states}
 use Rattle.hz_explore.specs.Reached.{nodes_of, IsReached}
 use Rattle.hz_explore.specs.Transitions.{AreTransitions, ends_of}
-use Rattle.hz_explore.specs.Counts.{Count, Clean, Hazard, Open}
+use Rattle.hz_explore.specs.Counts.{Count, Clean, Hazard, NotSettled}
 use Rattle.hz_explore.specs.Exploration.{Explored, all_nodes, all_transitions, found_by, state_of}
 
 -- States that were found are the first ones of all states. If there was no room for more, they are all.
@@ -47,4 +47,4 @@ counted totals Clean is_found =
     record totals { clean = totals.clean + 1; is_whole = totals.is_whole && is_found }
 counted totals Hazard is_found =
     record totals { hazards = totals.hazards + 1; is_whole = totals.is_whole && is_found }
-counted totals Open is_found = record totals { unsettled = totals.unsettled + 1 }
+counted totals NotSettled is_found = record totals { unsettled = totals.unsettled + 1 }

@@ -9,7 +9,7 @@ ghost use Rattle.hz_edges.specs.Edges.{range_at};
 ghost use Rattle.hz_edges.specs.Room.{edges_of};
 ghost use Rattle.hz_explore.specs.Inside.{changes_in, most_changes};
 ghost use Rattle.hz_explore.specs.Progress.{counted, no_totals};
-ghost use Rattle.hz_explore.specs.Counts.{Open, classes_of, count_of_classes};
+ghost use Rattle.hz_explore.specs.Counts.{NotSettled, classes_of, count_of_classes};
 
 use hz_bounds::{EdgeClass, edge_class};
 use hz_edges::EdgeRoom;
@@ -136,7 +136,7 @@ impl Totals {
     // Counts a change that leaves a variable unsettled.
     pub(crate) fn count_unsettled(&mut self)
         requires { changes_in self.old < most_changes }
-        ensures { (is_found : Bool) → self.new ≡ counted self.old Open is_found }
+        ensures { (is_found : Bool) → self.new ≡ counted self.old NotSettled is_found }
     {
         self.unsettled += 1;
     }

@@ -33,6 +33,7 @@ use hz_free::Free;
 use hz_net::{Net, passes_end};
 use hz_options::Options;
 use hz_outside::{PutFault, Sink};
+use hz_reach::run_ends;
 use hz_refusal::{Status, status_after};
 use hz_report::write_head;
 use hz_script::Script;
@@ -140,6 +141,7 @@ fn write_states<K: Sink>(writer: &mut Writer<'_, K>, exploring: &Exploring, room
     findings_exist();
     edges_exist();
     passes_end();
+    run_ends();
     for number in 0..MOST_STATES {
         if writer.has_failed() {
             return;

@@ -1,6 +1,5 @@
 -- One input more.
-use Rattle.std.proofs.Common.{◌≡◌, ◌∙◌, sym, ap, ℕ, Bool, true, false, List, [], ◌∷◌, ◌++◌, append_assoc}
-use Rattle.hz_explore.specs.Bursts.{each_input}
+use Rattle.std.proofs.Common.{◌∙◌, sym, ap, ℕ, Bool, true, false, List, [], ◌∷◌, ◌++◌, append_assoc}
 use Rattle.hz_explore.proofs.BurstLemmas.{inputs-more}
 use Rattle.hz_explore.proofs.bursts.list_inputs.Goals as goal
 

@@ -1,5 +1,5 @@
 -- One burst: it does not apply, or it leaves a variable unsettled, or it settles.
-use Rattle.std.proofs.Common.{◌≡◌, ◌∙◌, refl, sym, ap, subst, ℕ, ◌<◌, Bool, true, false, List, [], ◌∷◌, length, arith}
+use Rattle.std.proofs.Common.{◌≡◌, ◌∙◌, refl, sym, ap, subst, Bool, true, false, List, [], ◌∷◌, length, arith}
 use Rattle.hz_net.proofs.Places.{length-network_of}
 use Rattle.hz_write.specs.Writer.{has_failed}
 use Rattle.hz_write.proofs.Writers.{writes_nothing, writes_same}
@@ -7,7 +7,7 @@ use Rattle.hz_explore.specs.declared.counting.Totals.{Totals}
 use Rattle.hz_explore.specs.declared.room.ExploreRoom.{ExploreRoom}
 use Rattle.hz_explore.specs.Bursts.{applies}
 use Rattle.hz_explore.specs.Transitions.{IsRightTransition, ends_of}
-use Rattle.hz_explore.specs.Counts.{Open}
+use Rattle.hz_explore.specs.Counts.{NotSettled}
 use Rattle.hz_explore.specs.Exploration.{found_by}
 use Rattle.hz_explore.specs.Progress.{Extends, counted}
 use Rattle.hz_explore.specs.Inside.{Makes, changes_in}
@@ -55,7 +55,7 @@ returns-in-Some-clause-gave g c =
       results = made-results netlist state burst there begins c.in-Some.ensures.made;
       outcome = c.in-Some.ensures.settled;
     } in
-    let totals : now.totals ≡ counted was.totals Open true = c.count_unsettled.ensures true ∙ ap (λ (t : Totals). counted t Open true) c.in-Some.ensures.totals in (
+    let totals : now.totals ≡ counted was.totals NotSettled true = c.count_unsettled.ensures true ∙ ap (λ (t : Totals). counted t NotSettled true) c.in-Some.ensures.totals in (
       unsettled_one state burst a b var ∷ [],
       unsettled-made netlist cap state burst a b was now (has_failed c.write_unsettled.new.writer) can var right c.in-Some.ensures.states totals,
       λ all ext. writes_same c.write_unsettled.ensures.gave (unsettled-line netlist state burst a b var c.args.made.now.number all),

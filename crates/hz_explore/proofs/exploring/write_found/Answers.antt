@@ -1,6 +1,5 @@
 -- The change settles: its edges are right, and the state in which it ends is added to those that were found.
-use Rattle.std.proofs.Common.{◌≡◌, refl, sym, subst, Bool, true, List, [], ◌∷◌}
-use Rattle.hz_core.specs.declared.tri.Tri.{Tri}
+use Rattle.std.proofs.Common.{refl, sym, subst, Bool, List, [], ◌∷◌}
 use Rattle.hz_cycle.specs.Cycles.{AreResultsOfBoth}
 use Rattle.hz_net.specs.Network.{network_of}
 use Rattle.hz_write.specs.Writer.{has_failed}

@@ -1,5 +1,5 @@
 -- All that the writer was given.
-use Rattle.std.proofs.Common.{◌≡◌, ◌∙◌, ◌++◌, List, ℕ, Bool, [], ◌∷◌, refl, sym, ap, subst, length, take, append_assoc, arith, rules}
+use Rattle.std.proofs.Common.{◌≡◌, ◌∙◌, ◌++◌, List, Bool, refl, sym, ap, subst, length, take, append_assoc, arith, rules}
 use Rattle.std.proofs.lemmas.List.{length-take-le}
 use Rattle.hz_net.specs.Starts.{IsStableStart}
 use Rattle.hz_net.specs.Variables.{expansion_of}

@@ -1,5 +1,5 @@
 -- A state's own line, and those of its transitions.
-use Rattle.std.proofs.Common.{◌≡◌, ◌∙◌, refl, sym, subst, ap, Bool, List}
+use Rattle.std.proofs.Common.{◌∙◌, refl, sym, subst, Bool, List}
 use Rattle.hz_write.proofs.Writers.{writes_then}
 use Rattle.hz_net.specs.Variables.{expansion_of}
 use Rattle.hz_net.specs.Starts.{IsStableStart}

@@ -1,6 +1,5 @@
 -- One state after the other.
-use Rattle.std.proofs.Common.{◌≡◌, ◌∙◌, refl, sym, ap, subst, ℕ, ◌+◌, ◌*◌, ◌<◌, ◌≤◌, Bool, true, false, List, [], ◌∷◌, ◌++◌, length, All, append-nil, length-append, arith}
-use Rattle.std.specs.List.{flat_map}
+use Rattle.std.proofs.Common.{◌≡◌, ◌∙◌, refl, sym, ap, subst, ℕ, ◌+◌, ◌<◌, ◌≤◌, Bool, true, false, List, [], ◌∷◌, ◌++◌, length, append-nil, length-append, arith}
 use Rattle.std.proofs.lemmas.Bool.{true≢false}
 use Rattle.std.proofs.lemmas.List.{length-map}
 use Rattle.std.proofs.lemmas.List.Concat.{flat_map-append}
@@ -12,11 +11,11 @@ use Rattle.hz_write.proofs.Writers.{writes_nothing, writes_then, writes_failed}
 use Rattle.hz_states.specs.States.{state_at}
 use Rattle.hz_explore.specs.declared.room.ExploreRoom.{ExploreRoom}
 use Rattle.hz_explore.specs.Reached.{nodes_of}
-use Rattle.hz_explore.specs.Transitions.{Transition, AreTransitions, ends_of}
-use Rattle.hz_explore.specs.Exploration.{Explored, IsExploration, all_nodes, all_transitions, found_by, state_of}
+use Rattle.hz_explore.specs.Transitions.{Transition, ends_of}
+use Rattle.hz_explore.specs.Exploration.{Explored, all_nodes, all_transitions, found_by}
 use Rattle.hz_explore.specs.ExploreText.{all_explored_text, explored_text}
-use Rattle.hz_explore.specs.Progress.{Extends, IsFound, IsSoFar}
-use Rattle.hz_explore.specs.Inside.{Counts, IsCounted, IsExploreRoom, Makes, bursts_in, changes_in}
+use Rattle.hz_explore.specs.Progress.{Extends, IsSoFar}
+use Rattle.hz_explore.specs.Inside.{Counts, IsCounted, bursts_in}
 use Rattle.hz_explore.proofs.FoundLemmas.{extends-by, extends-self}
 use Rattle.hz_explore.proofs.FrontLemmas.{front-at, nodes-expansion, none-behind, single-state}
 use Rattle.hz_explore.proofs.ProgressLemmas.{rest-exists, so-far-first, so-far-next}
@@ -143,7 +142,7 @@ returns-then-has_failed-clause-gave g c =
     let whole : List Explored = done ++ rest.more in
     let extends : Extends so_far.1 (all_nodes whole) = subst (Extends so_far.1) rest.whole rest.extends in (
       whole,
-      is-exploration netlist cap bursts start steps c.requires.stable whole rest.last rest.so_far rest.whole,
+      is-exploration c.run_ends.ensures netlist cap bursts start exploring.circuit steps c.requires.stable whole rest.last rest.so_far rest.whole,
       writes_then (so_far.4 (all_nodes whole) extends) (writes_failed (all_explored_text netlist (all_nodes whole) (1 + length done) rest.more) failed) (text-append netlist (all_nodes whole) 1 done rest.more),
       λ fine. absurd (true≢false (sym failed ∙ fine)),
     )
@@ -164,7 +163,7 @@ returns-then-number-len-clause-gave g c =
     let all : length found ≤ length done = omega (arith, so_far.3, ap (length {A = List Bool}) same) in
     let nodes = all-done netlist bursts start cap done found c.loop-number.room so_far.2 all in (
       done,
-      is-exploration netlist cap bursts start steps c.requires.stable done found so_far.2 nodes,
+      is-exploration c.run_ends.ensures netlist cap bursts start exploring.circuit steps c.requires.stable done found so_far.2 nodes,
       so_far.4 (all_nodes done) (subst (λ (states : List (List Bool)). Extends states (all_nodes done)) (sym nodes) (extends-self (all_nodes done))),
       λ fine2. counted-done netlist bursts start cap done found c.loop-number.room so_far.2 all (so_far.5 fine2) (so_far.6 fine2),
     )
@@ -183,7 +182,7 @@ returns-clause-gave g c =
     let all : length found ≤ length done = omega (arith, so_far.3, so_far.2.few) in
     let nodes = all-done netlist bursts start cap done found c.loop-number.room so_far.2 all in (
       done,
-      is-exploration netlist cap bursts start steps c.requires.stable done found so_far.2 nodes,
+      is-exploration c.run_ends.ensures netlist cap bursts start exploring.circuit steps c.requires.stable done found so_far.2 nodes,
       so_far.4 (all_nodes done) (subst (λ (states : List (List Bool)). Extends states (all_nodes done)) (sym nodes) (extends-self (all_nodes done))),
       λ fine2. counted-done netlist bursts start cap done found c.loop-number.room so_far.2 all (so_far.5 fine2) (so_far.6 fine2),
     )

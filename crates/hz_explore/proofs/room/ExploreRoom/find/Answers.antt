@@ -1,7 +1,6 @@
 -- There is a place for each node, and the classes are those of the edges that were found.
-use Rattle.std.proofs.Common.{◌≡◌, ◌∙◌, refl, sym, ap, Bool, List, length, arith}
+use Rattle.std.proofs.Common.{◌≡◌, ◌∙◌, refl, sym, ap, Bool, length, arith}
 use Rattle.std.proofs.lemmas.List.{length-take-le}
-use Rattle.hz_core.specs.declared.tri.Tri.{Tri}
 use Rattle.hz_core.specs.Netlist.{Netlist}
 use Rattle.hz_net.proofs.Places.{length-network_of}
 use Rattle.hz_explore.proofs.room.ExploreRoom.find.Goals as goal
