@@ -5,23 +5,15 @@ use Rattle.hz_bench.specs.declared.forms.Form.{Form}
 use Rattle.hz_bench.specs.declared.forms.Form.TheVariants as form
 use Rattle.hz_bench.specs.Entry.{statement_of_entry}
 use Rattle.hz_bench.specs.Form.{form_of, statement_with}
-use Rattle.hz_bench.specs.Statement.{defined_name, name_of}
+use Rattle.hz_bench.specs.Statement.{defined_name}
 
 -- a statement has the name and the form that it is made with
-name_of-statement_with : (name : List ℕ) (made : Form) (part : List ℕ) → name ≡ name_of (statement_with name made part)
-name_of-statement_with name form.Input part = refl
-name_of-statement_with name form.FlipFlop part = refl
-name_of-statement_with name (form.Gate kind) part = refl
-
 form_of-statement_with : (name : List ℕ) (made : Form) (part : List ℕ) → Some made ≡ form_of (statement_with name made part)
 form_of-statement_with name form.Input part = refl
 form_of-statement_with name form.FlipFlop part = refl
 form_of-statement_with name (form.Gate kind) part = refl
 
 -- so an entry has those of its statement
-pub entry-named : (entry : Entry) → entry.name.now ≡ name_of (statement_of_entry entry)
-entry-named entry = name_of-statement_with entry.name.now entry.form entry.sources.now
-
 pub entry-formed : (entry : Entry) → Some entry.form ≡ form_of (statement_of_entry entry)
 entry-formed entry = form_of-statement_with entry.name.now entry.form entry.sources.now
 

@@ -4,9 +4,8 @@ use Rattle.std.specs.Borrow.{Bor}
 use Rattle.hz_netlist.specs.Names.{AreNamesOf, Names, seen_names}
 use Rattle.std.specs.List.{IsDistinct}
 use Rattle.std.specs.Str.{bytes_eq}
-use Rattle.std.proofs.lemmas.List.{append-nil}
 use Rattle.hz_line.specs.Line.{lines_of, lines_of_rest, rest_length}
-use Rattle.hz_line.specs.Statement.{Nothing, Means, Numbered, with_meaning, meaning_by, meaning_of_tokens, numbered_from, malformed_before, first_malformed}
+use Rattle.hz_line.specs.Statement.{Means, Numbered, with_meaning, meaning_by, meaning_of_tokens, numbered_from, malformed_before, first_malformed}
 use Rattle.hz_line.specs.Token.{TokenOf, tokens_of}
 use Rattle.hz_line.proofs.TokenLemmas.{tokens_of-length}
 use Rattle.hz_bench.specs.declared.notes.Notes.{Notes}
@@ -15,7 +14,6 @@ use Rattle.hz_netlist.specs.declared.draft.Gate.{Gate as GateEntry}
 use Rattle.hz_bench.specs.Draft.{shape_of}
 use Rattle.hz_bench.specs.Names.{are_names, source_number, told}
 use Rattle.hz_bench.specs.ReaderState.{AreGathered, IsNothingRead, AddsStatement}
-use Rattle.hz_bench.specs.Pass.{IsParsed}
 use Rattle.hz_bench.specs.FaultIn.{redefinition_fault}
 use Rattle.hz_netlist.specs.Element.{element_variables, variable_total}
 use Rattle.hz_bench.specs.Netlist.{element_of, elements_of}
@@ -120,30 +118,8 @@ pub line_weight : (line : List ℕ) (statement : Statement) → bench_meaning li
 line_weight line statement h = meaning_weight (tokens_of line) statement (length line) (tokens_of-length line) h
 
 -- a line without tokens
-pub IsParsing-nothing : (text : List ℕ) (statements : Statements) (line : ℕ) (first : List ℕ) (left : Option (Bor (List ℕ))) (whole : Bor (List ℕ))
-    → IsParsing text statements line (Some whole) → lines_of whole.now ≡ first ∷ lines_of_rest left → length first + rest_length left ≤ length whole.now → bench_meaning first ≡ Nothing → IsParsing text statements (line + 1) left
-IsParsing-nothing text statements line first left whole was cut shorter meaning =
-    record {
-      done = was.done;
-      gathered = was.gathered;
-      whole = rw (add-one) (sym (ap (λ lines. was.done ++ numbered_from statement_of (suc line) lines) cut ∙ ap (λ means. was.done ++ with_meaning (suc line) means (numbered_from statement_of (suc (suc line)) (lines_of_rest left))) meaning) ∙ was.whole);
-      formed = rw (add-one) (sym (ap (first_malformed statement_of (suc line)) cut ∙ ap (λ means. malformed_before (suc line) means (first_malformed statement_of (suc (suc line)) (lines_of_rest left))) meaning) ∙ was.formed);
-      lines = let l = was.lines in omega arith;
-      variables = let v = was.variables in omega arith;
-    }
-
 numbered_read : (line : ℕ) (one : Numbered Statement) → one.line ≡ line + 1 → one ≡ record { line = suc line; statement = one.statement }
 numbered_read line one h = ap (λ place. record { line = place; statement = one.statement }) (h ∙ add-one line)
-
--- the whole text was read
-pub IsParsed-end : (text : List ℕ) (statements : Statements) (line : ℕ) → IsParsing text statements line None → IsParsed text statements
-IsParsed-end text statements line was =
-    let all : was.done ≡ bench_statements text = sym (append-nil was.done) ∙ was.whole in
-    record {
-      gathered = subst (λ done. AreGathered done statements) all was.gathered;
-      formed = sym was.formed;
-      fits = let v = was.variables in let e = ap (λ done. variable_total (elements_of (plain done))) all in omega arith;
-    }
 
 -- the statement of a line may be counted with those before it
 pub variables_fit : (text : List ℕ) (statements : Statements) (statement : Statement) (line : ℕ) (first : List ℕ) (left : Option (Bor (List ℕ))) (whole : Bor (List ℕ))

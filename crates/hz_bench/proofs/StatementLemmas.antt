@@ -11,7 +11,7 @@ use Rattle.hz_bench.specs.declared.statement.Head.{Head}
 use Rattle.hz_bench.specs.declared.statement.NameList.{NameList}
 use Rattle.hz_bench.specs.Head.{has_punctuated_first, head_tokens, names_by, name_list_with, no_name_list}
 use Rattle.hz_bench.specs.Form.{form_named, statement_with}
-use Rattle.hz_bench.specs.Statement.{Statement, Gate, statement_of, name_list_of, words_of, Port, port_word, port_of, kind_named, has_long_name, is_long, words_by, are_punctuated, are_punctuated_words, FlipFlop, name_of, sources_of, defined_by, is_flip_flop, words_in}
+use Rattle.hz_bench.specs.Statement.{Statement, Gate, statement_of, name_list_of, words_of, port_word, port_of, kind_named, has_long_name, is_long, words_by, are_punctuated, are_punctuated_words, FlipFlop, name_of, sources_of, defined_by, is_flip_flop, words_in}
 use Rattle.hz_bench.specs.Text.{bench_meaning}
 
 or_false : (a : Bool) → (a || false) ≡ a
@@ -52,10 +52,6 @@ pub record IsNameList (tokens : List TokenOf) : Type 0 where
   pub words : name_list_of tokens ≡ Some (words_of tokens)
   pub twice : length tokens ≡ 2 * length (words_of tokens)
 
-names_step : (name : List ℕ) (names : Option (List (List ℕ))) (words : List (List ℕ)) → is_some (option_map (λ (rest : List (List ℕ)). name ∷ rest) names) ≡ true → (is_some names ≡ true → names ≡ Some words) → option_map (λ (rest : List (List ℕ)). name ∷ rest) names ≡ Some (name ∷ words)
-names_step name None words h more = cc
-names_step name (Some names) words h more = ap (option_map (λ (rest : List (List ℕ)). name ∷ rest)) (more refl)
-
 more_names : (name : List ℕ) (names : Option (List (List ℕ))) → is_some (option_map (λ (rest : List (List ℕ)). name ∷ rest) names) ≡ true → is_some names ≡ true
 more_names name None h = cc
 more_names name (Some names) h = refl
@@ -76,16 +72,6 @@ IsNameList-from_some (WordOf name ∷ PunctuationOf Comma ∷ rest) h =
 -- the tokens of a head before these
 abbrev pub headed : List ℕ → Punctuation → List ℕ → Punctuation → Option (List TokenOf) → Option (List TokenOf)
 headed first punctuation second next tokens = with_token (WordOf first) (with_token (PunctuationOf punctuation) (with_token (WordOf second) (with_token (PunctuationOf next) tokens)))
-
--- an input or output
-pub port_meant : (text : List ℕ) (head : Head) (made : Port) → tokens_of text ≡ head_tokens head → head.punctuation ≡ Open → head.next ≡ Close → has_no_token (tokens_of head.rest.now) ≡ true → port_word head.first.now ≡ Some made → bench_meaning text ≡ Means (port_of head.second.now made)
-port_meant text head made tokens opened closed bare port =
-    ap (meaning_of_tokens statement_of) tokens ∙ rw (opened, closed) (meant (tokens_of head.rest.now) bare)
-  where
-    meant : (rest : Option (List TokenOf)) → has_no_token rest ≡ true → meaning_of_tokens statement_of (headed head.first.now Open head.second.now Close rest) ≡ Means (port_of head.second.now made)
-    meant None h = cc
-    meant (Some []) h = rw port refl
-    meant (Some (token ∷ rest)) h = cc
 
 -- the tokens are a list of these names, of which this was noted
 pub record IsListed (tokens : Option (List TokenOf)) (noted : NameList) : Type 0 where

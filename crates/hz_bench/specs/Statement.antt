@@ -78,13 +78,6 @@ name_of (Output name) = name
 name_of (FlipFlop name sources) = name
 name_of (Gate name kind sources) = name
 
--- the statement defines its name: it is an input, a flip-flop or a gate
-abbrev pub defines_node : Statement → Bool
-defines_node (Input name) = true
-defines_node (Output name) = false
-defines_node (FlipFlop name sources) = true
-defines_node (Gate name kind sources) = true
-
 -- the names that a flip-flop or a gate's pins read
 abbrev pub sources_of : Statement → List (List ℕ)
 sources_of (Input name) = []
