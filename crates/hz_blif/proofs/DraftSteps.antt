@@ -75,10 +75,6 @@ holds-seen read old name names is held =
     (subst (λ names. IsDistinct bytes_eq (seen_names names)) (sym is) (sight-distinct old.names name held.distinct))
     (subst (AreNamesOf read.definitions held.used) (sym is) (sight-named read.definitions held.used old.names name held.named)) held.again held (λ same. same)
 
--- the names as they are
-pub holds-same : (read : Read) (old : Draft) (names : Names) → names ≡ old.names → Holds read old → Holds read (record old { names = names })
-holds-same read old names same held = subst (λ names. Holds read (record old { names = names })) (sym same) held
-
 -- one definition more
 twice-push : (before items : List (Numbered (List ℕ))) (next : Numbered (List ℕ))
     → twice_after before (items ++ next ∷ []) ≡ option_or (twice_after before items) (twice_or next.line (first_passing_line (bytes_eq next.statement) (before ++ items)) None)
@@ -177,28 +173,3 @@ holds-output read old new number same is few held =
     subst (Holds (record read { outputs = read.outputs ++ name_at old.names number ∷ [] })) (sym same)
     (holds-ports read old (record old { outputs = new.outputs }) read.inputs (read.outputs ++ name_at old.names number ∷ []) held.inputs held.input_numbers
     (names-push old.names old.outputs.items new.outputs.items number read.outputs is held.outputs) (numbers-push old.names old.outputs.items new.outputs.items number is few held.output_numbers) held)
-
--- inputs and outputs one after the other
-pub inputs-twice : (line : ℕ) (names more : List (List ℕ)) (read : Read) → with_inputs line more (with_inputs line names read) ≡ with_inputs line (names ++ more) read
-inputs-twice line names more read =
-    let ins = append_assoc read.inputs names more in
-    let defs = append_assoc read.definitions (on_line line names) (on_line line more)
-    ∙ ap (λ all. read.definitions ++ all) (sym (map-append (λ (name : List ℕ). record { line = line; statement = name }) names more)) in
-    ap (λ all. record read { inputs = all; definitions = (read.definitions ++ on_line line names) ++ on_line line more }) ins
-    ∙ ap (λ all. record read { inputs = read.inputs ++ (names ++ more); definitions = all }) defs
-
-pub outputs-twice : (line : ℕ) (names more : List (List ℕ)) (read : Read) → with_outputs line more (with_outputs line names read) ≡ with_outputs line (names ++ more) read
-outputs-twice line names more read =
-    let outs = append_assoc read.outputs names more in
-    let uses = append_assoc read.used (on_line line names) (on_line line more)
-    ∙ ap (λ all. read.used ++ all) (sym (map-append (λ (name : List ℕ). record { line = line; statement = name }) names more)) in
-    ap (λ all. record read { outputs = all; used = (read.used ++ on_line line names) ++ on_line line more }) outs
-    ∙ ap (λ all. record read { outputs = read.outputs ++ (names ++ more); used = all }) uses
-
-pub inputs-none : (line : ℕ) (read : Read) → with_inputs line [] read ≡ read
-inputs-none line read =
-    ap (λ all. record read { inputs = all; definitions = read.definitions ++ [] }) (append-nil read.inputs) ∙ ap (λ all. record read { definitions = all }) (append-nil read.definitions)
-
-pub outputs-none : (line : ℕ) (read : Read) → with_outputs line [] read ≡ read
-outputs-none line read =
-    ap (λ all. record read { outputs = all; used = read.used ++ [] }) (append-nil read.outputs) ∙ ap (λ all. record read { used = all }) (append-nil read.used)

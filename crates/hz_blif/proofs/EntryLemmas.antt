@@ -172,13 +172,6 @@ reads-append cover gates sources more names others one two = record {
       ∙ ap (λ (read : List (List ℕ)). names name ++ read) (two.reads name));
 }
 
-pub reads-none : (cover : Cover) (gates : List GateEntry) → ReadAs cover gates [] (λ name. [])
-reads-none cover gates = record {
-  below = All-nil (ReadsGateBelow (length gates));
-  named = λ count below. All-nil (ReadsNameBelow count);
-  reads = λ name. refl;
-}
-
 pub reads-as : (cover : Cover) (gates : List GateEntry) (sources : List Source) (names others : (ℕ → List ℕ) → List (List ℕ)) → ReadAs cover gates sources names
     → ((name : ℕ → List ℕ) → names name ≡ others name) → ReadAs cover gates sources others
 reads-as cover gates sources names others reads same = record {

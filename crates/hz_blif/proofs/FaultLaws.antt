@@ -175,15 +175,3 @@ twice-found before (next ∷ rest) =
         earliest = λ earlier other_line other s. absurd (nothing-stands earlier other_line other s);
       },
     )
-
--- no name of a text without a fault was defined before
-pub twice-none : (text : List ℕ) → IsFaultless text → (before : List (Numbered (List ℕ))) (line : ℕ) (name : List ℕ) → Stands (definitions_of (lines_in text)) before line name
-    → first_passing_line (bytes_eq name) before ≡ None
-twice-none text faultless = by_found (twice_after [] (definitions_of (lines_in text))) (twice-found [] (definitions_of (lines_in text)))
-  where
-    by_found : (found : Option BlifFault) → IsTwiceFound [] (definitions_of (lines_in text)) found → (before : List (Numbered (List ℕ))) (line : ℕ) (name : List ℕ)
-        → Stands (definitions_of (lines_in text)) before line name → first_passing_line (bytes_eq name) before ≡ None
-    by_found None none before line name s = none before line name s
-    by_found (Some one) is before line name s =
-        let it = is.3 in
-        absurd (faultless (fault.Twice is.0 is.1) (record { before = it.middle; name = it.name; stands = it.stands; first_is = it.first_is; earliest = λ earlier other o. it.earliest earlier is.0 other o }))

@@ -71,10 +71,6 @@ with-more line bytes later h =
     ap (λ more. cond more (joined_to line (with_space_last bytes) later) (record { line = line; statement = bytes } ∷ later)) h
     ∙ ap (λ bytes. joined_to line bytes later) (space_last bytes h)
 
-with-end : (line : ℕ) (bytes : List ℕ) (later : List (Numbered (List ℕ))) → goes_on bytes ≡ false → with_line line bytes later ≡ record { line = line; statement = bytes } ∷ later
-with-end line bytes later h =
-    ap (λ more. cond more (joined_to line (with_space_last bytes) later) (record { line = line; statement = bytes } ∷ later)) h
-
 -- one line more, which goes on
 pub joining-more : (text : List ℕ) (tokens : List (List ℕ)) (lines : ℕ) (forbidden : Bool) (left : Bor (List ℕ)) (line : List ℕ) (rest : Option (Bor (List ℕ))) (front : List ℕ)
     → IsJoining text tokens lines forbidden (Some left) → lines_of left.now ≡ line ∷ lines_of_rest rest → goes_on (without_comment line) ≡ true → front ≡ all_but_last (without_comment line)
@@ -108,23 +104,6 @@ pub record IsJoined (text : List ℕ) (tokens : List (List ℕ)) (lines : ℕ) (
   pub first : (line : ℕ) → joined_from line (lines_of text) ≡ record { line = line; statement = bytes } ∷ joined_from (line + lines) (lines_of_rest rest)
   pub tokens_are : tokens_of bytes ≡ tokens
   pub seen : forbidden ≡ list_any is_forbidden bytes
-
--- one line more, which goes on no further
-pub joined-last : (text : List ℕ) (tokens : List (List ℕ)) (lines : ℕ) (forbidden : Bool) (left : Bor (List ℕ)) (line : List ℕ) (rest : Option (Bor (List ℕ)))
-    → IsJoining text tokens lines forbidden (Some left) → lines_of left.now ≡ line ∷ lines_of_rest rest → goes_on (without_comment line) ≡ false
-    → IsJoined text (tokens ++ tokens_of (without_comment line)) (suc lines) (forbidden || list_any is_forbidden (without_comment line)) rest
-joined-last text tokens lines forbidden left line rest was cut ends =
-    let bytes = without_comment line in
-    record {
-      bytes = was.bytes ++ bytes;
-      first = λ number.
-          was.joined number
-          ∙ ap (λ all. joined_to number was.bytes (joined_from (number + lines) all)) cut
-          ∙ ap (joined_to number was.bytes) (with-end (number + lines) bytes (joined_from (suc (number + lines)) (lines_of_rest rest)) ends)
-          ∙ ap (λ (next : ℕ). record { line = number; statement = was.bytes ++ bytes } ∷ joined_from next (lines_of_rest rest)) (omega arith);
-      tokens_are = was.spaced bytes;
-      seen = ap (λ b. b || list_any is_forbidden bytes) was.seen ∙ sym (list_any-append is_forbidden was.bytes bytes);
-    }
 
 -- the text ends where its last line would go on
 pub joined-end : (text : List ℕ) (tokens : List (List ℕ)) (lines : ℕ) (forbidden : Bool) → IsJoining text tokens lines forbidden None → IsJoined text tokens lines forbidden None

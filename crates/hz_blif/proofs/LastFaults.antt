@@ -67,12 +67,6 @@ uses-climb (first ∷ rest) low h = by_line first.statement (uses-climb rest (su
 abbrev uses_by_kind : List (Numbered Line) → List (Numbered (List ℕ))
 uses_by_kind lines = flat_map (λ cover. on_line cover.line cover.pins) (varying (covers_of lines)) ++ outputs_of lines
 
-in-left : {A : Type 0} (a b c : List A) (x : A) → Contains (a ++ b) x → Contains (a ++ (c ++ b)) x
-in-left a b c x h = elim (Contains-append_cases a b x h) [
-  | inl left ↦ Contains-append_left a (c ++ b) x left
-  | inr right ↦ Contains-append_right a (c ++ b) x (Contains-append_right c b x right)
-]
-
 swap-in : {A : Type 0} (a b c : List A) (x : A) → Contains (a ++ (b ++ c)) x → Contains (b ++ (a ++ c)) x
 swap-in a b c x h = elim (Contains-append_cases a (b ++ c) x h) [
   | inl left ↦ Contains-append_right b (a ++ c) x (Contains-append_left a c x left)

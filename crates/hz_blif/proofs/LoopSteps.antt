@@ -226,14 +226,3 @@ reading-fault text draft course number left tokens joined line wrong was is line
     by_other (fault.Undefined line) stands split lines up meant_up = inl (omega arith)
     by_other (fault.TooMany variables) stands split lines up meant_up = inl (omega arith)
     by_other fault.Memory stands split lines up meant_up = absurd stands
-
--- all lines were read
-pub reading-end : (text : List ℕ) (draft new : Draft) (course : Course) (number : ℕ) → IsReading text draft course number None → ((read : Read) → Holds read draft → Holds (closed read) new) → IsDraftOf text new
-reading-end text draft new course number is closes =
-    let all : joined_lines text ≡ is.seen = is.split ∙ append-nil is.seen in
-    let lines : lines_in text ≡ map meant is.seen = ap (map meant) all in
-    record {
-      formed = ap (λ seen. option_min (first_passing_line (list_any is_forbidden) seen) (wrong_form_after [] (lines_in text))) all
-          ∙ (ap (λ found. option_min found (wrong_form_after [] (lines_in text))) is.right ∙ (ap (wrong_form_after []) lines ∙ is.formed));
-      holds = subst (λ lines. Holds (closed (read_of lines)) new) (sym lines) (closes (read_of (map meant is.seen)) is.holds);
-    }

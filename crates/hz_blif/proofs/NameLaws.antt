@@ -37,9 +37,6 @@ plain-no_mark [] (byte ∷ other) rest plain h = cc
 plain-no_mark (byte ∷ one) [] rest plain h = plain.0 (first-same byte 92 one rest h).0
 plain-no_mark (byte ∷ one) (next ∷ other) rest plain h = plain-no_mark one other rest plain.1 (first-same byte next one (other ++ 92 ∷ rest) h).1
 
-split-name : (output rest number : List ℕ) → (output ++ rest) ++ number ≡ output ++ (rest ++ number)
-split-name output rest number = append_assoc output rest number
-
 -- inverters of covers with other outputs or of other pins have other names
 pub inverters-apart : (one other : List ℕ) (place place' : ℕ) → IsPlain one → IsPlain other → place < 2 ^ 64 → place' < 2 ^ 64
     → inverter_name one place ≡ inverter_name other place' → (one ≡ other) × (place ≡ place')

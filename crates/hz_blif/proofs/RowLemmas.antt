@@ -36,20 +36,6 @@ last_token_last [] token = refl
 last_token_last (one ∷ []) token = refl
 last_token_last (one ∷ two ∷ rest) token = last_token_last (two ∷ rest) token
 
--- the column of the first row, with one row more
-pub first_column_first : (row : Numbered (List (List ℕ))) (rows : List (Numbered (List (List ℕ)))) → 0 ≡ length rows → first_column (rows ++ row ∷ []) ≡ last_token row.statement
-first_column_first row [] none = refl
-first_column_first row (first ∷ rest) none = absurd (omega (arith, none))
-
-pub first_column_later : (row : Numbered (List (List ℕ))) (rows : List (Numbered (List (List ℕ)))) → 0 < length rows → first_column (rows ++ row ∷ []) ≡ first_column rows
-first_column_later row [] some = absurd (omega (arith, some))
-first_column_later row (first ∷ rest) some = refl
-
--- the planes of rows, with one row more
-pub planes_in_more : (row : Numbered (List (List ℕ))) (rows : List (Numbered (List (List ℕ)))) → planes_in (rows ++ row ∷ []) ≡ planes_in rows ++ plane_of row.statement ∷ []
-planes_in_more row [] = refl
-planes_in_more row (first ∷ rest) = ap (λ planes. plane_of first.statement ∷ planes) (planes_in_more row rest)
-
 -- what is kept of planes, with one plane more
 bare-more : (bare literal : Bool) (planes : List (List ℕ)) (plane : List ℕ) → bare ≡ not (list_all has_literal planes) → literal ≡ has_literal plane
     → (bare || not literal) ≡ not (list_all has_literal (planes ++ plane ∷ []))
