@@ -72,7 +72,7 @@ AreTold netlist transition (Settled next edges) =
     All (λ class. is_told_class class ≡ true) (node_classes netlist transition edges)
 AreTold netlist transition (Unsettled var) = Unit {0}
 
--- what a transition counts as: it is clean if each node is steady or single, unsettled if a variable is, and else it has a hazard
+-- what a transition counts as: it is clean if each node is steady or single, not settled if a variable is unsettled, and else it has a hazard
 pub data Count : Type 0 where
   Clean : Count
   Hazard : Count

@@ -6,7 +6,7 @@
 -- IsReached netlist bursts start state: bursts lead there, one after the other
 -- Transition, Outcome: what one burst comes to
 -- AreTransitions netlist cap bursts state transitions: one for each burst that applies
--- count_of netlist transition: it is clean, has a hazard, or is open: a variable is unsettled
+-- count_of netlist transition: it is clean, has a hazard, or does not settle
 -- Explored: a state and its transitions
 -- IsExploration netlist cap bursts start explored: all states that bursts lead to, as far as there is room, with their transitions
 -- exploration_text netlist explored: its lines
