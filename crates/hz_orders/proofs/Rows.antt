@@ -1,0 +1,217 @@
+-- The table, place by place: the most from a place on follows from what is told of the later ones.
+use Rattle.std.proofs.Common.{◌≡◌, ◌≢◌, ◌⊎◌, ℕ, zero, suc, ◌+◌, ◌-◌, ◌*◌, ◌<◌, ◌≤◌, Bool, true, false, List, [], ◌∷◌, ◌++◌, length, map, take, drop, set, get_or, refl, sym, ap, ◌∙◌, subst, arith, inl, inr}
+use Rattle.std.proofs.lemmas.Bool.{cases_lt, eq-eqb, false≢true}
+use Rattle.std.specs.Prelude.{◌==◌, slice_range, max}
+use Rattle.std.proofs.lemmas.List.{length-set, get_or-set_same, get_or-set_other}
+use Rattle.std.proofs.Math.Seq.{take-length}
+use Rattle.std.proofs.Math.Nat.{suc-mul, mul-suc}
+use Rattle.hz_word.specs.declared.count.Count.{Count}
+use Rattle.hz_word.specs.declared.count.Count.TheVariants.{Exact, Many}
+use Rattle.hz_word.specs.declared.word.Word.{Word}
+use Rattle.hz_word.specs.Walk.{change_between}
+use Rattle.hz_word.specs.Pairs.{last_after, constant_word}
+use Rattle.hz_orders.specs.Positions.{IsExact, AreExact, number_of, IsPosition, behind_numbers, positions_of, most_places, HaveTable, begin, letters_at, value_of, IsOnward, KeepsAt, IsKeptMove, IsWay, way_changes, IsMostFrom}
+use Rattle.hz_orders.specs.Tables.{IsRow, AreMostBehind, changes_through, LeadsTo, IsBest}
+use Rattle.hz_orders.specs.declared.table.OrderedGate.{OrderedGate}
+use Rattle.hz_orders.proofs.Sorted.{Stands, every-stands, each-inside, length-position, stands-later, stands-once, length-behind_numbers, some-positions, begins-first}
+
+-- the letters of the pins at a position
+pub are-letters_at : (pins : List Word) (position : List ℕ) (letters : List Bool) → length position ≡ length pins → length letters ≡ length pins → ((i : ℕ) → i < length pins → get_or letters i false ≡ last_after (get_or pins i (constant_word false)).first (get_or position i 0)) → letters ≡ letters_at pins position
+are-letters_at [] position [] long long' each = refl
+are-letters_at [] position (letter ∷ letters) long long' each = absurd (omega (arith, long'))
+are-letters_at (pin ∷ pins) [] letters long long' each = absurd (omega (arith, long))
+are-letters_at (pin ∷ pins) (times ∷ position) [] long long' each = absurd (omega (arith, long'))
+are-letters_at (pin ∷ pins) (times ∷ position) (letter ∷ letters) long long' each =
+    let head = each 0 (omega arith) in
+    let rest = are-letters_at pins position letters (omega (arith, long)) (omega (arith, long')) (λ i few. each (suc i) (omega (arith, few))) in
+    cc
+
+-- one place
+module _ (gate : OrderedGate) (most : List ℕ) (place best : ℕ) (table : HaveTable gate.pins.now) (few : place < length (positions_of gate.pins.now)) (rows : AreMostBehind gate (positions_of gate.pins.now) most (suc place)) (is : IsBest gate (positions_of gate.pins.now) most place (length (positions_of gate.pins.now)) best) where
+  abbrev positions : List (List ℕ)
+  positions = positions_of gate.pins.now
+
+  abbrev changes : List ℕ → List (List ℕ) → ℕ
+  changes position way = way_changes gate.kind gate.pins.now position way
+
+  -- the way goes on at a later place
+  leads : (next : List ℕ) → IsKeptMove gate.orders.now gate.wire gate.pins.now (get_or (positions_of gate.pins.now) place []) next → (later : ℕ) × (later < length (positions_of gate.pins.now)) × LeadsTo gate (positions_of gate.pins.now) place later × (get_or (positions_of gate.pins.now) later [] ≡ next)
+  leads next move =
+      let stands : Stands (positions_of gate.pins.now) next = every-stands gate.pins.now table.exact next move.inside in
+      let onward : IsOnward (get_or (positions_of gate.pins.now) place []) (get_or (positions_of gate.pins.now) stands.0 []) =
+      subst (λ (p : List ℕ). IsOnward (get_or (positions_of gate.pins.now) place []) p) (sym stands.2) move.onward in
+      let moved : get_or (positions_of gate.pins.now) stands.0 [] ≢ get_or (positions_of gate.pins.now) place [] = λ same. move.moved (sym stands.2 ∙ same) in (
+        stands.0,
+        stands.1,
+        record {
+          after = stands-later gate.pins.now place stands.0 few stands.1 onward moved;
+          onward = onward;
+          kept = subst (KeepsAt gate.orders.now gate.wire) (sym stands.2) move.kept;
+        },
+        stands.2,
+      )
+
+  bounds : (way : List (List ℕ)) → IsWay gate.orders.now gate.wire gate.pins.now (get_or (positions_of gate.pins.now) place []) way → way_changes gate.kind gate.pins.now (get_or (positions_of gate.pins.now) place []) way ≤ best
+  bounds [] is_way = omega arith
+  bounds (next ∷ way) is_way =
+      let there = leads next is_way.0 in
+      let row = rows.each there.0 (let after = there.2.after in omega arith) there.1 in
+      let rest = row.is_most.bound way (subst (λ (p : List ℕ). IsWay gate.orders.now gate.wire gate.pins.now p way) (sym there.3) is_way.1) in
+      let rest' : way_changes gate.kind gate.pins.now next way ≤ get_or most there.0 0 = subst (λ (p : List ℕ). way_changes gate.kind gate.pins.now p way ≤ get_or most there.0 0) there.3 rest in
+      let through = is.bound there.0 there.1 there.2 in
+      let through' : get_or most there.0 0 + change_between (value_of gate.kind gate.pins.now (get_or (positions_of gate.pins.now) place [])) (value_of gate.kind gate.pins.now next) ≤ best =
+      subst (λ (p : List ℕ). get_or most there.0 0 + change_between (value_of gate.kind gate.pins.now (get_or (positions_of gate.pins.now) place [])) (value_of gate.kind gate.pins.now p) ≤ best) there.3 through in
+      omega (arith, rest', through')
+
+  goes : (later : ℕ) → later < length (positions_of gate.pins.now) → LeadsTo gate (positions_of gate.pins.now) place later → changes_through gate (positions_of gate.pins.now) most place later ≡ best → (way : List (List ℕ)) × IsWay gate.orders.now gate.wire gate.pins.now (get_or (positions_of gate.pins.now) place []) way × (way_changes gate.kind gate.pins.now (get_or (positions_of gate.pins.now) place []) way ≡ best)
+  goes later less lead same =
+      let row = rows.each later (let after = lead.after in omega arith) less in
+      let rest = row.is_most.attained in
+      let counted = rest.2 in
+      let move : IsKeptMove gate.orders.now gate.wire gate.pins.now (get_or (positions_of gate.pins.now) place []) (get_or (positions_of gate.pins.now) later []) =
+      record {
+        onward = lead.onward;
+        moved = stands-once gate.pins.now place later lead.after less;
+        inside = each-inside gate.pins.now table.exact later less;
+        kept = lead.kept;
+      } in
+      (get_or (positions_of gate.pins.now) later [] ∷ rest.0, (move, rest.1), omega (arith, counted, same))
+
+  pub most-best : IsMostFrom gate.orders.now gate.kind gate.wire gate.pins.now (get_or (positions_of gate.pins.now) place []) best
+  most-best =
+      record {
+        bound = bounds;
+        attained = elim is.attained [
+          | inl none ↦ ([], tt, sym none)
+          | inr some ↦ goes some.0 some.1 some.2 some.3
+        ];
+      }
+
+-- the best of no places, and of one more
+pub best-none : (gate : OrderedGate) (positions : List (List ℕ)) (most : List ℕ) (place : ℕ) → place < length positions → IsBest gate positions most place (place + 1) 0
+best-none gate positions most place few =
+    record {
+      bound = λ later less lead. absurd (omega (arith, less, lead.after));
+      attained = inl refl;
+      less = omega (arith, few);
+    }
+
+pub best-more : (gate : OrderedGate) (positions : List (List ℕ)) (most : List ℕ) (place later best more : ℕ) → later < length positions → IsBest gate positions most place later best → (LeadsTo gate positions place later → changes_through gate positions most place later ≤ more) → ((more ≡ 0) ⊎ (LeadsTo gate positions place later × (changes_through gate positions most place later ≡ more))) → more + place < length positions → IsBest gate positions most place (later + 1) (max best more)
+best-more gate positions most place later best more few is bound attained less =
+    record {
+      bound = λ k k_less lead.
+          elim (cases_lt k later) [
+            | inl before ↦ let below = is.bound k before lead in omega (arith, below)
+            | inr not_before ↦
+                let here : k ≡ later = omega (arith, k_less, not_before) in
+                let below = bound (subst (LeadsTo gate positions place) here lead) in
+                subst (λ (i : ℕ). changes_through gate positions most place i ≤ max best more) (sym here) (omega (arith, below))
+          ];
+      attained = elim (cases_lt best more) [
+        | inl greater ↦
+            let is_more : max best more ≡ more = omega (arith, greater) in
+            elim attained [
+              | inl none ↦ absurd (omega (arith, greater, none))
+              | inr some ↦ inr (later, omega arith, some.0, some.1 ∙ sym is_more)
+            ]
+        | inr not_greater ↦
+            let is_best : max best more ≡ best = omega (arith, not_greater) in
+            elim is.attained [
+              | inl none ↦ inl (is_best ∙ none)
+              | inr some ↦ inr (some.0, (let before = some.1 in omega arith), some.2, some.3 ∙ sym is_best)
+            ]
+      ];
+      less = let below = is.less in omega (arith, below, less);
+    }
+
+-- the table is told at one place more
+pub rows-more : (gate : OrderedGate) (positions : List (List ℕ)) (most : List ℕ) (place best : ℕ) → place < length positions → AreMostBehind gate positions most (suc place) → IsMostFrom gate.orders.now gate.kind gate.wire gate.pins.now (get_or positions place []) best → best + place < length positions → AreMostBehind gate positions (set most place best) place
+rows-more gate positions most place best few rows is less =
+    record {
+      long = length-set most place best ∙ rows.long;
+      each = λ k from inside.
+          elim (cases_lt place k) [
+            | inl after ↦
+                let row = rows.each k (omega (arith, after)) inside in
+                let same : get_or (set most place best) k 0 ≡ get_or most k 0 = get_or-set_other most place k best 0 (λ e. omega (arith, after, e)) in
+                record {
+                  is_most = subst (λ (n : ℕ). IsMostFrom gate.orders.now gate.kind gate.wire gate.pins.now (get_or positions k []) n) (sym same) row.is_most;
+                  less = let there = row.less in omega (arith, same, there);
+                }
+            | inr not_after ↦
+                let here : place ≡ k = omega (arith, from, not_after) in
+                let long = rows.long in
+                let same : get_or (set most place best) place 0 ≡ best = get_or-set_same most place best 0 (omega (arith, few, long)) in
+                subst (IsRow gate positions (set most place best)) here
+                (record {
+                  is_most = subst (λ (n : ℕ). IsMostFrom gate.orders.now gate.kind gate.wire gate.pins.now (get_or positions place []) n) (sym same) is;
+                  less = omega (arith, same, less);
+                })
+          ];
+    }
+
+-- the positions of one pin more
+rest-is : (pin : Word) (pins : List Word) → slice_range (pin ∷ pins) 1 (length (pin ∷ pins)) ≡ pins
+rest-is pin pins = ap (λ (n : ℕ). take n pins) (omega arith) ∙ take-length pins
+
+pub some-pins : (n : ℕ) → false ≡ (n == 0) → 1 ≤ n
+some-pins n some =
+    elim (cases_lt 0 n) [
+      | inl less ↦ less
+      | inr not_less ↦ let none : n ≡ 0 = omega (arith, not_less) in absurd (false≢true (some ∙ eq-eqb n 0 none))
+    ]
+
+pub positions-cons : (pins : List Word) → 1 ≤ length pins → positions_of pins ≡ behind_numbers (suc (number_of (get_or pins 0 (constant_word false)).changes)) (positions_of (slice_range pins 1 (length pins)))
+positions-cons [] some = absurd (omega arith)
+positions-cons (pin ∷ pins) some = ap (λ (ps : List Word). behind_numbers (suc (number_of pin.changes)) (positions_of ps)) (sym (rest-is pin pins))
+
+pub positions-none : (pins : List Word) → length pins ≡ 0 → positions_of pins ≡ [] ∷ []
+positions-none [] none = refl
+positions-none (pin ∷ pins) none = absurd (omega (arith, none))
+
+pub table-none : (pins : List Word) → length pins ≡ 0 → HaveTable pins
+table-none [] none = record { exact = tt; few = omega arith }
+table-none (pin ∷ pins) none = absurd (omega (arith, none))
+
+-- a product is not less than its factors
+factor-less : (n m : ℕ) → m ≤ suc n * m
+factor-less n m = let product = suc-mul n m in omega arith
+
+other-factor : (n m : ℕ) → 1 ≤ m → n ≤ n * m
+other-factor n zero some = absurd (omega (arith, some))
+other-factor n (suc m) some = let product = mul-suc n m in omega arith
+
+pub length-cons : (pins : List Word) → 1 ≤ length pins → length (positions_of pins) ≡ suc (number_of (get_or pins 0 (constant_word false)).changes) * length (positions_of (slice_range pins 1 (length pins)))
+length-cons pins some =
+    ap length (positions-cons pins some)
+    ∙ length-behind_numbers (suc (number_of (get_or pins 0 (constant_word false)).changes)) (positions_of (slice_range pins 1 (length pins)))
+
+pub table-cons : (pins : List Word) → 1 ≤ length pins → IsExact (get_or pins 0 (constant_word false)).changes → HaveTable (slice_range pins 1 (length pins)) → suc (number_of (get_or pins 0 (constant_word false)).changes) * length (positions_of (slice_range pins 1 (length pins))) ≤ most_places → HaveTable pins
+table-cons [] some exact rest few = absurd (omega arith)
+table-cons (pin ∷ pins) some exact rest few =
+    record {
+      exact = (exact, subst AreExact (rest-is pin pins) rest.exact);
+      few = let long = length-cons (pin ∷ pins) some in omega (arith, few, long);
+    }
+
+pub table-first : (pins : List Word) → 1 ≤ length pins → HaveTable pins → IsExact (get_or pins 0 (constant_word false)).changes × (number_of (get_or pins 0 (constant_word false)).changes < most_places)
+table-first [] some table = absurd (omega arith)
+table-first (pin ∷ pins) some table = (
+  table.exact.0,
+  let few = table.few in
+      let long = length-behind_numbers (suc (number_of pin.changes)) (positions_of pins) in
+      let product = other-factor (suc (number_of pin.changes)) (length (positions_of pins)) (some-positions pins) in
+      omega arith,
+)
+
+pub table-rest : (pins : List Word) → 1 ≤ length pins → HaveTable pins → HaveTable (slice_range pins 1 (length pins))
+table-rest [] some table = absurd (omega arith)
+table-rest (pin ∷ pins) some table =
+    subst HaveTable (sym (rest-is pin pins))
+    (record {
+      exact = table.exact.1;
+      few = let few = table.few in
+          let long = length-behind_numbers (suc (number_of pin.changes)) (positions_of pins) in
+          let product = factor-less (number_of pin.changes) (length (positions_of pins)) in
+          omega arith;
+    })
