@@ -1,9 +1,9 @@
 -- The table, place by place: the most from a place on follows from what is told of the later ones.
-use Rattle.std.proofs.Common.{◌≡◌, ◌≢◌, ◌⊎◌, ℕ, zero, suc, ◌+◌, ◌-◌, ◌*◌, ◌<◌, ◌≤◌, Bool, true, false, List, [], ◌∷◌, ◌++◌, length, map, take, drop, set, get_or, refl, sym, ap, ◌∙◌, subst, arith, inl, inr}
+use Rattle.std.proofs.Common.{◌≡◌, ◌≢◌, ◌⊎◌, ℕ, zero, suc, ◌+◌, ◌-◌, ◌*◌, ◌<◌, ◌≤◌, Bool, true, false, List, [], ◌∷◌, ◌++◌, length, map, max, take, drop, set, get_or, refl, sym, ap, ◌∙◌, subst, arith, inl, inr}
 use Rattle.std.proofs.lemmas.Bool.{cases_lt, eq-eqb, false≢true}
-use Rattle.std.specs.Prelude.{◌==◌, slice_range, max}
-use Rattle.std.proofs.lemmas.List.{length-set, get_or-set_same, get_or-set_other}
-use Rattle.std.proofs.Math.Seq.{take-length}
+use Rattle.std.specs.Prelude.{◌==◌, slice_range}
+use Rattle.std.proofs.lemmas.List.{append_assoc, map-append, take_all, length-set, get_or-set_same, get_or-set_other}
+use Rattle.std.proofs.Math.Seq.{take-length, take-suc}
 use Rattle.std.proofs.Math.Nat.{suc-mul, mul-suc}
 use Rattle.hz_word.specs.declared.count.Count.{Count}
 use Rattle.hz_word.specs.declared.count.Count.TheVariants.{Exact, Many}
@@ -11,9 +11,10 @@ use Rattle.hz_word.specs.declared.word.Word.{Word}
 use Rattle.hz_word.specs.Walk.{change_between}
 use Rattle.hz_word.specs.Pairs.{last_after, constant_word}
 use Rattle.hz_orders.specs.Positions.{IsExact, AreExact, number_of, IsPosition, behind_numbers, positions_of, most_places, HaveTable, begin, letters_at, value_of, IsOnward, KeepsAt, IsKeptMove, IsWay, way_changes, IsMostFrom}
-use Rattle.hz_orders.specs.Tables.{IsRow, AreMostBehind, changes_through, LeadsTo, IsBest}
+use Rattle.hz_orders.specs.Tables.{AdvancesEach, IsRow, AreMostBehind, changes_through, LeadsTo, IsBest}
 use Rattle.hz_orders.specs.declared.table.OrderedGate.{OrderedGate}
 use Rattle.hz_orders.proofs.Sorted.{Stands, every-stands, each-inside, length-position, stands-later, stands-once, length-behind_numbers, some-positions, begins-first}
+use Rattle.hz_orders.proofs.Onward.{onward-each, each-onward}
 
 -- the letters of the pins at a position
 pub are-letters_at : (pins : List Word) (position : List ℕ) (letters : List Bool) → length position ≡ length pins → length letters ≡ length pins → ((i : ℕ) → i < length pins → get_or letters i false ≡ last_after (get_or pins i (constant_word false)).first (get_or position i 0)) → letters ≡ letters_at pins position
@@ -87,42 +88,76 @@ module _ (gate : OrderedGate) (most : List ℕ) (place best : ℕ) (table : Have
         ];
       }
 
--- the best of no places, and of one more
-pub best-none : (gate : OrderedGate) (positions : List (List ℕ)) (most : List ℕ) (place : ℕ) → place < length positions → IsBest gate positions most place (place + 1) 0
-best-none gate positions most place few =
+-- the best of no places, of one more, and of all
+pub best-none : (gate : OrderedGate) (positions : List (List ℕ)) (most : List ℕ) (place end : ℕ) → place < length positions → end ≡ place + 1 → IsBest gate positions most place end 0
+best-none gate positions most place end few is_end =
     record {
-      bound = λ later less lead. absurd (omega (arith, less, lead.after));
+      bound = λ later less lead. absurd (omega (arith, less, lead.after, is_end));
       attained = inl refl;
       less = omega (arith, few);
     }
 
-pub best-more : (gate : OrderedGate) (positions : List (List ℕ)) (most : List ℕ) (place later best more : ℕ) → later < length positions → IsBest gate positions most place later best → (LeadsTo gate positions place later → changes_through gate positions most place later ≤ more) → ((more ≡ 0) ⊎ (LeadsTo gate positions place later × (changes_through gate positions most place later ≡ more))) → more + place < length positions → IsBest gate positions most place (later + 1) (max best more)
-best-more gate positions most place later best more few is bound attained less =
+change-one : (a b : Bool) → change_between a b ≤ 1
+change-one true true = omega arith
+change-one true false = omega arith
+change-one false true = omega arith
+change-one false false = omega arith
+
+-- how often the gate changes through a later place, by what the code finds of two positions
+abbrev pub through : OrderedGate → List ℕ → List ℕ → ℕ → ℕ
+through gate before after most =
+    most + change_between (value_of gate.kind gate.pins.now before) (value_of gate.kind gate.pins.now after)
+
+pub best-more : (gate : OrderedGate) (positions : List (List ℕ)) (most : List ℕ) (place later best more best' : ℕ) (before after : List ℕ) → place < later → later < length positions → before ≡ get_or positions place [] → after ≡ get_or positions later [] → IsBest gate positions most place later best → (AdvancesEach before after → KeepsAt gate.orders.now gate.wire after → through gate before after (get_or most later 0) ≤ more) → ((more ≡ 0) ⊎ (AdvancesEach before after × KeepsAt gate.orders.now gate.wire after × (through gate before after (get_or most later 0) ≡ more))) → get_or most later 0 + later < length positions → best' ≡ max best more → IsBest gate positions most place (suc later) best'
+best-more gate positions most place later best more best' before after behind few is_before is_after is bound attained less same =
     record {
       bound = λ k k_less lead.
           elim (cases_lt k later) [
-            | inl before ↦ let below = is.bound k before lead in omega (arith, below)
-            | inr not_before ↦
-                let here : k ≡ later = omega (arith, k_less, not_before) in
-                let below = bound (subst (LeadsTo gate positions place) here lead) in
-                subst (λ (i : ℕ). changes_through gate positions most place i ≤ max best more) (sym here) (omega (arith, below))
+            | inl sooner ↦ let below = is.bound k sooner lead in omega (arith, below, same)
+            | inr not_sooner ↦
+                let here : k ≡ later = omega (arith, k_less, not_sooner) in
+                let lead' : LeadsTo gate positions place later = subst (LeadsTo gate positions place) here lead in
+                let below : through gate before after (get_or most later 0) ≤ more =
+                bound (subst (λ (p : List ℕ). AdvancesEach p after) (sym is_before) (subst (AdvancesEach (get_or positions place [])) (sym is_after) (onward-each (get_or positions place []) (get_or positions later []) lead'.onward)))
+                (subst (KeepsAt gate.orders.now gate.wire) (sym is_after) lead'.kept) in
+                subst (λ (i : ℕ). changes_through gate positions most place i ≤ best') (sym here)
+                (subst (λ (p : List ℕ). get_or most later 0 + change_between (value_of gate.kind gate.pins.now p) (value_of gate.kind gate.pins.now (get_or positions later [])) ≤ best') is_before
+                (subst (λ (p : List ℕ). get_or most later 0 + change_between (value_of gate.kind gate.pins.now before) (value_of gate.kind gate.pins.now p) ≤ best') is_after (omega (arith, below, same))))
           ];
       attained = elim (cases_lt best more) [
         | inl greater ↦
-            let is_more : max best more ≡ more = omega (arith, greater) in
+            let is_more : best' ≡ more = omega (arith, greater, same) in
             elim attained [
               | inl none ↦ absurd (omega (arith, greater, none))
-              | inr some ↦ inr (later, omega arith, some.0, some.1 ∙ sym is_more)
+              | inr some ↦ inr (later, omega arith,
+                  record {
+                    after = behind;
+                    onward = each-onward (get_or positions place []) (get_or positions later []) (subst (λ (p : List ℕ). AdvancesEach p (get_or positions later [])) is_before (subst (AdvancesEach before) is_after some.0));
+                    kept = subst (KeepsAt gate.orders.now gate.wire) is_after some.1;
+                  },
+                  subst (λ (p : List ℕ). get_or most later 0 + change_between (value_of gate.kind gate.pins.now p) (value_of gate.kind gate.pins.now (get_or positions later [])) ≡ best') is_before
+                  (subst (λ (p : List ℕ). get_or most later 0 + change_between (value_of gate.kind gate.pins.now before) (value_of gate.kind gate.pins.now p) ≡ best') is_after (some.2 ∙ sym is_more)))
             ]
         | inr not_greater ↦
-            let is_best : max best more ≡ best = omega (arith, not_greater) in
+            let is_best : best' ≡ best = omega (arith, not_greater, same) in
             elim is.attained [
               | inl none ↦ inl (is_best ∙ none)
-              | inr some ↦ inr (some.0, (let before = some.1 in omega arith), some.2, some.3 ∙ sym is_best)
+              | inr some ↦ inr (some.0, (let sooner = some.1 in omega arith), some.2, some.3 ∙ sym is_best)
             ]
       ];
-      less = let below = is.less in omega (arith, below, less);
+      less =
+          let below = is.less in
+          elim attained [
+            | inl none ↦ omega (arith, below, none, same)
+            | inr some ↦
+                let more_is = some.2 in
+                let one = change-one (value_of gate.kind gate.pins.now before) (value_of gate.kind gate.pins.now after) in
+                omega (arith, below, same, more_is, one, less, behind)
+          ];
     }
+
+pub best-all : (gate : OrderedGate) (positions : List (List ℕ)) (most : List ℕ) (place end end' best : ℕ) → end ≡ end' → IsBest gate positions most place end best → IsBest gate positions most place end' best
+best-all gate positions most place end end' best same is = subst (λ (e : ℕ). IsBest gate positions most place e best) same is
 
 -- the table is told at one place more
 pub rows-more : (gate : OrderedGate) (positions : List (List ℕ)) (most : List ℕ) (place best : ℕ) → place < length positions → AreMostBehind gate positions most (suc place) → IsMostFrom gate.orders.now gate.kind gate.wire gate.pins.now (get_or positions place []) best → best + place < length positions → AreMostBehind gate positions (set most place best) place
@@ -215,3 +250,29 @@ table-rest (pin ∷ pins) some table =
           let product = factor-less (number_of pin.changes) (length (positions_of pins)) in
           omega arith;
     })
+
+-- lists behind numbers, one after the other
+abbrev behind : ℕ → List (List ℕ) → List (List ℕ)
+behind times tails = map (λ (tail : List ℕ). times ∷ tail) tails
+
+pub more-behind : (times place next : ℕ) (tails initial so_far new : List (List ℕ)) (row : List ℕ) → next ≡ suc place → place < length tails → so_far ≡ initial ++ behind times (take place tails) → new ≡ so_far ++ row ∷ [] → row ≡ times ∷ get_or tails place [] → new ≡ initial ++ behind times (take next tails)
+more-behind times place next tails initial so_far new row is_next few before is_new is_row =
+    let taken : behind times (take next tails) ≡ behind times (take place tails) ++ row ∷ [] =
+    ap (λ (n : ℕ). behind times (take n tails)) is_next
+    ∙ (ap (behind times) (take-suc tails place [] few)
+    ∙ (map-append (λ (tail : List ℕ). times ∷ tail) (take place tails) (get_or tails place [] ∷ [])
+    ∙ ap (λ (r : List ℕ). behind times (take place tails) ++ r ∷ []) (sym is_row))) in
+    is_new
+    ∙ (ap (λ (front : List (List ℕ)). front ++ row ∷ []) before
+    ∙ (append_assoc initial (behind times (take place tails)) (row ∷ [])
+    ∙ ap (λ (more : List (List ℕ)). initial ++ more) (sym taken)))
+
+pub all-behind : (times place : ℕ) (tails initial so_far : List (List ℕ)) → length tails ≤ place → so_far ≡ initial ++ behind times (take place tails) → so_far ≡ initial ++ behind times tails
+all-behind times place tails initial so_far all before =
+    before ∙ ap (λ (front : List (List ℕ)). initial ++ behind times front) (take_all place tails all)
+
+pub more-numbers : (times next : ℕ) (tails so_far new : List (List ℕ)) → next ≡ suc times → so_far ≡ behind_numbers times tails → new ≡ so_far ++ behind times tails → new ≡ behind_numbers next tails
+more-numbers times next tails so_far new is_next before is_new =
+    is_new
+    ∙ (ap (λ (front : List (List ℕ)). front ++ behind times tails) before
+    ∙ ap (λ (n : ℕ). behind_numbers n tails) (sym is_next))

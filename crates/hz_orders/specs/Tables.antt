@@ -5,6 +5,13 @@ use Rattle.hz_word.specs.Walk.{change_between}
 use Rattle.hz_orders.specs.Positions.{IsMostFrom, IsOnward, KeepsAt, value_of}
 use Rattle.hz_orders.specs.declared.table.OrderedGate.{OrderedGate}
 
+-- from one position to another each pin advances once or stays, pin by pin
+pub record AdvancesEach (before after : List ℕ) : Type 0 where
+  pub long : length after ≡ length before
+  pub each : (pin : ℕ) → pin < length before →
+      (slice_index_or before pin 0 ≤ slice_index_or after pin 0)
+      × (slice_index_or after pin 0 ≤ slice_index_or before pin 0 + 1)
+
 -- a number at a place is the most from its position on, and less than the number of the places from it on
 pub record IsRow (gate : OrderedGate) (positions : List (List ℕ)) (most : List ℕ) (place : ℕ)
     : Type 0 where

@@ -7,8 +7,8 @@ ghost use Rattle.hz_word.specs.Capped.{IsFold, IsWithinCap, capped_count, greate
 ghost use Rattle.hz_word.specs.Pairs.{last_after};
 ghost use Rattle.hz_word.specs.Walk.{change_between};
 ghost use Rattle.hz_orders.specs.Parts.{IsBoundUnder, IsCountUnder, IsKeptAt};
-ghost use Rattle.hz_orders.specs.Positions.{begin, behind_numbers, HaveTable, IsExact, IsMostFrom, IsOnward, KeepsAt, most_places, number_of, positions_of, value_of};
-ghost use Rattle.hz_orders.specs.Tables.{AreMostBehind};
+ghost use Rattle.hz_orders.specs.Positions.{begin, behind_numbers, HaveTable, IsExact, IsMostFrom, KeepsAt, most_places, number_of, positions_of, value_of};
+ghost use Rattle.hz_orders.specs.Tables.{AdvancesEach, AreMostBehind};
 
 use crate::order::Order;
 use crate::positions::Positions;
@@ -240,9 +240,9 @@ fn most_through(
     requires after { length after.now ≡ length gate.now.pins.now }
     requires most { most < most_places }
     requires letters { length letters.old ≡ length gate.now.pins.now }
-    ensures bound { IsOnward before.now after.now → KeepsAt gate.now.orders.now gate.now.wire after.now →
+    ensures bound { AdvancesEach before.now after.now → KeepsAt gate.now.orders.now gate.now.wire after.now →
         most + change_between (value_of gate.now.kind gate.now.pins.now before.now) (value_of gate.now.kind gate.now.pins.now after.now) ≤ result }
-    ensures attained { (result ≡ 0) ⊎ (IsOnward before.now after.now × KeepsAt gate.now.orders.now gate.now.wire after.now
+    ensures attained { (result ≡ 0) ⊎ (AdvancesEach before.now after.now × KeepsAt gate.now.orders.now gate.now.wire after.now
         × (most + change_between (value_of gate.now.kind gate.now.pins.now before.now) (value_of gate.now.kind gate.now.pins.now after.now) ≡ result)) }
     ensures letters { length letters.new ≡ length letters.old }
 {
@@ -263,8 +263,8 @@ fn changed(before: bool, after: bool) -> u64
 
 // Whether each pin advances once or stays from one position to another.
 fn is_onward(before: &[u32], after: &[u32]) -> bool
-    ensures onward { IsTrue result → IsOnward before.now after.now }
-    ensures others { IsOnward before.now after.now → IsTrue result }
+    ensures onward { IsTrue result → AdvancesEach before.now after.now }
+    ensures others { AdvancesEach before.now after.now → IsTrue result }
 {
     if before.len() != after.len() {
         return false;

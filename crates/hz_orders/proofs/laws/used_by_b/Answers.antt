@@ -1,7 +1,7 @@
 -- By the lemma of this crate.
 use Rattle.std.proofs.Common.{◌≡◌}
 use Rattle.hz_orders.proofs.Used.{must-move}
-use Rattle.hz_orders.proofs.used_by_b.Goals as goal
+use Rattle.hz_orders.proofs.laws.used_by_b.Goals as goal
 
 pub returns : goal.returns
 returns c = λ net input start a b order long result_a result_b ends.

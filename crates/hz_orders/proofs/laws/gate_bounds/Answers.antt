@@ -1,6 +1,6 @@
 -- By the lemmas of this crate.
 use Rattle.hz_orders.proofs.Folded.{fold-bound, count-bound}
-use Rattle.hz_orders.proofs.gate_bounds.Goals as goal
+use Rattle.hz_orders.proofs.laws.gate_bounds.Goals as goal
 
 pub returns-clause-fold : goal.returns-clause-fold
 returns-clause-fold c = fold-bound
