@@ -22,7 +22,7 @@ use Rattle.hz_word.specs.Pairs.{constant_word, kind_word}
 use Rattle.hz_word.proofs.Longest.{takes-HasPins, part-IsWordOf}
 use Rattle.hz_word.proofs.Folds.{IsFold-kind_word}
 use Rattle.hz_word.proofs.AtMost.{at_most-trans, at_most-capped, at_most-same, at_most-many}
-use Rattle.hz_word.proofs.Stretched.{stretched, map-capped-stretched, AreWords-stretched}
+use Rattle.hz_word.proofs.Stretched.{stretched, counted-capped_count, map-capped-stretched, AreWords-stretched}
 use Rattle.hz_free.specs.VariableWords.{input_word}
 use Rattle.hz_free.proofs.Chains.{reads-inside}
 use Rattle.hz_free.specs.Inductive.{told_at, GivesWord, IsToldEnough, IsInductive}
@@ -44,6 +44,12 @@ fold-bound orders kind wire pins cap outcome bound taken is_fold below words are
 pub own-bound : (orders : List Order) (kind : Kind) (wire : ℕ) (pins : List Word) (cap : ℕ) (outcome : Word) → IsTrue (takes kind (length pins)) → IsFold kind pins cap outcome → IsBoundUnder orders kind wire pins cap outcome.changes
 own-bound orders kind wire pins cap outcome taken is_fold =
     fold-bound orders kind wire pins cap outcome outcome.changes taken is_fold (at_most-same outcome.changes)
+
+-- the word of a gate is counted
+pub counted-fold : (kind : Kind) (pins : List Word) (cap : ℕ) (outcome : Word) → All (λ pin. IsWithinCap cap pin.changes) pins → IsFold kind pins cap outcome → IsWithinCap cap outcome.changes
+counted-fold kind pins cap outcome counted is_fold =
+    let made = is_fold _ (AreWords-stretched cap 0 pins) (map-capped-stretched cap 0 (constant_word false) pins (λ k few. counted k (constant_word false) few)) in
+    subst (λ (word : Word). IsWithinCap cap word.changes) made.2 (counted-capped_count cap (change_count made.0))
 
 -- the number of changes under orders is a bound
 pub count-bound : (orders : List Order) (kind : Kind) (wire : ℕ) (pins : List Word) (cap : ℕ) (count : Count) → IsCountUnder orders kind wire pins cap count → IsBoundUnder orders kind wire pins cap count

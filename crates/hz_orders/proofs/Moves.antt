@@ -230,7 +230,8 @@ exact-count cap n exact =
 left-begin : (cap : ℕ) (words : List (List Bool)) → AreWords words → AreExact (map (capped_word cap) words) → AreLeft (map (capped_word cap) words) (begin (map (capped_word cap) words)) words
 left-begin cap [] are_words exact = tt
 left-begin cap (word ∷ words) are_words exact =
-    let count : Exact (0 + change_count word) ≡ capped_count cap (change_count word) = exact-count cap (change_count word) exact.0 in
+    let none : 0 + change_count word ≡ change_count word = omega arith in
+    let count : Exact (0 + change_count word) ≡ capped_count cap (change_count word) = ap Exact none ∙ exact-count cap (change_count word) exact.0 in
     ((are_words.0, last_after-zero (first_letter word), count), left-begin cap words are_words.1 exact.1)
 
 -- the same numbers at the pins keep the same orders

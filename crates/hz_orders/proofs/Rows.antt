@@ -1,7 +1,7 @@
 -- The table, place by place: the most from a place on follows from what is told of the later ones.
 use Rattle.std.proofs.Common.{◌≡◌, ◌≢◌, ◌⊎◌, ℕ, zero, suc, ◌+◌, ◌-◌, ◌*◌, ◌<◌, ◌≤◌, Bool, true, false, List, [], ◌∷◌, ◌++◌, length, map, max, take, drop, set, get_or, refl, sym, ap, ◌∙◌, subst, arith, inl, inr}
 use Rattle.std.proofs.lemmas.Bool.{cases_lt, eq-eqb, false≢true}
-use Rattle.std.specs.Prelude.{◌==◌, slice_range}
+use Rattle.std.specs.Prelude.{◌==◌, slice_range, Result, Ok, Err, IfOk, Option, Some, None, IfSome}
 use Rattle.std.proofs.lemmas.List.{append_assoc, map-append, take_all, length-set, get_or-set_same, get_or-set_other}
 use Rattle.std.proofs.Math.Seq.{take-length, take-suc}
 use Rattle.std.proofs.Math.Nat.{suc-mul, mul-suc}
@@ -129,14 +129,17 @@ best-more gate positions most place later best more best' before after behind fe
             let is_more : best' ≡ more = omega (arith, greater, same) in
             elim attained [
               | inl none ↦ absurd (omega (arith, greater, none))
-              | inr some ↦ inr (later, omega arith,
-                  record {
-                    after = behind;
-                    onward = each-onward (get_or positions place []) (get_or positions later []) (subst (λ (p : List ℕ). AdvancesEach p (get_or positions later [])) is_before (subst (AdvancesEach before) is_after some.0));
-                    kept = subst (KeepsAt gate.orders.now gate.wire) is_after some.1;
-                  },
-                  subst (λ (p : List ℕ). get_or most later 0 + change_between (value_of gate.kind gate.pins.now p) (value_of gate.kind gate.pins.now (get_or positions later [])) ≡ best') is_before
-                  (subst (λ (p : List ℕ). get_or most later 0 + change_between (value_of gate.kind gate.pins.now before) (value_of gate.kind gate.pins.now p) ≡ best') is_after (some.2 ∙ sym is_more)))
+              | inr some ↦ inr (
+                later,
+                omega arith,
+                record {
+                  after = behind;
+                  onward = each-onward (get_or positions place []) (get_or positions later []) (subst (λ (p : List ℕ). AdvancesEach p (get_or positions later [])) is_before (subst (AdvancesEach before) is_after some.0));
+                  kept = subst (KeepsAt gate.orders.now gate.wire) is_after some.1;
+                },
+                subst (λ (p : List ℕ). get_or most later 0 + change_between (value_of gate.kind gate.pins.now p) (value_of gate.kind gate.pins.now (get_or positions later [])) ≡ best') is_before
+                    (subst (λ (p : List ℕ). get_or most later 0 + change_between (value_of gate.kind gate.pins.now before) (value_of gate.kind gate.pins.now p) ≡ best') is_after (some.2 ∙ sym is_more)),
+              )
             ]
         | inr not_greater ↦
             let is_best : best' ≡ best = omega (arith, not_greater, same) in
@@ -155,6 +158,19 @@ best-more gate positions most place later best more best' before after behind fe
                 omega (arith, below, same, more_is, one, less, behind)
           ];
     }
+
+-- a row of the list has a number for each pin
+pub row-length : (pins : List Word) (positions : List (List ℕ)) (row : List ℕ) (k : ℕ) → HaveTable pins → positions ≡ positions_of pins → k < length positions → row ≡ get_or positions k [] → length row ≡ length pins
+row-length pins positions row k table are few is_row =
+    ap length is_row
+    ∙ length-position pins (get_or positions k [])
+    (subst (λ (ps : List (List ℕ)). IsPosition pins (get_or ps k [])) (sym are) (each-inside pins table.exact k (subst (λ (ps : List (List ℕ)). k < length ps) are few)))
+
+-- once all places are looked at, the best is the most
+pub most-of : (gate : OrderedGate) (positions : List (List ℕ)) (most : List ℕ) (place end best : ℕ) → HaveTable gate.pins.now → positions_of gate.pins.now ≡ positions → place < length positions → AreMostBehind gate positions most (suc place) → IsBest gate positions most place end best → end ≡ length positions → IsMostFrom gate.orders.now gate.kind gate.wire gate.pins.now (get_or positions place []) best
+most-of gate positions most place end best table are =
+    subst (λ (ps : List (List ℕ)). place < length ps → AreMostBehind gate ps most (suc place) → IsBest gate ps most place end best → end ≡ length ps → IsMostFrom gate.orders.now gate.kind gate.wire gate.pins.now (get_or ps place []) best) are
+    (λ few rows is same. most-best gate most place best table few rows (subst (λ (e : ℕ). IsBest gate (positions_of gate.pins.now) most place e best) same is))
 
 pub best-all : (gate : OrderedGate) (positions : List (List ℕ)) (most : List ℕ) (place end end' best : ℕ) → end ≡ end' → IsBest gate positions most place end best → IsBest gate positions most place end' best
 best-all gate positions most place end end' best same is = subst (λ (e : ℕ). IsBest gate positions most place e best) same is
@@ -184,6 +200,31 @@ rows-more gate positions most place best few rows is less =
                 })
           ];
     }
+
+-- one place more: the number that was found is told there
+pub rows-next : (gate : OrderedGate) (positions : List (List ℕ)) (most : List ℕ) (place done best : ℕ) → place < length positions → place + done + 1 ≡ length positions → AreMostBehind gate positions most (length positions - done) → IsMostFrom gate.orders.now gate.kind gate.wire gate.pins.now (get_or positions place []) best → best + place < length positions → AreMostBehind gate positions (set most place best) (length positions - (done + 1)) × (1 ≤ done + 1 → get_or (set most place best) (length positions - (done + 1)) 0 ≡ best)
+rows-next gate positions most place done best few same rows is less =
+    let here : place ≡ length positions - (done + 1) = omega (arith, few, same) in
+    let next : length positions - done ≡ suc place = omega (arith, few, same) in
+    let long = rows.long in (
+      subst (AreMostBehind gate positions (set most place best)) here (rows-more gate positions most place best few (subst (AreMostBehind gate positions most) next rows) is less),
+      λ some. subst (λ (i : ℕ). get_or (set most place best) i 0 ≡ best) here (get_or-set_same most place best 0 (omega (arith, few, long))),
+    )
+
+pub rows-none : (gate : OrderedGate) (positions : List (List ℕ)) (most : List ℕ) (first : ℕ) → length most ≡ length positions → length positions ≤ first → AreMostBehind gate positions most first
+rows-none gate positions most first long all =
+    record { long = long; each = λ k from few. absurd (omega (arith, from, few, all)) }
+
+pub rows-from : (gate : OrderedGate) (positions : List (List ℕ)) (most : List ℕ) (first first' : ℕ) → first ≡ first' → AreMostBehind gate positions most first → AreMostBehind gate positions most first'
+rows-from gate positions most first first' same rows = subst (AreMostBehind gate positions most) same rows
+
+-- the first place is the begin
+pub most-begin : (gate : OrderedGate) (positions : List (List ℕ)) (most : List ℕ) (first : ℕ) → positions_of gate.pins.now ≡ positions → first ≡ 0 → AreMostBehind gate positions most first → IsMostFrom gate.orders.now gate.kind gate.wire gate.pins.now (begin gate.pins.now) (get_or most 0 0)
+most-begin gate positions most first are none rows =
+    let some : 1 ≤ length positions = subst (λ (ps : List (List ℕ)). 1 ≤ length ps) are (some-positions gate.pins.now) in
+    let row = rows.each 0 (omega (arith, none)) some in
+    let here : get_or positions 0 [] ≡ begin gate.pins.now = subst (λ (ps : List (List ℕ)). get_or ps 0 [] ≡ begin gate.pins.now) are (begins-first gate.pins.now) in
+    subst (λ (p : List ℕ). IsMostFrom gate.orders.now gate.kind gate.wire gate.pins.now p (get_or most 0 0)) here row.is_most
 
 -- the positions of one pin more
 rest-is : (pin : Word) (pins : List Word) → slice_range (pin ∷ pins) 1 (length (pin ∷ pins)) ≡ pins
@@ -276,3 +317,29 @@ more-numbers times next tails so_far new is_next before is_new =
     is_new
     ∙ (ap (λ (front : List (List ℕ)). front ++ behind times tails) before
     ∙ ap (λ (n : ℕ). behind_numbers n tails) (sym is_next))
+
+-- what holds of a value that is there
+pub if-ok : {T E : Type 0} (r : Result T E) (P Q : T → Type 0) → ((x : T) → P x → Q x) → IfOk r P → IfOk r Q
+if-ok (Ok x) P Q each holds = each x holds
+if-ok (Err e) P Q each holds = tt
+
+pub some-places : (pins : List Word) (rest : ℕ) (o : Option ℕ) → 1 ≤ length pins → HaveTable (slice_range pins 1 (length pins)) → rest ≡ length (positions_of (slice_range pins 1 (length pins))) → IfSome o (λ places. IsExact (get_or pins 0 (constant_word false)).changes × (places ≡ suc (number_of (get_or pins 0 (constant_word false)).changes) * rest) × (places ≤ most_places)) → IfSome o (λ places. HaveTable pins × (places ≡ length (positions_of pins)))
+some-places pins rest None some table same is = tt
+some-places pins rest (Some places) some table same is =
+    let product : places ≡ suc (number_of (get_or pins 0 (constant_word false)).changes) * length (positions_of (slice_range pins 1 (length pins))) =
+    is.1 ∙ ap (λ (r : ℕ). suc (number_of (get_or pins 0 (constant_word false)).changes) * r) same in
+    let few = is.2 in
+    (table-cons pins some is.0 table (subst (λ (n : ℕ). n ≤ most_places) product few), product ∙ sym (length-cons pins some))
+
+pub no-places : (pins : List Word) (rest : ℕ) → 1 ≤ length pins → rest ≡ length (positions_of (slice_range pins 1 (length pins))) → HaveTable pins → (IsExact (get_or pins 0 (constant_word false)).changes → 1 ≤ rest → suc (number_of (get_or pins 0 (constant_word false)).changes) * rest ≤ most_places → ⊥) → ⊥
+no-places pins rest some same table none =
+    let positions = some-positions (slice_range pins 1 (length pins)) in
+    let product : length (positions_of pins) ≡ suc (number_of (get_or pins 0 (constant_word false)).changes) * rest =
+    length-cons pins some ∙ ap (λ (r : ℕ). suc (number_of (get_or pins 0 (constant_word false)).changes) * r) (sym same) in
+    none (table-first pins some table).0 (omega (arith, positions, same)) (subst (λ (n : ℕ). n ≤ most_places) product table.few)
+
+pub positions-more : (pins : List Word) (below : ℕ) (tails : List (List ℕ)) → 1 ≤ length pins → below ≡ suc (number_of (get_or pins 0 (constant_word false)).changes) → tails ≡ positions_of (slice_range pins 1 (length pins)) → behind_numbers below tails ≡ positions_of pins
+positions-more pins below tails some is_below is_tails =
+    ap (λ (n : ℕ). behind_numbers n tails) is_below
+    ∙ (ap (behind_numbers (suc (number_of (get_or pins 0 (constant_word false)).changes))) is_tails
+    ∙ sym (positions-cons pins some))

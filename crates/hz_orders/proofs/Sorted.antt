@@ -83,12 +83,13 @@ all-append P positions more front back k few =
 
 all-behind_numbers : (P : List ℕ → Type 0) (below : ℕ) (tails : List (List ℕ)) → ((times : ℕ) → times < below → (k : ℕ) → k < length tails → P (times ∷ get_or tails k [])) → AllAt P (behind_numbers below tails)
 all-behind_numbers P zero tails each k few = absurd (omega arith)
-all-behind_numbers P (suc below) tails each =
+all-behind_numbers P (suc below) tails each k few =
     all-append P (behind_numbers below tails) (behind below tails)
     (all-behind_numbers P below tails (λ times less. each times (omega (arith, less))))
     (λ k few.
     let few' : k < length tails = omega (arith, few, length-behind below tails) in
     subst P (sym (at-behind below tails k few')) (each below (omega arith) k few'))
+    k few
 
 pub each-inside : (pins : List Word) → AreExact pins → (k : ℕ) → k < length (positions_of pins) → IsPosition pins (get_or (positions_of pins) k [])
 each-inside [] exact zero few = tt
@@ -147,17 +148,18 @@ before-greater below (times ∷ position) tail begins = inl begins
 
 sorted-behind_numbers : (below : ℕ) (tails : List (List ℕ)) → AreSorted tails → AreSorted (behind_numbers below tails)
 sorted-behind_numbers zero tails sorted j k less few = absurd (omega arith)
-sorted-behind_numbers (suc below) tails sorted =
+sorted-behind_numbers (suc below) tails sorted j k less few =
     sorted-append (behind_numbers below tails) (behind below tails) (sorted-behind_numbers below tails sorted) (sorted-behind below tails sorted)
     (λ j k j_few k_few.
     let k_few' : k < length tails = omega (arith, k_few, length-behind below tails) in
     subst (λ (p : List ℕ). IsBefore (get_or (behind_numbers below tails) j []) p) (sym (at-behind below tails k k_few'))
     (before-greater below (get_or (behind_numbers below tails) j []) (get_or tails k [])
     (all-behind_numbers (BeginsBelow below) below tails (λ times less k' few'. less) j j_few)))
+    j k less few
 
 sorted-positions : (pins : List Word) → AreSorted (positions_of pins)
 sorted-positions [] j k less few = absurd (omega arith)
-sorted-positions (pin ∷ pins) = sorted-behind_numbers (suc (number_of pin.changes)) (positions_of pins) (sorted-positions pins)
+sorted-positions (pin ∷ pins) j k less few = sorted-behind_numbers (suc (number_of pin.changes)) (positions_of pins) (sorted-positions pins) j k less few
 
 not-before : (before after : List ℕ) → IsOnward before after → IsBefore after before → ⊥
 not-before [] [] onward earlier = earlier

@@ -107,13 +107,12 @@ fn most_changes(alloc: Global, gate: &OrderedGate) -> Result<u64, Memory>
     let positions = all_positions(alloc, gate.pins)?;
     let mut letters = vec![in alloc; false; gate.pins.len()]?;
     let mut most = vec![in alloc; 0u64; positions.len()]?;
-    fill(
+    Ok(most_from_begin(
         gate,
         &positions,
         most.as_mut_slice(),
         letters.as_mut_slice(),
-    );
-    Ok(most[0])
+    ))
 }
 
 // All positions of pins.
@@ -178,19 +177,29 @@ fn joined(alloc: Global, times: u32, tail: &[u32]) -> Result<Vec<u32>, Memory>
     Ok(row)
 }
 
-// Tells at each place how often the gate changes at most from there on: from the last place to the first, since moves lead to later ones.
-fn fill(gate: &OrderedGate, positions: &Positions, most: &mut [u64], letters: &mut [bool])
+// How often the gate changes at most from the first place on. It tells each place its number, from the last one to the first, since moves
+// lead to later ones.
+fn most_from_begin(
+    gate: &OrderedGate,
+    positions: &Positions,
+    most: &mut [u64],
+    letters: &mut [bool],
+) -> u64
     requires pins { IsTrue (takes gate.now.kind (length gate.now.pins.now)) }
     requires table { HaveTable gate.now.pins.now }
     requires positions { positions.now ≡ positions_of gate.now.pins.now }
     requires most { length most.old ≡ length positions.now }
     requires letters { length letters.old ≡ length gate.now.pins.now }
-    ensures { AreMostBehind gate.now positions.now most.new 0 }
+    ensures { IsMostFrom gate.now.orders.now gate.now.kind gate.now.wire gate.now.pins.now
+        (begin gate.now.pins.now) result }
 {
+    let mut from_here = 0;
     for done in 0..positions.len() {
         let place = positions.len() - 1 - done;
-        most[place] = most_from(gate, positions, most, place, letters);
+        from_here = most_from(gate, positions, most, place, letters);
+        most[place] = from_here;
     }
+    from_here
 }
 
 // How often the gate changes at most from a place on, if that is told of all later ones.
@@ -212,7 +221,7 @@ fn most_from(
     ensures less { result + place < length positions.now }
     ensures letters { length letters.new ≡ length letters.old }
 {
-    let mut best = 0;
+    let mut best = 0u64;
     for later in place + 1..positions.len() {
         let more = most_through(
             gate,
