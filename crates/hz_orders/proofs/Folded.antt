@@ -28,7 +28,7 @@ use Rattle.hz_free.proofs.Chains.{reads-inside}
 use Rattle.hz_free.specs.Inductive.{told_at, GivesWord, IsToldEnough, IsInductive}
 use Rattle.hz_orders.specs.declared.order.Order.{Order}
 use Rattle.hz_orders.specs.Parts.{IsKeepingPart, IsBoundUnder, IsCountUnder}
-use Rattle.hz_orders.specs.Inductive.{IsEnoughUnder, IsInductiveUnder}
+use Rattle.hz_orders.specs.Inductive.{IsEnoughUnder, IsInductiveHolding, IsInductiveUnder}
 
 pub fold-bound : (orders : List Order) (kind : Kind) (wire : ℕ) (pins : List Word) (cap : ℕ) (outcome : Word) (bound : Count) → IsTrue (takes kind (length pins)) → IsFold kind pins cap outcome → IsAtMost outcome.changes bound → IsBoundUnder orders kind wire pins cap bound
 fold-bound orders kind wire pins cap outcome bound taken is_fold below words are_words capped moves keeping =
@@ -146,3 +146,9 @@ inductive-without netlist input start cap told circuit whole is =
           let found = enough-without netlist circuit whole input start cap told is.long i counted few (driver_at (network_of netlist) i) refl (is.enough i few refl) in
           record { begins = is.begins i few; given = found.0; gives = found.1; enough = found.2 };
     }
+
+-- words that are inductive are so under orders too while some variables are held
+pub inductive-holding : (held : List ℕ) (orders : List Order) (netlist : Netlist) (input start : List Bool) (cap : ℕ) (told : List Word) → IsCircuit netlist → IsWhole netlist → IsInductive (network_of netlist) input start cap told → IsInductiveHolding held orders (network_of netlist) input start cap told
+inductive-holding held orders netlist input start cap told circuit whole is =
+    let under = inductive-under orders netlist input start cap told circuit whole is in
+    record { long = under.long; counted = under.counted; begins = under.begins; enough = λ i few free. under.enough i few refl }

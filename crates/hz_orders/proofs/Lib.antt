@@ -20,3 +20,5 @@ pub mod Outcomes
 pub mod Ideal
 -- If Algorithm B ends at the other value at an order's first wire, the wire must move
 pub mod Used
+-- Numbers of changes that are enough for a variable under orders, by what drives it, and words that are told so far
+pub mod Enough

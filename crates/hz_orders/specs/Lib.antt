@@ -18,6 +18,8 @@
 -- HaveTable pins: there are few positions
 -- IsWay orders wire pins position way: a way through positions that keep the orders
 -- IsMostFrom orders kind wire pins position most: how often a gate changes at most along the ways from a position
+-- AreToldSoFar telling told: words in the making, one for each variable
+-- IsToldEnough telling told i: the word of variable i is enough, or the variable is held
 
 pub mod Orders
 pub mod Parts
@@ -26,3 +28,4 @@ pub mod Outcomes
 pub mod Ideal
 pub mod Positions
 pub mod Tables
+pub mod Telling

@@ -5,13 +5,19 @@
 //! | `order` | [`Order`]: the second wire does not change for the n-th time before the first has changed |
 //! | `table` | [`count_under`]: how often a gate changes at most along what keeps its orders |
 //! | `positions` | a list of positions |
+//! | `telling` | [`tell_under`]: words of all variables under orders |
+//! | `driven` | how many changes are enough for a variable, and whether what it is told is enough |
+//! | `component` | the order in which words are raised |
 //! | `laws` | what holds along runs that keep orders |
 #![tactic(auto)]
 
+mod component;
+mod driven;
 mod laws;
 mod order;
 mod positions;
 mod table;
+mod telling;
 #[cfg(test)]
 mod tests;
 
@@ -21,3 +27,4 @@ pub use laws::{
 };
 pub use order::Order;
 pub use table::{OrderedGate, count_under};
+pub use telling::{OrderedChange, tell_under};
