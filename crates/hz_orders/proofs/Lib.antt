@@ -18,7 +18,7 @@ pub mod Folded
 pub mod Outcomes
 -- A run that keeps orders, and in which a wire is ideal, keeps the orders that follow from it
 pub mod Ideal
--- If Algorithm B ends at the other value at an order's first wire, the wire must move
+-- A wire must move exactly if Algorithm B ends at its other value
 pub mod Used
 -- Numbers of changes that are enough for a variable under orders, by what drives it, and words that are told so far
 pub mod Enough

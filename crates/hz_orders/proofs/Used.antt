@@ -1,18 +1,44 @@
--- If Algorithm B ends at the other value at an order's first wire, the wire must move.
-use Rattle.std.proofs.Common.{◌≡◌, ℕ, Bool, not, List, length, IsTrue, subst, sym, ap, ◌∙◌}
+-- A wire must move exactly if Algorithm B ends at its other value.
+use Rattle.std.proofs.Common.{◌≡◌, ◌∙◌, ℕ, Bool, true, false, not, List, refl, sym}
+use Rattle.std.specs.Prelude.{◌↔◌}
+use Rattle.std.proofs.lemmas.Bool.{false≢true, true≢false}
 use Rattle.hz_core.specs.declared.tri.Tri.{Tri}
-use Rattle.hz_core.specs.Ternary.{tri_of, admits, Refines}
-use Rattle.hz_core.proofs.Refinements.{known-admits, get_or-Refines}
-use Rattle.hz_net.specs.Network.{Driver, bit_at, value_at}
+use Rattle.hz_core.specs.declared.tri.Tri.TheVariants.{Zero, One, Unknown}
+use Rattle.hz_core.specs.Ternary.{tri_of, IsJoinOf}
+use Rattle.hz_core.specs.Netlist.{Netlist, IsCircuit}
+use Rattle.hz_net.specs.Network.{network_of, bit_at, value_at}
 use Rattle.hz_net.specs.Passes.{algorithm_a, algorithm_b, IsResult}
-use Rattle.hz_gmw.proofs.CoverB.{covers_outcomes}
-use Rattle.hz_orders.specs.declared.order.Order.{Order}
+use Rattle.hz_net.specs.Starts.{IsStableStart}
+use Rattle.hz_gmw.specs.Runs.{JoinsTo}
+use Rattle.hz_gmw.specs.Cycles.{IsOutcome}
+use Rattle.hz_cycle.specs.Exact.{BIsExact}
 use Rattle.hz_orders.specs.Orders.{MustMove}
 
-pub must-move : (net : List Driver) (input start : List Bool) (a b : List Tri) (i : ℕ) → length start ≡ length net → IsResult (algorithm_a net input start) a → IsResult (algorithm_b net input a) b → value_at b i ≡ tri_of (not (bit_at start i)) → MustMove net input start i
-must-move net input start a b i long result_a result_b ends state outcome =
-    let refined : Refines state (algorithm_b net input (algorithm_a net input start result_a.0) result_b.0) = covers_outcomes net input start state result_a.0 result_b.0 long result_a.1 outcome in
-    let from_a : Refines state (algorithm_b net input a result_b.0) = subst (λ (first : List Tri). Refines state (algorithm_b net input first result_b.0)) (sym result_a.2) refined in
-    let from_b : Refines state b = subst (Refines state) (sym result_b.2) from_a in
-    known-admits (not (bit_at start i)) (bit_at state i)
-    (subst (λ (value : Tri). IsTrue (admits value (bit_at state i))) ends (get_or-Refines state b from_b i))
+-- the join is a bit exactly if all members of the set are this bit
+joined-each : (set : Bool → Type 0) (value : Tri) (bit : Bool) → IsJoinOf set value → value ≡ tri_of bit → (other : Bool) → set other → other ≡ bit
+joined-each set Zero false joined same false member = refl
+joined-each set Zero false joined same true member = absurd (joined.1 member)
+joined-each set Zero true joined same other member = cc
+joined-each set One true joined same true member = refl
+joined-each set One true joined same false member = absurd (joined.1 member)
+joined-each set One false joined same other member = cc
+joined-each set Unknown true joined same other member = cc
+joined-each set Unknown false joined same other member = cc
+
+each-joined : (set : Bool → Type 0) (value : Tri) (bit : Bool) → IsJoinOf set value → ((other : Bool) → set other → other ≡ bit) → value ≡ tri_of bit
+each-joined set Zero false joined each = refl
+each-joined set Zero true joined each = absurd (false≢true (each false joined.0))
+each-joined set One true joined each = refl
+each-joined set One false joined each = absurd (true≢false (each true joined.0))
+each-joined set Unknown true joined each = absurd (false≢true (each false joined.0))
+each-joined set Unknown false joined each = absurd (true≢false (each true joined.1))
+
+pub used-exactly : BIsExact → (netlist : Netlist) (input start : List Bool) (a b : List Tri) (i : ℕ) → IsCircuit netlist → IsStableStart netlist start → IsResult (algorithm_a (network_of netlist) input start) a → IsResult (algorithm_b (network_of netlist) input a) b → (value_at b i ≡ tri_of (not (bit_at start i))) ↔ MustMove (network_of netlist) input start i
+used-exactly exact netlist input start a b i circuit begins result_a result_b =
+    let joined : JoinsTo (IsOutcome (network_of netlist) input start) i (value_at b i) = exact netlist input start a b i circuit begins result_a result_b in (
+      λ same state outcome.
+          joined-each (λ bit. (state : List Bool) × IsOutcome (network_of netlist) input start state × (bit_at state i ≡ bit)) (value_at b i) (not (bit_at start i)) joined same (bit_at state i) (state, outcome, refl),
+      λ moves.
+          each-joined (λ bit. (state : List Bool) × IsOutcome (network_of netlist) input start state × (bit_at state i ≡ bit)) (value_at b i) (not (bit_at start i)) joined
+          (λ other member. sym member.2 ∙ moves member.0 member.1),
+    )

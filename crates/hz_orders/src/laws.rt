@@ -1,11 +1,11 @@
 //! What holds along runs that keep orders.
-ghost use Rattle.std.specs.Prelude.{◌≡◌, ℕ, Bool, not, List, [], length, take, IsTrue};
+ghost use Rattle.std.specs.Prelude.{◌≡◌, ◌↔◌, ℕ, Bool, not, List, [], take, IsTrue};
 ghost use Rattle.hz_core.specs.declared.kind.Kind.{Kind};
 ghost use Rattle.hz_core.specs.declared.tri.Tri.{Tri};
 ghost use Rattle.hz_core.specs.Gate.{takes};
 ghost use Rattle.hz_core.specs.Ternary.{tri_of, Refines};
 ghost use Rattle.hz_core.specs.Netlist.{Netlist, IsCircuit, IsWhole};
-ghost use Rattle.hz_net.specs.Network.{Driver, network_of, bit_at, value_at, IsVariable};
+ghost use Rattle.hz_net.specs.Network.{network_of, bit_at, value_at, IsVariable};
 ghost use Rattle.hz_net.specs.Passes.{algorithm_a, algorithm_b, IsResult};
 ghost use Rattle.hz_net.specs.Starts.{IsStableStart};
 ghost use Rattle.hz_gmw.specs.Runs.{IsRun};
@@ -21,6 +21,8 @@ ghost use Rattle.hz_orders.specs.Parts.{IsBoundUnder, IsCountUnder};
 ghost use Rattle.hz_orders.specs.Inductive.{IsInductiveUnder};
 ghost use Rattle.hz_orders.specs.Ideal.{FollowsFromIdeal, IsIdeal};
 ghost use Rattle.hz_orders.specs.Outcomes.{IsKeptOutcome, narrowings, told_values};
+
+use hz_cycle::b_is_exact;
 
 /// Along every run from a stable start that keeps the orders, a word of words that are inductive under them covers the history of its
 /// variable.
@@ -84,11 +86,14 @@ pub fn ideal_wires_keep()
         KeepsOrder start steps order }
 {}
 
-/// If Algorithm B ends at the other value at the first wire of an order, the change uses the order.
+/// A change uses an order exactly if Algorithm B ends at the other value at the order's first wire.
 pub fn used_by_b()
-    ensures { (net : List Driver) (input start : List Bool) (a b : List Tri) (order : Order) →
-        length start ≡ length net → IsResult (algorithm_a net input start) a →
-        IsResult (algorithm_b net input a) b →
-        value_at b order.first ≡ tri_of (not (bit_at start order.first)) →
-        IsUsed net input start order }
-{}
+    ensures { (netlist : Netlist) (input start : List Bool) (a b : List Tri) (order : Order) →
+        IsCircuit netlist → IsStableStart netlist start →
+        IsResult (algorithm_a (network_of netlist) input start) a →
+        IsResult (algorithm_b (network_of netlist) input a) b →
+        (value_at b order.first ≡ tri_of (not (bit_at start order.first)))
+        ↔ IsUsed (network_of netlist) input start order }
+{
+    b_is_exact();
+}

@@ -25,6 +25,6 @@ pub use laws::{
     gate_bounds, ideal_wires_keep, inductive_under_orders, kept_outcomes_refine, ordered_covers,
     prefixes_keep, used_by_b,
 };
-pub use order::Order;
+pub use order::{Order, is_used};
 pub use table::{OrderedGate, count_under};
 pub use telling::{OrderedChange, tell_under};
