@@ -1,5 +1,5 @@
 //! What holds along runs that keep orders.
-ghost use Rattle.std.specs.Prelude.{◌≡◌, ◌↔◌, ℕ, Bool, not, List, [], take, IsTrue};
+ghost use Rattle.std.specs.Prelude.{◌≡◌, ◌↔◌, ℕ, Bool, not, List, [], length, take, IsTrue};
 ghost use Rattle.hz_core.specs.declared.kind.Kind.{Kind};
 ghost use Rattle.hz_core.specs.declared.tri.Tri.{Tri};
 ghost use Rattle.hz_core.specs.Gate.{takes};

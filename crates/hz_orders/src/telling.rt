@@ -1,5 +1,5 @@
 //! Words of all variables under orders: told by iteration from no change on, and looked at afterwards.
-ghost use Rattle.std.specs.Prelude.{◌≡◌, ◌≤◌, IfOk, OnOk, IsTrue, length};
+ghost use Rattle.std.specs.Prelude.{◌≡◌, ◌≤◌, false, IfOk, OnOk, IsTrue, length};
 ghost use Rattle.hz_net.specs.Network.{network_of, IsInput, IsVariable};
 ghost use Rattle.hz_net.specs.Starts.{IsStableStart};
 ghost use Rattle.hz_word.specs.Capped.{greatest_cap};
@@ -82,10 +82,21 @@ fn tell_all(alloc: Global, telling: &Telling, told: &mut [Word]) -> Result<(), M
     let mut words = no_changes(alloc, telling)?;
     let order = by_component(alloc, telling, told)?;
     raise_in_order(alloc, telling, &order, words.as_mut_slice())?;
-    if are_inductive(alloc, telling, words.as_slice())? {
-        told.copy_from_slice(words.as_slice());
-    }
+    let better = are_inductive(alloc, telling, words.as_slice())?;
+    replace_if(better, words.as_slice(), told);
     Ok(())
+}
+
+// Writes words over others, if a flag is set.
+fn replace_if(better: bool, words: &[Word], told: &mut [Word])
+    requires { length told.old ≡ length words.now }
+    ensures replaced { IsTrue better → told.new ≡ words.now }
+    ensures kept { better ≡ false → told.new ≡ told.old }
+{
+    if !better {
+        return;
+    }
+    told.copy_from_slice(words);
 }
 
 // Which gates have orders. It saves tables for the others, and nothing rests on it.

@@ -39,7 +39,7 @@ bounds-told-source c =
 pub returns-in-Input-clause-enough : goal.returns-in-Input-clause-enough
 returns-in-Input-clause-enough c =
     let as_input = driven-as c.args.telling.now.net.now c.args.var (Input c.in-Input.number) c.requires.telling.circuit c.requires.telling.whole c.requires.var c.in-Input.ensures in
-    enough-input c.args.telling.now.orders.now (network_of c.args.telling.now.net.now) c.args.telling.now.input.now c.args.telling.now.start.now c.args.telling.now.cap c.args.told.now c.args.var c.in-Input.number c.input_changes.result as_input.0 c.input_changes.ensures
+    enough-input c.args.telling.now.orders.now (network_of c.args.telling.now.net.now) c.args.telling.now.input.now c.args.telling.now.start.now c.args.telling.now.cap c.args.told.now c.args.var c.in-Input.number c.input_changes.result as_input.0 c.input_changes.ensures.value
 
 pub returns-in-Gate-clause-enough : goal.returns-in-Gate-clause-enough
 returns-in-Gate-clause-enough c =

@@ -16,10 +16,9 @@ pub loop-done-preserved : goal.loop-done-preserved
 loop-done-preserved c =
     let inside = c.loop-done-test.true in
     let end = c.len-done-end.ensures in
-    let long = c.len.ensures in (
-      c.most_from-from_here.ensures.letters ∙ c.loop-done.invariant.0,
-      rows-next c.args.gate.now c.args.positions.now c.loop-done.most _ c.loop-done.done c.most_from-from_here.result (omega (arith, inside, end, long)) (omega (arith, inside, end, long)) c.loop-done.invariant.1 c.most_from-from_here.ensures.most c.most_from-from_here.ensures.less,
-    )
+    let long = c.len.ensures in
+    let next = rows-next c.args.gate.now c.args.positions.now c.loop-done.most _ c.loop-done.done c.most_from-from_here.result (omega (arith, inside, end, long)) (omega (arith, inside, end, long)) c.loop-done.invariant.1 c.most_from-from_here.ensures.most c.most_from-from_here.ensures.less in
+    (c.most_from-from_here.ensures.letters ∙ c.loop-done.invariant.0, next.0, next.1)
 
 pub returns : goal.returns
 returns c =
