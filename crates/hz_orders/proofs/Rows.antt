@@ -29,12 +29,6 @@ are-letters_at (pin ∷ pins) (times ∷ position) (letter ∷ letters) long lon
 
 -- one place
 module _ (gate : OrderedGate) (most : List ℕ) (place best : ℕ) (table : HaveTable gate.pins.now) (few : place < length (positions_of gate.pins.now)) (rows : AreMostBehind gate (positions_of gate.pins.now) most (suc place)) (is : IsBest gate (positions_of gate.pins.now) most place (length (positions_of gate.pins.now)) best) where
-  abbrev positions : List (List ℕ)
-  positions = positions_of gate.pins.now
-
-  abbrev changes : List ℕ → List (List ℕ) → ℕ
-  changes position way = way_changes gate.kind gate.pins.now position way
-
   -- the way goes on at a later place
   leads : (next : List ℕ) → IsKeptMove gate.orders.now gate.wire gate.pins.now (get_or (positions_of gate.pins.now) place []) next → (later : ℕ) × (later < length (positions_of gate.pins.now)) × LeadsTo gate (positions_of gate.pins.now) place later × (get_or (positions_of gate.pins.now) later [] ≡ next)
   leads next move =

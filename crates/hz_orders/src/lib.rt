@@ -18,8 +18,6 @@ mod order;
 mod positions;
 mod table;
 mod telling;
-#[cfg(test)]
-mod tests;
 
 pub use laws::{
     gate_bounds, ideal_wires_keep, inductive_under_orders, kept_outcomes_refine, ordered_covers,

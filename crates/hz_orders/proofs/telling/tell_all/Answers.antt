@@ -11,11 +11,11 @@ pub returns : goal.returns
 returns c =
     let same : c.as_slice-2.result.now ≡ c.as_slice.result.now = c.as_slice-2.ensures.value ∙ sym c.as_slice.ensures.value in
     elim (cases_Bool c.in_ok-better.better) [
-      | inl yes ↦
+      | inl is_better ↦
           subst (λ (told : List Word). IsInductiveHolding c.args.telling.now.held.now c.args.telling.now.orders.now (network_of c.args.telling.now.net.now) c.args.telling.now.input.now c.args.telling.now.start.now c.args.telling.now.cap told)
-          (sym (c.replace_if.ensures.replaced yes ∙ same)) (c.in_ok-better.ensures yes)
-      | inr no ↦
+          (sym (c.replace_if.ensures.replaced is_better ∙ same)) (c.in_ok-better.ensures is_better)
+      | inr is_not ↦
           subst (λ (told : List Word). IsInductiveHolding c.args.telling.now.held.now c.args.telling.now.orders.now (network_of c.args.telling.now.net.now) c.args.telling.now.input.now c.args.telling.now.start.now c.args.telling.now.cap told)
-          (sym (c.replace_if.ensures.kept no))
+          (sym (c.replace_if.ensures.kept is_not))
           (inductive-holding c.args.telling.now.held.now c.args.telling.now.orders.now c.args.telling.now.net.now c.args.telling.now.input.now c.args.telling.now.start.now c.args.telling.now.cap c.args.told.now c.requires.telling.circuit c.requires.telling.whole c.requires.told)
     ]
