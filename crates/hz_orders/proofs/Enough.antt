@@ -1,13 +1,11 @@
 -- Numbers of changes that are enough for a variable under orders, by what drives it, and words that are told so far.
-use Rattle.std.proofs.Common.{◌≡◌, ℕ, ◌+◌, ◌<◌, ◌≤◌, Bool, true, false, List, [], ◌∷◌, ◌++◌, length, set, refl, sym, subst, ◌∙◌, arith}
+use Rattle.std.proofs.Common.{◌≡◌, ℕ, ◌+◌, ◌≤◌, Bool, true, false, List, length, set, sym, subst, ◌∙◌, arith}
 use Rattle.std.specs.Prelude.{slice_range}
-use Rattle.std.specs.Bool.{beq}
 use Rattle.std.proofs.lemmas.List.{length-set}
 use Rattle.std.proofs.lemmas.List.Elements.{All-set}
 use Rattle.hz_core.specs.declared.kind.Kind.{Kind}
-use Rattle.hz_lists.specs.Listed.{is_listed}
 use Rattle.hz_lists.proofs.PartLemmas.{length-part, at-part}
-use Rattle.hz_net.specs.Network.{Driver, External, Function, Source, network_of, driver_at, bit_at}
+use Rattle.hz_net.specs.Network.{Driver, External, Function, Source, driver_at, bit_at}
 use Rattle.hz_word.specs.declared.count.Count.{Count}
 use Rattle.hz_word.specs.declared.count.Count.TheVariants.{Exact, Many}
 use Rattle.hz_word.specs.declared.word.Word.{Word}
@@ -22,7 +20,7 @@ use Rattle.hz_orders.specs.declared.order.Order.{Order}
 use Rattle.hz_orders.specs.declared.telling.Telling.{Telling}
 use Rattle.hz_orders.specs.Parts.{IsBoundUnder}
 use Rattle.hz_orders.specs.Inductive.{IsEnoughUnder}
-use Rattle.hz_orders.specs.Telling.{input_count, AreToldSoFar, IsEnoughFor, IsToldEnough}
+use Rattle.hz_orders.specs.Telling.{input_count, AreToldSoFar}
 
 input-enough : (old new : Bool) → IsAtMost (Exact (change_count (input_word old new))) (input_count old new)
 input-enough true true = omega arith

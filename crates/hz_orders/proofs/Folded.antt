@@ -1,6 +1,6 @@
 -- The word of a gate bounds its changes under any orders, so words that are inductive are so under orders; and without orders those that are
 -- inductive under them are inductive.
-use Rattle.std.proofs.Common.{◌≡◌, ℕ, ◌+◌, ◌<◌, ◌≤◌, Bool, true, false, List, [], ◌∷◌, map, length, get_or, All, IsTrue, refl, sym, ap, ◌∙◌, subst, arith}
+use Rattle.std.proofs.Common.{◌≡◌, ℕ, ◌+◌, ◌<◌, Bool, false, List, [], ◌∷◌, map, length, All, IsTrue, refl, sym, ap, ◌∙◌, subst, arith}
 use Rattle.std.specs.Prelude.{slice_range}
 use Rattle.std.proofs.lemmas.Bool.{le-leb}
 use Rattle.std.proofs.lemmas.List.{length-map}
@@ -25,9 +25,9 @@ use Rattle.hz_word.proofs.AtMost.{at_most-trans, at_most-capped, at_most-same, a
 use Rattle.hz_word.proofs.Stretched.{stretched, counted-capped_count, map-capped-stretched, AreWords-stretched}
 use Rattle.hz_free.specs.VariableWords.{input_word}
 use Rattle.hz_free.proofs.Chains.{reads-inside}
-use Rattle.hz_free.specs.Inductive.{told_at, GivesWord, IsToldEnough, IsInductive}
+use Rattle.hz_free.specs.Inductive.{told_at, GivesWord, IsInductive}
 use Rattle.hz_orders.specs.declared.order.Order.{Order}
-use Rattle.hz_orders.specs.Parts.{IsKeepingPart, IsBoundUnder, IsCountUnder}
+use Rattle.hz_orders.specs.Parts.{IsBoundUnder, IsCountUnder}
 use Rattle.hz_orders.specs.Inductive.{IsEnoughUnder, IsInductiveHolding, IsInductiveUnder}
 
 pub fold-bound : (orders : List Order) (kind : Kind) (wire : ℕ) (pins : List Word) (cap : ℕ) (outcome : Word) (bound : Count) → IsTrue (takes kind (length pins)) → IsFold kind pins cap outcome → IsAtMost outcome.changes bound → IsBoundUnder orders kind wire pins cap bound

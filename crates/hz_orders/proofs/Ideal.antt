@@ -5,7 +5,7 @@ use Rattle.std.specs.Bool.{nat_eq}
 use Rattle.std.proofs.lemmas.Bool.{cases_Bool, cases_lt, eqb-true, false≢true}
 use Rattle.hz_core.specs.Netlist.{Netlist, IsCircuit, IsWhole}
 use Rattle.hz_lists.specs.Listed.{is_listed}
-use Rattle.hz_net.specs.Network.{Driver, Source, network_of, driver_at, driver_value, bit_at, excitation, IsUnstable}
+use Rattle.hz_net.specs.Network.{Driver, Source, network_of, driver_at, driver_value, bit_at, IsUnstable}
 use Rattle.hz_net.specs.Starts.{IsStableStart}
 use Rattle.hz_net.specs.Reads.{Reads, IsWireInto}
 use Rattle.hz_net.proofs.Wired.{wired-network_of}

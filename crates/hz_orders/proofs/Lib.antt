@@ -22,3 +22,5 @@ pub mod Ideal
 pub mod Used
 -- Numbers of changes that are enough for a variable under orders, by what drives it, and words that are told so far
 pub mod Enough
+-- What all kept outcomes refine, they refine if an X takes its excitation
+pub mod Narrowed

@@ -1,9 +1,8 @@
 -- Moves of a gate's pins lead from one position to another, and back: each way is a part of walks, and each part of a walk a way.
-use Rattle.std.proofs.Common.{◌≡◌, ◌≢◌, ℕ, zero, suc, ◌+◌, ◌<◌, ◌≤◌, Bool, true, false, not, List, [], ◌∷◌, map, length, take, drop, get_or, All, if◌then◌else◌, IsTrue, refl, sym, ap, ◌∙◌, subst, arith, inl, inr}
+use Rattle.std.proofs.Common.{◌≡◌, ◌≢◌, ℕ, zero, suc, ◌+◌, ◌<◌, ◌≤◌, Bool, true, false, not, List, [], ◌∷◌, map, length, take, drop, get_or, All, if◌then◌else◌, refl, sym, ap, ◌∙◌, subst, arith, inl, inr}
 use Rattle.std.specs.Bool.{beq, nat_lt, nat_le}
 use Rattle.std.specs.Prelude.{◌%◌, ◌==◌}
 use Rattle.std.proofs.lemmas.Bool.{cases_Bool, ltb-true, ltb-false, false≢true}
-use Rattle.std.proofs.lemmas.List.{length-map}
 use Rattle.hz_core.specs.declared.kind.Kind.{Kind}
 use Rattle.hz_core.specs.Gate.{some_pin, gate_value}
 use Rattle.hz_word.specs.declared.count.Count.{Count}
@@ -16,7 +15,7 @@ use Rattle.hz_word.specs.Pairs.{last_after}
 use Rattle.hz_word.proofs.Moves.{after_move-AreWords}
 use Rattle.hz_word.proofs.Letters.{last_after-suc, last_after-zero}
 use Rattle.hz_orders.specs.declared.order.Order.{Order}
-use Rattle.hz_orders.specs.Parts.{advances, IsKeptAt, IsKeepingPart, IsMostUnder}
+use Rattle.hz_orders.specs.Parts.{advances, IsKeptAt, IsMostUnder}
 use Rattle.hz_orders.specs.Positions.{IsExact, AreExact, IsPosition, letters_at, value_of, IsOnward, KeepsAt, IsKeptMove, IsWay, way_changes, IsMostFrom, begin}
 
 -- what is left of a pin's word after it has advanced so often

@@ -1,5 +1,5 @@
 -- All outcome states of runs that keep orders refine what words that are inductive under them narrow to.
-use Rattle.std.proofs.Common.{◌≡◌, ◌≢◌, ℕ, zero, suc, ◌+◌, ◌<◌, ◌≤◌, Bool, true, false, not, cond, List, [], ◌∷◌, ◌++◌, map, length, take, get_or, IsTrue, refl, sym, ap, ◌∙◌, subst, arith, inl, inr}
+use Rattle.std.proofs.Common.{◌≡◌, ◌≢◌, ℕ, zero, suc, ◌<◌, ◌≤◌, Bool, true, false, not, cond, List, [], ◌∷◌, ◌++◌, length, take, IsTrue, refl, sym, ap, ◌∙◌, subst, arith, inl, inr}
 use Rattle.std.specs.List.{AllByRecursion}
 use Rattle.std.specs.Prelude.{◌==◌}
 use Rattle.std.proofs.lemmas.Bool.{cases_Bool, eqb-true}
@@ -35,11 +35,11 @@ use Rattle.hz_orders.specs.Outcomes.{IsKeptOutcome, told_value, told_values, nar
 use Rattle.hz_orders.proofs.Under.{all-bounded, none-held}
 
 -- what holds of each state of a run, by the steps that lead to it
-abbrev HoldsAlong : (List Bool → Type 0) → List Bool → List (List ℕ) → Type 0
+abbrev pub HoldsAlong : (List Bool → Type 0) → List Bool → List (List ℕ) → Type 0
 HoldsAlong P state steps = (k : ℕ) → P (end_of state (take k steps))
 
 -- it holds along the rest
-holds-rest : (P : List Bool → Type 0) (state : List Bool) (lead more : List (List ℕ)) → HoldsAlong P state (lead ++ more) → HoldsAlong P (end_of state lead) more
+pub holds-rest : (P : List Bool → Type 0) (state : List Bool) (lead more : List (List ℕ)) → HoldsAlong P state (lead ++ more) → HoldsAlong P (end_of state lead) more
 holds-rest P state [] more along = along
 holds-rest P state (flips ∷ lead) more along = holds-rest P (state_after flips state) lead more (λ k. along (suc k))
 
@@ -85,7 +85,7 @@ module _ (net : List Driver) (input : List Bool) (i : ℕ) (inside : i < length 
       ((has.0, λ same. not-itself bit (sym has.0 ∙ (same ∙ driven 0))), waits (state_after flips state) steps more (λ k. driven (suc k)) has.1)
 
   -- round a nontransient cycle and onward it has the bit
-  has-throughout : (first : List Bool) (round onward : List (List ℕ)) → length first ≡ length net → IsNontransient net input first round → IsRun net input first (round ++ onward) → IsDriven first (round ++ onward) → HoldsAlong (λ now. bit_at now i ≡ bit) first (round ++ onward)
+  pub has-throughout : (first : List Bool) (round onward : List (List ℕ)) → length first ≡ length net → IsNontransient net input first round → IsRun net input first (round ++ onward) → IsDriven first (round ++ onward) → HoldsAlong (λ now. bit_at now i ≡ bit) first (round ++ onward)
   has-throughout first round onward long cycle run driven = stays first (round ++ onward) long run driven began
     where
       back : (member : List Bool) → IsCut first round member → bit_at member i ≡ bit → bit_at first i ≡ bit
@@ -122,7 +122,7 @@ length-narrowings net input first (suc round) long =
     length-narrow_each (narrowings net input first round) (excitations net input (narrowings net input first round)) (before ∙ sym (length-excitations net input (narrowings net input first round))) ∙ before
 
 -- a narrowed value admits a bit that its value admits, and that equals each bit that the excitation is
-admits-narrow : (value asked : Tri) (here : Bool) → IsTrue (admits value here) → ((bit : Bool) → asked ≡ tri_of bit → here ≡ bit) → IsTrue (admits (narrow_of value asked) here)
+pub admits-narrow : (value asked : Tri) (here : Bool) → IsTrue (admits value here) → ((bit : Bool) → asked ≡ tri_of bit → here ≡ bit) → IsTrue (admits (narrow_of value asked) here)
 admits-narrow Zero asked here admitted known = admitted
 admits-narrow One asked here admitted known = admitted
 admits-narrow Unknown Zero here admitted known = rw (known false refl) refl
@@ -166,7 +166,7 @@ unchanged f state [] none = refl
 unchanged f state (flips ∷ steps) none =
     unchanged f (state_after flips state) steps (omega (arith, none)) ∙ sym (same-bits (f state) (f (state_after flips state)) (omega (arith, none)))
 
-admits-unknown : (bit : Bool) → IsTrue (admits Unknown bit)
+pub admits-unknown : (bit : Bool) → IsTrue (admits Unknown bit)
 admits-unknown true = refl
 admits-unknown false = refl
 
@@ -179,7 +179,7 @@ admits-told letter here (Exact c) n below same =
 admits-told letter here Many n below same = admits-unknown here
 
 module _ (orders : List Order) (netlist : Netlist) (circuit : IsCircuit netlist) (netlist_whole : IsWhole netlist) (input start : List Bool) (begins : IsStableStart netlist start) (cap : ℕ) (told : List Word) (is : IsInductiveUnder orders (network_of netlist) input start cap told) where
-  told-refined : (steps : List (List ℕ)) → IsRun (network_of netlist) input start steps → Keeps orders start steps → HoldsAlong (λ now. Refines now (told_values told)) start steps
+  pub told-refined : (steps : List (List ℕ)) → IsRun (network_of netlist) input start steps → Keeps orders start steps → HoldsAlong (λ now. Refines now (told_values told)) start steps
   told-refined steps run keeps k =
       let now_long : length (end_of start (take k steps)) ≡ length (network_of netlist) = length-end_of start (take k steps) ∙ begins.long in
       let values_long : length (told_values told) ≡ length (network_of netlist) = length-map told told_value ∙ is.long in

@@ -1,12 +1,10 @@
 -- The table, place by place: the most from a place on follows from what is told of the later ones.
-use Rattle.std.proofs.Common.{◌≡◌, ◌≢◌, ◌⊎◌, ℕ, zero, suc, ◌+◌, ◌-◌, ◌*◌, ◌<◌, ◌≤◌, Bool, true, false, List, [], ◌∷◌, ◌++◌, length, map, max, take, drop, set, get_or, refl, sym, ap, ◌∙◌, subst, arith, inl, inr}
+use Rattle.std.proofs.Common.{◌≡◌, ◌≢◌, ◌⊎◌, ℕ, zero, suc, ◌+◌, ◌-◌, ◌*◌, ◌<◌, ◌≤◌, Bool, true, false, List, [], ◌∷◌, ◌++◌, length, map, max, take, set, get_or, refl, sym, ap, ◌∙◌, subst, arith, inl, inr}
 use Rattle.std.proofs.lemmas.Bool.{cases_lt, eq-eqb, false≢true}
 use Rattle.std.specs.Prelude.{◌==◌, slice_range, Result, Ok, Err, IfOk, Option, Some, None, IfSome}
 use Rattle.std.proofs.lemmas.List.{append_assoc, map-append, take_all, length-set, get_or-set_same, get_or-set_other}
 use Rattle.std.proofs.Math.Seq.{take-length, take-suc}
 use Rattle.std.proofs.Math.Nat.{suc-mul, mul-suc}
-use Rattle.hz_word.specs.declared.count.Count.{Count}
-use Rattle.hz_word.specs.declared.count.Count.TheVariants.{Exact, Many}
 use Rattle.hz_word.specs.declared.word.Word.{Word}
 use Rattle.hz_word.specs.Walk.{change_between}
 use Rattle.hz_word.specs.Pairs.{last_after, constant_word}

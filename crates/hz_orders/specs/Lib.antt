@@ -20,6 +20,7 @@
 -- IsMostFrom orders kind wire pins position most: how often a gate changes at most along the ways from a position
 -- AreToldSoFar telling told: words in the making, one for each variable
 -- IsToldEnough telling told i: the word of variable i is enough, or the variable is held
+-- CoversKept change values: ternary values that all states round the cycles of kept outcomes refine
 
 pub mod Orders
 pub mod Parts
@@ -29,3 +30,4 @@ pub mod Ideal
 pub mod Positions
 pub mod Tables
 pub mod Telling
+pub mod Ends

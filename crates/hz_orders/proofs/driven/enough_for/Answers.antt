@@ -1,5 +1,5 @@
 -- By what the variable is.
-use Rattle.std.proofs.Common.{arith, ◌∙◌, ◌+◌, sym, subst, length, IsTrue, slice_range}
+use Rattle.std.proofs.Common.{arith, ◌∙◌, sym, subst, length, IsTrue}
 use Rattle.hz_core.specs.Gate.{takes}
 use Rattle.hz_core.specs.Netlist.{gate_at}
 use Rattle.hz_net.specs.Network.{network_of}
@@ -7,7 +7,6 @@ use Rattle.hz_net.specs.Variables.{first_wire}
 use Rattle.hz_net.specs.declared.variable.VarKind.TheVariants.{Input, Gate as GateVariable, Wire as WireVariable}
 use Rattle.hz_lists.proofs.PartLemmas.{length-part}
 use Rattle.hz_free.proofs.NextWord.{driven-as, driven-at}
-use Rattle.hz_word.specs.Pairs.{constant_word}
 use Rattle.hz_orders.proofs.Rows.{if-ok}
 use Rattle.hz_orders.proofs.Enough.{counted-part, enough-input, enough-wire, enough-gate}
 use Rattle.hz_orders.proofs.driven.enough_for.Goals as goal

@@ -1,5 +1,4 @@
 -- The order at the place is not kept.
-use Rattle.std.proofs.Common.{arith}
 use Rattle.hz_orders.proofs.table.keeps.Goals as goal
 
 pub returns-then-not-keeps_one-clause-others : goal.returns-then-not-keeps_one-clause-others

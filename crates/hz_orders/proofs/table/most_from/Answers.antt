@@ -1,6 +1,6 @@
 -- One place more, and all.
 use Rattle.std.proofs.Common.{◌∙◌, ◌+◌, suc, ◌<◌, length, sym, arith}
-use Rattle.hz_orders.proofs.Rows.{row-length, best-none, best-more, best-all, most-of}
+use Rattle.hz_orders.proofs.Rows.{row-length, best-more, best-all, most-of}
 use Rattle.hz_orders.proofs.table.most_from.Goals as goal
 
 pub most_through-more-requires-clause-before : goal.most_through-more-requires-clause-before

@@ -1,8 +1,8 @@
 -- One place more, and all.
-use Rattle.std.proofs.Common.{◌≡◌, ◌≤◌, ◌-◌, ◌∙◌, suc, List, ℕ, length, sym, subst, arith, slice_index_or}
-use Rattle.hz_orders.specs.Positions.{IsMostFrom, begin, positions_of}
+use Rattle.std.proofs.Common.{◌≡◌, ◌≤◌, ◌-◌, ◌∙◌, List, ℕ, length, sym, subst, arith, slice_index_or}
+use Rattle.hz_orders.specs.Positions.{IsMostFrom, begin}
 use Rattle.hz_orders.proofs.Sorted.{some-positions}
-use Rattle.hz_orders.proofs.Rows.{rows-none, rows-from, rows-next, most-begin}
+use Rattle.hz_orders.proofs.Rows.{rows-from, rows-next, most-begin}
 use Rattle.hz_orders.proofs.table.most_from_begin.Goals as goal
 
 pub most_from-from_here-requires-clause-most : goal.most_from-from_here-requires-clause-most
