@@ -25,6 +25,11 @@ const FLIP_FLOP: &str =
     "INPUT(clock)\nINPUT(d)\nINPUT(clear_n)\nsb = NAND(rb, s)\ns = NAND(sb, clock, clear_n)\n\
      r = NAND(s, clock, rb)\nrb = NAND(r, d, clear_n)\nq = NAND(s, qb)\nqb = NAND(q, r, clear_n)\n";
 
+// A flip-flop of two latches. The wires of n5 are the variables 22 and 23: of dn and cn.
+const LATCHES: &str =
+    "INPUT(d)\nINPUT(clk)\nn4 = NOT(dn)\ncn = NOT(clk)\nn1 = NOT(d)\nq_bar = NAND(q, n6)\nq = NAND(q_bar, n5)\n\
+     n6 = NAND(n4, cn)\nn5 = NAND(dn, cn)\nq_bar_n = NAND(dn, n3)\ndn = NAND(q_bar_n, n2)\nn3 = NAND(n1, clk)\nn2 = NAND(d, clk)\n";
+
 // A pulse of one source, by the wires 3 and 4, which reconverges.
 const TWICE: &str = "INPUT(x)\nm = XOR(x, x)\nz = OR(m, m)\n";
 
@@ -159,6 +164,20 @@ fn words_under_orders(rt: HostRuntime) -> Result<(), Fail> {
     assert_eq!(rt;
         kept.as_str(),
         "10 1, 00 0, 11 0, 10 1, 01 1, 11 0, 11 0, 11 0, 00 0, "
+    );
+    // The first latch opens before the second has closed, unless the clock is faster at n5.
+    let rises =
+        "runs 1\nstart d=1 clk=0 n4=1 cn=1 n1=0 q_bar=1 q=0 n6=0 n5=1 q_bar_n=1 dn=0 n3=1 n2=1\n\
+                 input d=1 clk=1\nend";
+    let open = words(rt.alloc(), LATCHES, rises, &[])?;
+    assert_eq!(rt;
+        open.as_str(),
+        "11 0, 01 1, 10 1, 10 1, 00 0, 1X -, 0X -, 01 1, 11 2, 10 1, 01 1, 11 0, 10 1, "
+    );
+    let closed = words(rt.alloc(), LATCHES, rises, &[order(23, 22)])?;
+    assert_eq!(rt;
+        closed.as_str(),
+        "11 0, 01 1, 10 1, 10 1, 00 0, 11 0, 00 0, 01 1, 11 0, 10 1, 01 1, 11 0, 10 1, "
     );
     let pulse = "runs 1\nstart x=0 m=0 z=0\ninput x=1\nend";
     let free = words(rt.alloc(), TWICE, pulse, &[])?;
