@@ -5,6 +5,7 @@
 //! |---|---|
 //! | `edges` | how often nodes change, from above and from below |
 //! | `gates` | the tables of the gates, and the canonical pattern |
+//! | `orders` | how often nodes change under orders of wires, and what they come to |
 //! | `passes` | Algorithms A and B, and the runs that show what they find |
 //! | `replays` | what a replayer knows of each state of a run |
 //! | `words` | feedback cycles, and the words of the other variables |
@@ -14,6 +15,8 @@
 mod edges;
 #[cfg(test)]
 mod gates;
+#[cfg(test)]
+mod orders;
 #[cfg(test)]
 mod passes;
 #[cfg(test)]

@@ -1,0 +1,9 @@
+-- Each order so far is kept.
+use Rattle.std.proofs.Common.{ℕ, ◌<◌, length, slice_index_or}
+use Rattle.hz_orders.specs.Parts.{IsKeptAt}
+use Rattle.hz_orders.specs.declared.order.Order.{Order}
+use Rattle.hz_orders.proofs.table.keeps.Given as goal
+
+abbrev pub invariant-loop-place : goal.invariant-loop-place
+invariant-loop-place l =
+    (i : ℕ) (none : Order) → i < l.place → IsKeptAt l.gate.wire (length l.position) (λ pin. slice_index_or l.position pin 0) (slice_index_or l.gate.orders.now i none)

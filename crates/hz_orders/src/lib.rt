@@ -1,0 +1,31 @@
+//! Orders between the wires of a gate: how often each variable may change along the runs that keep them.
+//!
+//! | Module | What lives in it |
+//! |---|---|
+//! | `order` | [`Order`]: the second wire does not change for the n-th time before the first has changed |
+//! | `table` | [`count_under`]: how often a gate changes at most along what keeps its orders |
+//! | `positions` | a list of positions |
+//! | `telling` | [`tell_under`]: words of all variables under orders |
+//! | `driven` | how many changes are enough for a variable, and whether what it is told is enough |
+//! | `component` | the order in which words are raised |
+//! | `ends` | [`ends_under`]: what a change comes to under orders |
+//! | `laws` | what holds along runs that keep orders |
+#![tactic(auto)]
+
+mod component;
+mod driven;
+mod ends;
+mod laws;
+mod order;
+mod positions;
+mod table;
+mod telling;
+
+pub use ends::ends_under;
+pub use laws::{
+    gate_bounds, ideal_wires_keep, inductive_under_orders, kept_outcomes_refine, ordered_covers,
+    prefixes_keep, used_by_b,
+};
+pub use order::{Order, is_used};
+pub use table::{OrderedGate, count_under};
+pub use telling::{OrderedChange, tell_under};
