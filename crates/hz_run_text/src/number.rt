@@ -4,8 +4,8 @@ ghost use Rattle.std.specs.Prelude.{◌≡◌, ◌<◌, IsTrue, MatchOption};
 ghost use Rattle.std.specs.List.{list_all};
 ghost use Rattle.hz_text.specs.Decimal.{is_digit, is_decimal, number_by, count_of};
 
-// Whether the word is a decimal number without leading zero.
-pub(crate) fn is_decimal(word: &[u8]) -> bool
+/// Whether the word is a decimal number without leading zero.
+pub fn is_decimal(word: &[u8]) -> bool
     ensures { result ≡ is_decimal word.now }
 {
     let [first, later @ ..] = word else {
@@ -21,8 +21,8 @@ fn are_digits(word: &[u8]) -> bool
     word.iter().all(|byte| byte.is_ascii_digit())
 }
 
-// The number that digits stand for, if it is not above the most.
-pub(crate) fn number_within(digits: &[u8], most: u32) -> Option<u32>
+/// The number that digits stand for, if it is not above the most.
+pub fn number_within(digits: &[u8], most: u32) -> Option<u32>
     requires { IsTrue (list_all is_digit digits.now) }
     ensures { MatchOption result (most < number_by digits.now)
         (λ number. number ≡ number_by digits.now) }

@@ -46,8 +46,8 @@ impl Script {
         Ok(Script::of(alloc, start))
     }
 
-    // A script with this start, and no change.
-    pub(crate) fn of(alloc: Global, start: Vec<Option<bool>>) -> Script
+    /// A script that lists these nodes with their bits, and has no change.
+    pub fn of(alloc: Global, start: Vec<Option<bool>>) -> Script
         ensures { result ≡ record { start = start.items; changes = [] } }
     {
         Script {
