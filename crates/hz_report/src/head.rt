@@ -32,8 +32,8 @@ pub fn write_head<K: Sink>(writer: &mut Writer<'_, K>, net: &Net, free: &Free, s
     write_start(writer, net, start);
 }
 
-// Gives how many inputs, gates, wires and variables there are.
-pub(crate) fn write_netlist<K: Sink>(writer: &mut Writer<'_, K>, net: &Net)
+/// Gives how many inputs, gates, wires and variables there are.
+pub fn write_netlist<K: Sink>(writer: &mut Writer<'_, K>, net: &Net)
     ensures gave { Writes K.output K.faults (netlist_line net.now) writer.old writer.new }
     ensures none_waits { NoneWaits writer.new }
 {
@@ -53,8 +53,8 @@ pub(crate) fn write_netlist<K: Sink>(writer: &mut Writer<'_, K>, net: &Net)
     ]);
 }
 
-// Gives a line for each feedback cycle.
-fn write_feedback<K: Sink>(writer: &mut Writer<'_, K>, net: &Net, free: &Free)
+/// Gives a line for each feedback cycle.
+pub fn write_feedback<K: Sink>(writer: &mut Writer<'_, K>, net: &Net, free: &Free)
     requires part { IsFreePart net.now free.now }
     requires none_waits { NoneWaits writer.old }
     ensures gave { Writes K.output K.faults (flat_map (feedback_line net.now) free.now.cycles)
@@ -91,8 +91,8 @@ fn write_variables<K: Sink>(writer: &mut Writer<'_, K>, net: &Net, variables: &[
     }
 }
 
-// Gives the value of each node at the start.
-fn write_start<K: Sink>(writer: &mut Writer<'_, K>, net: &Net, start: &[bool])
+/// Gives the value of each node at the start.
+pub fn write_start<K: Sink>(writer: &mut Writer<'_, K>, net: &Net, start: &[bool])
     requires { IsState net.now start.now }
     ensures gave { Writes K.output K.faults (start_line net.now start.now) writer.old writer.new }
     ensures none_waits { NoneWaits writer.new }

@@ -21,7 +21,7 @@ mod rows;
 mod summary;
 
 pub use change::{write_assigned, write_change, write_stopped};
-pub use head::write_head;
+pub use head::{write_feedback, write_head, write_netlist, write_start};
 pub use plate::Plate;
 pub use rows::shown_count;
 pub use summary::write_summary;
