@@ -1,0 +1,23 @@
+-- Words, with their arguments, in the order in which one needs them.
+--
+-- FollowsFrom net input start wire order: every run along which the wire is ideal keeps the order
+-- AreUsed net input start assumptions used idle: the orders that a change uses, and how many are idle
+-- AreEdgesUnder orders net input start ends kept edges: what is told of edges is right of all runs that keep the orders
+-- ChangeOf: what is found of a change
+-- IsRightChange netlist cap assumptions found: it is right
+-- IsNextStart netlist ends next, IsStopper netlist input ends var: where the next change starts, or what stops it
+-- AreEdgeAnalyses netlist cap assumptions start changes analyses: what changes come to, one after the other
+-- found_text netlist show assumptions number change found: the lines of one change
+-- IsEdgeReport options netlist starts script text: the report of a script: all that is found in it is right
+-- ChangesExist: every change comes to something
+
+pub mod UsedOrders
+pub mod OrderedEdges
+pub mod EdgeChanges
+pub mod EdgeText
+pub mod EdgeReports
+pub mod ChangesExist
+pub mod Room
+pub mod Using
+pub mod Going
+pub mod StartFaults

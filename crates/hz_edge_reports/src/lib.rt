@@ -1,0 +1,26 @@
+//! The job `edges`: how often each variable may change in the changes of a script, along all runs or along those that keep assumptions
+//! of time.
+//!
+//! | Module | What lives in it |
+//! |---|---|
+//! | `job` | [`Edges`]: the job, from the script on |
+//! | `reporting` | the report of a script's parts and changes |
+//! | `finding` | what is found of a change |
+//! | `using` | the orders that a change uses |
+//! | `settling` | where the next change starts |
+//! | `room` | [`ChangeRoom`]: the memory in which a change is made |
+//! | `lines` | the lines of one change |
+//! | `existence` | the law that every change comes to something |
+#![tactic(auto, using(hz_write::proofs::Writers::writes_then, hz_write::proofs::Writers::writes_nothing))]
+
+mod existence;
+mod finding;
+mod job;
+mod lines;
+mod reporting;
+mod room;
+mod settling;
+mod using;
+
+pub use existence::changes_exist;
+pub use job::Edges;
