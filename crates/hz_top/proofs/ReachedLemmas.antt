@@ -18,10 +18,13 @@ use Rattle.hz_refusal.specs.Second.{IsToldLine}
 use Rattle.hz_refusal.proofs.Flushed.{short-flushed, other-flushed}
 use Rattle.hz_formats.specs.Netlists.{IsNetlistText, IsToldNetlistLine}
 use Rattle.hz_words.specs.declared.job.Task.{Task}
+use Rattle.hz_words.specs.declared.job.Task.TheVariants.{Analyse, Edges, Explore, Split, Replay, Convert, Vcd, Batch, Reset}
 use Rattle.hz_words.specs.Job.{JobOf, OnFiles, Demo}
 use Rattle.hz_top.specs.declared.reached.Reached.{Reached}
 use Rattle.hz_top.specs.Outcome.{Observation, CountsStay}
-use Rattle.hz_top.specs.Reached.{faults_of, IsLineOfFirst, IsLineOnCircuit, IsLineOfSecond, ComesTo, IsReached}
+use Rattle.hz_timing.specs.declared.fault.TimedFault.{TimedFault}
+use Rattle.hz_timing.specs.Timed.{IsToldTimedLine}
+use Rattle.hz_top.specs.Reached.{tells_line, IsLineOfFirst, IsLineOnCircuit, IsLineOfSecond, ComesTo, IsReached}
 
 -- what follows of what is told
 if-told : {A : Type 0} (told : Option A) (P Q : A → Type 0) → ((some : A) → P some → Q some) → IfSome told P → IfSome told Q
@@ -60,9 +63,9 @@ first-reached told task options first second own ends (Some at) line same (place
 
 -- the line of the second file, on the circuit of the first one
 pub second-line : (told : Observation) (task : Task) (first second bytes : List ℕ) (netlist : Netlist) (own : Status) (line : ℕ) → IfSome told.held (λ bytes_of. bytes ≡ bytes_of first)
-    → IsNetlistText first bytes netlist → IsLineOnCircuit told.held (faults_of task netlist) second own line → IsLineOfSecond told task first second own line
+    → IsNetlistText first bytes netlist → IsLineOnCircuit told.held (tells_line task netlist) second own line → IsLineOfSecond told task first second own line
 second-line told task first second bytes netlist own line is text of =
-    of-file told.held first bytes (λ bytes. (netlist : Netlist) × IsNetlistText first bytes netlist × IsLineOnCircuit told.held (faults_of task netlist) second own line) is (netlist, text, of)
+    of-file told.held first bytes (λ bytes. (netlist : Netlist) × IsNetlistText first bytes netlist × IsLineOnCircuit told.held (tells_line task netlist) second own line) is (netlist, text, of)
 
 -- memory ran out when the words were read
 pub wordless : (told : Observation) (asked : Option JobOf) → IsReached told asked status.Memory None
@@ -86,12 +89,28 @@ module _ (flush : Result (Unit {0}) PutFault) (own : Status) where
   text-flushed holds line (inr (inl clear, none)) = inr (inl clear, none)
   text-flushed holds line (inr (inr short, none)) = inr (inr (short-flushed flush own short), none)
 
-  circuit-flushed : (held : Option (List ℕ → List ℕ)) (holds : List ℕ → TextFault → Type 0) (second : List ℕ) (line : ℕ) → IsLineOnCircuit held holds second own line
-      → IsLineOnCircuit held holds second (status_flushed flush own) line
-  circuit-flushed held holds second line (inl (other, none)) = inl (other-flushed status.Text (λ is. cc) (λ is. cc) flush own other, none)
-  circuit-flushed held holds second line (inr of) =
-      inr (if-told held (λ bytes_of. IsToldLine (holds (bytes_of second)) own line) (λ bytes_of. IsToldLine (holds (bytes_of second)) (status_flushed flush own) line)
-      (λ bytes_of. text-flushed (holds (bytes_of second)) line) of)
+  timed-flushed : (holds : TimedFault → Type 0) (line : ℕ) → IsToldTimedLine holds own line → IsToldTimedLine holds (status_flushed flush own) line
+  timed-flushed holds line (inl least) = inl least
+  timed-flushed holds line (inr (inl clear, none)) = inr (inl clear, none)
+  timed-flushed holds line (inr (inr short, none)) = inr (inr (short-flushed flush own short), none)
+
+  task-flushed : (task : Task) (netlist : Netlist) (text : List ℕ) (line : ℕ) → tells_line task netlist text own line → tells_line task netlist text (status_flushed flush own) line
+  task-flushed Analyse netlist text line = text-flushed _ line
+  task-flushed Edges netlist text line = timed-flushed _ line
+  task-flushed Explore netlist text line = text-flushed _ line
+  task-flushed Split netlist text line = text-flushed _ line
+  task-flushed Replay netlist text line = text-flushed _ line
+  task-flushed Convert netlist text line = text-flushed _ line
+  task-flushed Vcd netlist text line = text-flushed _ line
+  task-flushed Batch netlist text line = text-flushed _ line
+  task-flushed Reset netlist text line = text-flushed _ line
+
+  circuit-flushed : (held : Option (List ℕ → List ℕ)) (task : Task) (netlist : Netlist) (second : List ℕ) (line : ℕ) → IsLineOnCircuit held (tells_line task netlist) second own line
+      → IsLineOnCircuit held (tells_line task netlist) second (status_flushed flush own) line
+  circuit-flushed held task netlist second line (inl (other, none)) = inl (other-flushed status.Text (λ is. cc) (λ is. cc) flush own other, none)
+  circuit-flushed held task netlist second line (inr of) =
+      inr (if-told held (λ bytes_of. tells_line task netlist (bytes_of second) own line) (λ bytes_of. tells_line task netlist (bytes_of second) (status_flushed flush own) line)
+      (λ bytes_of. task-flushed task netlist (bytes_of second) line) of)
 
   comes-flushed : (told : Observation) (task : Task) (first second : List ℕ) (at : Reached) → ComesTo told task first second own at → ComesTo told task first second (status_flushed flush own) at
   comes-flushed told task first second at (inl (place, name, stay, of)) = inl (place, name, stay, first-flushed told first at.line of)
@@ -99,9 +118,9 @@ module _ (flush : Result (Unit {0}) PutFault) (own : Status) where
       inr (
         place,
         name,
-        if-told told.held (λ bytes_of. (netlist : Netlist) × IsNetlistText first (bytes_of first) netlist × IsLineOnCircuit told.held (faults_of task netlist) second own at.line)
-            (λ bytes_of. (netlist : Netlist) × IsNetlistText first (bytes_of first) netlist × IsLineOnCircuit told.held (faults_of task netlist) second (status_flushed flush own) at.line)
-            (λ bytes_of read. (read.0, read.1, circuit-flushed told.held (faults_of task read.0) second at.line read.2)) of,
+        if-told told.held (λ bytes_of. (netlist : Netlist) × IsNetlistText first (bytes_of first) netlist × IsLineOnCircuit told.held (tells_line task netlist) second own at.line)
+            (λ bytes_of. (netlist : Netlist) × IsNetlistText first (bytes_of first) netlist × IsLineOnCircuit told.held (tells_line task netlist) second (status_flushed flush own) at.line)
+            (λ bytes_of read. (read.0, read.1, circuit-flushed told.held task read.0 second at.line read.2)) of,
       )
 
   -- the last flush changes nothing of how far a call came

@@ -1,5 +1,6 @@
 -- How a task ends on a second text of which nothing is to be refused.
-use Rattle.std.proofs.Common.{◌≡◌, ◌∙◌, sym, ℕ, inl, inr, Bool, List, codes}
+use Rattle.std.proofs.Common.{◌≡◌, ◌∙◌, sym, ℕ, inl, inr, Bool, List, [], ◌∷◌, All, codes}
+use Rattle.std.proofs.lemmas.List.Elements.{All-head, All-tail}
 use Rattle.hz_core.specs.Netlist.{Netlist}
 use Rattle.hz_gen.specs.Starts.{IsCompletable}
 use Rattle.hz_options.specs.declared.options.Options.{Options}
@@ -19,7 +20,9 @@ use Rattle.hz_refusal.specs.declared.status.Status.{Status}
 use Rattle.hz_refusal.specs.declared.status.Status.TheVariants as status
 use Rattle.hz_patterns.specs.Batches.{IsBatchOutcome}
 use Rattle.hz_changes.specs.Reports.{Reports}
-use Rattle.hz_edges.specs.EdgeReports.{ReportsEdges}
+use Rattle.hz_edge_reports.specs.EdgeReports.{ReportsEdges}
+use Rattle.hz_timing.specs.TimedValue.{TimedScriptOf}
+use Rattle.hz_timing.specs.Timed.{AreAcceptedStarts, FirstStartRefused, IsGoodTimed, OfTimed, TimedStarted}
 use Rattle.hz_explore.specs.ExploreReports.{ReportsExploring}
 use Rattle.hz_patterns.specs.Resets.{IsResetOutcome}
 use Rattle.hz_replay.specs.RunTexts.{IsConvertOutcome, EndsReplay}
@@ -44,6 +47,22 @@ script-ends : (judge : Netlist → List Bool → List (List (ℕ × Bool)) → S
 script-ends judge done netlist value wanted own said good (inl (own_is, inl (gate, opened, line))) = absurd (good.0.closed gate opened)
 script-ends judge done netlist value wanted own said good (inl (own_is, inr (gate, unstable, line))) = absurd (good.0.stable gate unstable)
 script-ends judge done netlist value wanted own said good (inr (start, accepted, says)) = done netlist start value.changes own said says ∙ sym good.1
+
+-- no start of these scripts is refused, if all can be completed
+none-refused : (netlist : Netlist) (parts : List ScriptOf) (said : List ℕ) → All (λ part. IsCompletable netlist part.start) parts → FirstStartRefused netlist parts said → ⊥
+none-refused netlist [] said good refused = refused
+none-refused netlist (part ∷ parts) said good (inl (inl (gate, opened, line))) = (All-head good).closed gate opened
+none-refused netlist (part ∷ parts) said good (inl (inr (gate, unstable, line))) = (All-head good).stable gate unstable
+none-refused netlist (part ∷ parts) said good (inr (start, accepted, later)) = none-refused netlist parts said (All-tail good) later
+
+-- a script with assumptions of time comes to what the judge says, which has no other status
+timed-ends : (judge : Netlist → List (List Bool) → TimedScriptOf → Status → List ℕ → Type 0)
+    → ((netlist : Netlist) (starts : List (List Bool)) (script : TimedScriptOf) (own : Status) (said : List ℕ) → judge netlist starts script own said → own ≡ status.Done)
+    → (netlist : Netlist) (text : List ℕ) (wanted own : Status) (said : List ℕ) → IsGoodTimed (λ netlist script own. All (λ part. IsCompletable netlist part.start) script.parts × (own ≡ status.Done)) netlist text wanted
+    → OfTimed (TimedStarted judge) netlist text own said → own ≡ wanted
+timed-ends judge done netlist text wanted own said good (inl (fault, least, says)) = absurd (good.faultless fault least.stands)
+timed-ends judge done netlist text wanted own said good (inr (value, faultless, is, inl (own_is, refused))) = absurd (none-refused netlist value.parts said (good.each value is).0 refused)
+timed-ends judge done netlist text wanted own said good (inr (value, faultless, is, inr (starts, accepted, says))) = done netlist starts value own said says ∙ sym (good.each value is).1
 
 -- a replay comes to the one of both ends that it has, where the judge of runs that are accepted has no other status
 replay-ends : (judge : Netlist → RunTextOf → Status → List ℕ → Type 0)
@@ -70,8 +89,7 @@ reset-ends netlist value wanted own said is says = says.0 ∙ sym is
 pub text-ends : (options : Options) (task : Task) (netlist : Netlist) (text : List ℕ) (wanted own : Status) (said : List ℕ) → good_of task netlist text wanted → comes_of options task netlist text own said → own ≡ wanted
 text-ends options Analyse =
     good-ends (codes "script") HasScriptFault IsValue (Started (Reports options)) (λ netlist script own. IsCompletable netlist script.start × (own ≡ status.Done)) (script-ends (Reports options) (λ netlist start changes own said says. says.0))
-text-ends options Edges =
-    good-ends (codes "script") HasScriptFault IsValue (Started (ReportsEdges options)) (λ netlist script own. IsCompletable netlist script.start × (own ≡ status.Done)) (script-ends (ReportsEdges options) (λ netlist start changes own said says. says.0))
+text-ends options Edges = timed-ends (ReportsEdges options) (λ netlist starts script own said says. says.0)
 text-ends options Explore =
     good-ends (codes "script") HasScriptFault IsValue (Started (ReportsExploring options)) (λ netlist script own. IsCompletable netlist script.start × (own ≡ status.Done)) (script-ends (ReportsExploring options) (λ netlist start changes own said says. says.0))
 text-ends options Split =

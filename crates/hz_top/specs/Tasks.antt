@@ -1,5 +1,5 @@
 -- The tasks on two files: what the second text comes to, and when which status must come.
-use Rattle.std.specs.Prelude.{◌≡◌, ℕ, List}
+use Rattle.std.specs.Prelude.{◌≡◌, ℕ, List, All}
 use Rattle.hz_core.specs.Netlist.{Netlist}
 use Rattle.hz_gen.specs.Starts.{IsCompletable}
 use Rattle.hz_options.specs.declared.options.Options.{Options}
@@ -15,7 +15,8 @@ use Rattle.hz_refusal.specs.declared.status.Status.{Status}
 use Rattle.hz_refusal.specs.declared.status.Status.TheVariants.{Done}
 use Rattle.hz_patterns.specs.Batches.{IsBatchOutcome}
 use Rattle.hz_changes.specs.Reports.{Reports}
-use Rattle.hz_edges.specs.EdgeReports.{ReportsEdges}
+use Rattle.hz_timing.specs.Timed.{OfTimed, TimedStarted, IsGoodTimed}
+use Rattle.hz_edge_reports.specs.EdgeReports.{ReportsEdges}
 use Rattle.hz_explore.specs.ExploreReports.{ReportsExploring}
 use Rattle.hz_patterns.specs.Resets.{IsResetOutcome}
 use Rattle.hz_replay.specs.RunTexts.{IsConvertOutcome, EndsReplay}
@@ -27,7 +28,7 @@ use Rattle.hz_replay.specs.Verdict.{IsReplayOutcome}
 -- what the second text comes to
 abbrev pub comes_of : Options → Task → Netlist → List ℕ → Status → List ℕ → Type 0
 comes_of options Analyse = OfScript (Started (Reports options))
-comes_of options Edges = OfScript (Started (ReportsEdges options))
+comes_of options Edges = OfTimed (TimedStarted (ReportsEdges options))
 comes_of options Explore = OfScript (Started (ReportsExploring options))
 comes_of options Split = OfScript (Started (SplitsChanges options.cap))
 comes_of options Replay = OfRuns IsReplayOutcome
@@ -42,8 +43,9 @@ good_of Analyse =
     IsGoodText HasScriptFault IsValue
     (λ netlist script own. IsCompletable netlist script.start × (own ≡ Done))
 good_of Edges =
-    IsGoodText HasScriptFault IsValue
-    (λ netlist script own. IsCompletable netlist script.start × (own ≡ Done))
+    IsGoodTimed
+    (λ netlist script own.
+    All (λ part. IsCompletable netlist part.start) script.parts × (own ≡ Done))
 good_of Explore =
     IsGoodText HasScriptFault IsValue
     (λ netlist script own. IsCompletable netlist script.start × (own ≡ Done))

@@ -6,17 +6,19 @@ ghost use Rattle.hz_pattern_text.specs.PatternFault.{HasPatternFault};
 ghost use Rattle.hz_run_text.specs.RunFault.{HasRunFault};
 ghost use Rattle.hz_script.specs.ScriptFault.{HasScriptFault};
 ghost use Rattle.hz_refusal.specs.Ends.{Ends};
-ghost use Rattle.hz_refusal.specs.Second.{OfScript, OfRuns, OfPatterns};
+ghost use Rattle.hz_refusal.specs.Second.{OfScript, OfRuns, OfPatterns, IsToldLine};
+ghost use Rattle.hz_timing.specs.TimedFault.{HasTimedFault};
+ghost use Rattle.hz_timing.specs.Timed.{OfTimed, IsToldTimedLine};
 ghost use Rattle.hz_top.specs.LeftFiles.{LeavesFiles};
 ghost use Rattle.hz_words.specs.Job.{OnFiles};
 ghost use Rattle.hz_line.specs.Line.{most_text_bytes};
 ghost use Rattle.hz_top.specs.Outcome.{observation_of, CountsStay, IsFilesOutcome, IsSecondFileOutcome};
-ghost use Rattle.hz_top.specs.Reached.{IsReached, IsLineOnCircuit, faults_of};
+ghost use Rattle.hz_top.specs.Reached.{IsReached, IsLineOnCircuit, tells_line};
 ghost use Rattle.hz_top.specs.Tasks.{comes_of};
 
 use crate::reached::{Answer, Reached};
 use hz_changes::{Analyses, Splits};
-use hz_edges::Edges;
+use hz_edge_reports::Edges;
 use hz_explore::Explores;
 use hz_formats::{read_netlist, refuse_netlist};
 use hz_line::MAX_TEXT;
@@ -29,6 +31,7 @@ use hz_refusal::{
     Ending, OnPatterns, OnRuns, OnScript, Status, on_patterns, on_runs, on_script, refuse_load,
 };
 use hz_replay::{Converts, Dumps, Replays};
+use hz_timing::{OnTimed, on_timed};
 use hz_words::Task;
 use std::alloc::Global;
 
@@ -118,13 +121,13 @@ fn work_on_second<F: Files, K: Sink>(
         (comes_of work.options work.task net.now) second.now)
         out.old out.new result.status }
     ensures stay { CountsStay (observation_of F.held F.faults F.longs files.old files.new) First }
-    ensures line { IsLineOnCircuit (F.held files.old) (faults_of work.task net.now) second.now
+    ensures line { IsLineOnCircuit (F.held files.old) (tells_line work.task net.now) second.now
         result.status result.line }
 {
     let options = work.options;
     match work.task {
         Task::Analyse => work_on_script(alloc, &Analyses { options }, net, second, files, out),
-        Task::Edges => work_on_script(alloc, &Edges { options }, net, second, files, out),
+        Task::Edges => work_on_timed(alloc, &Edges { options }, net, second, files, out),
         Task::Explore => work_on_script(alloc, &Explores { options }, net, second, files, out),
         Task::Split => work_on_script(alloc, &Splits { options }, net, second, files, out),
         Task::Replay => work_on_runs(alloc, &Replays, net, second, files, out),
@@ -150,11 +153,37 @@ fn work_on_script<J: OnScript, F: Files, K: Sink>(
         (OfScript (J.judges job.now) net.now) second.now)
         out.old out.new result.status }
     ensures stay { CountsStay (observation_of F.held F.faults F.longs files.old files.new) First }
-    ensures line { IsLineOnCircuit (F.held files.old) (HasScriptFault net.now) second.now result.status
+    ensures line { IsLineOnCircuit (F.held files.old)
+        (λ text. IsToldLine (HasScriptFault net.now text)) second.now result.status
         result.line }
 {
     match files.load(alloc, Place::Second, second, MAX_TEXT) {
         Ok(text) => on_script(alloc, job, net, text.as_slice(), out),
+        Err(fault) => without_line(refuse_load(out, Place::Second, fault)),
+    }
+}
+
+// Does a job with a script with assumptions of time that is loaded.
+fn work_on_timed<J: OnTimed, F: Files, K: Sink>(
+    alloc: Global,
+    job: &J,
+    net: &Net,
+    second: &str,
+    files: &mut F,
+    out: &mut K,
+) -> Ending
+    requires { F.granted files.old Second second.now most_text_bytes }
+    ensures ends { Ends K.output K.faults
+        (IsSecondFileOutcome (observation_of F.held F.faults F.longs files.old files.new)
+        (OfTimed (J.judges job.now) net.now) second.now)
+        out.old out.new result.status }
+    ensures stay { CountsStay (observation_of F.held F.faults F.longs files.old files.new) First }
+    ensures line { IsLineOnCircuit (F.held files.old)
+        (λ text. IsToldTimedLine (HasTimedFault net.now text)) second.now result.status
+        result.line }
+{
+    match files.load(alloc, Place::Second, second, MAX_TEXT) {
+        Ok(text) => on_timed(alloc, job, net, text.as_slice(), out),
         Err(fault) => without_line(refuse_load(out, Place::Second, fault)),
     }
 }
@@ -174,7 +203,8 @@ fn work_on_runs<J: OnRuns, F: Files, K: Sink>(
         (OfRuns (J.judges job.now) net.now) second.now)
         out.old out.new result.status }
     ensures stay { CountsStay (observation_of F.held F.faults F.longs files.old files.new) First }
-    ensures line { IsLineOnCircuit (F.held files.old) (HasRunFault net.now) second.now result.status
+    ensures line { IsLineOnCircuit (F.held files.old)
+        (λ text. IsToldLine (HasRunFault net.now text)) second.now result.status
         result.line }
 {
     match files.load(alloc, Place::Second, second, MAX_TEXT) {
@@ -198,7 +228,8 @@ fn work_on_patterns<J: OnPatterns, F: Files, K: Sink>(
         (OfPatterns (J.judges job.now) net.now) second.now)
         out.old out.new result.status }
     ensures stay { CountsStay (observation_of F.held F.faults F.longs files.old files.new) First }
-    ensures line { IsLineOnCircuit (F.held files.old) (HasPatternFault net.now) second.now result.status
+    ensures line { IsLineOnCircuit (F.held files.old)
+        (λ text. IsToldLine (HasPatternFault net.now text)) second.now result.status
         result.line }
 {
     let Ok(reader) = PatternReader::new(alloc, net.circuit()) else {

@@ -4,7 +4,7 @@ use Rattle.hz_outside.specs.declared.fault.LoadFault.TheVariants as load
 use Rattle.hz_refusal.specs.declared.status.Status.TheVariants as status
 use Rattle.hz_refusal.specs.Ends.{Ends}
 use Rattle.hz_top.specs.Outcome.{IsFilesOutcome, IsSecondFileOutcome, observation_of}
-use Rattle.hz_top.specs.Reached.{IsLineOnCircuit, faults_of}
+use Rattle.hz_top.specs.Reached.{IsLineOnCircuit, tells_line}
 use Rattle.hz_formats.specs.Netlists.{IsNetlistText, IsToldNetlistLine}
 use Rattle.hz_top.specs.Tasks.{comes_of}
 use Rattle.hz_formats.specs.Refusal.{netlist_fault_line}
@@ -130,7 +130,7 @@ returns-clause-reached g c =
     let ending = c.work_on_second-ending in
     let net = c.in-Ok-build.net in
     let told = observation_of held g.F.Files.faults g.F.Files.longs c.args.files.now ending.new.files in
-    let P : Option (List ℕ → List ℕ) → Type 0 = λ held. IsLineOnCircuit held (faults_of c.args.work.task net) c.args.second.now ending.result.status ending.result.line in
+    let P : Option (List ℕ → List ℕ) → Type 0 = λ held. IsLineOnCircuit held (tells_line c.args.work.task net) c.args.second.now ending.result.status ending.result.line in
     inr (inr (
       refl,
       refl,
