@@ -16,8 +16,7 @@ use Rattle.hz_witness.specs.Witness.{IsWitness}
 use Rattle.hz_bounds.specs.Ranges.{bound_of, IsMostChanges}
 use Rattle.hz_bounds.specs.Telling.{AreStill}
 use Rattle.hz_bounds.proofs.Meeting.{exact-met}
-use Rattle.hz_desk.specs.Finding.{FindingOf, values_a, values_b}
-use Rattle.hz_edges.specs.Edges.{EdgesOf, AreEdgesOfChange, AreRightEdges, ChangesAtMost, begin_of}
+use Rattle.hz_edges.specs.Edges.{EdgesOf, AreEdgesOfChange, ChangesAtMost}
 
 module _ (netlist : Netlist) (cap : ℕ) (input start : List Bool) (a b : List Tri) (edges : EdgesOf) (circuit : IsCircuit netlist) (whole : IsWhole netlist) (begins : IsStableStart netlist start) (inductive : IsInductive (network_of netlist) input start cap edges.told) (witness : IsWitness (network_of netlist) input start a b edges.steps edges.counts) where
   abbrev net : List Driver
@@ -44,11 +43,6 @@ module _ (netlist : Netlist) (cap : ℕ) (input start : List Bool) (a b : List T
     free = free;
     still = still;
   }
-
--- the same by other names
-pub right-found : (net : List Driver) (cap : ℕ) (finding : FindingOf) (edges : EdgesOf) (input start : List Bool) (a b : List Tri) →
-    start ≡ begin_of finding → input ≡ finding.input → a ≡ values_a finding.rows → b ≡ values_b finding.rows → AreEdgesOfChange net cap input start a b edges → AreRightEdges net cap finding edges
-right-found net cap finding edges input start a b starts inputs same_a same_b right = rw (starts, inputs, same_a, same_b) at right
 
 -- where a call went well, all that it promises of that holds
 pub ok-all : {P Q R S T : Type 0} (result : Result (Unit {0}) Memory) → OnOk result P → OnOk result Q → OnOk result R → OnOk result S → (P → Q → R → S → T) → OnOk result T

@@ -1,5 +1,5 @@
 -- How often variables change in a change, along one run and along every run.
-use Rattle.std.specs.Prelude.{◌≡◌, ℕ, ◌<◌, ◌≤◌, Bool, Some, List, length, map, IfSome, slice_index_or}
+use Rattle.std.specs.Prelude.{◌≡◌, ℕ, ◌<◌, ◌≤◌, Bool, Some, List, length, IfSome, slice_index_or}
 use Rattle.hz_core.specs.declared.tri.Tri.{Tri}
 use Rattle.hz_net.specs.Network.{Driver}
 use Rattle.hz_gmw.specs.Runs.{IsRun}
@@ -11,7 +11,6 @@ use Rattle.hz_witness.specs.Witness.{IsWitness}
 use Rattle.hz_bounds.specs.declared.range.Range.{Range}
 use Rattle.hz_bounds.specs.Ranges.{range_from, IsMostChanges}
 use Rattle.hz_bounds.specs.Telling.{AreStill}
-use Rattle.hz_desk.specs.Finding.{FindingOf, values_a, values_b}
 
 -- What is found of a change beside its finding: what each variable is told of its changes, the steps of one run, and how often this
 -- run changes each variable.
@@ -23,10 +22,6 @@ pub record EdgesOf : Type 0 where
 -- the range of variable i: it changes so often along the run, and at most so often along every run, if a bound is known
 abbrev pub range_at : EdgesOf → ℕ → Range
 range_at edges i = range_from (told_at edges.told i).changes (slice_index_or edges.counts i 0)
-
--- the state in which a change begins
-abbrev pub begin_of : FindingOf → List Bool
-begin_of finding = map (λ row. row.start) finding.rows
 
 -- along every run from a start, variable i changes at most so often
 abbrev pub ChangesAtMost : List Driver → (input start : List Bool) → (i most : ℕ) → Type 0
@@ -52,9 +47,3 @@ pub record AreEdgesOfChange (net : List Driver) (cap : ℕ) (input start : List 
   pub witness : IsWitness net input start a b edges.steps edges.counts
   pub free : AreFreeWords net input start cap edges.told
   pub still : AreStill net start a edges.told
-
--- what is found so is right beside a finding of the change
-abbrev pub AreRightEdges : List Driver → ℕ → FindingOf → EdgesOf → Type 0
-AreRightEdges net cap finding edges =
-    AreEdgesOfChange net cap finding.input (begin_of finding) (values_a finding.rows)
-    (values_b finding.rows) edges

@@ -1,23 +1,21 @@
 //! What is found of a change beside its finding, and the memory that this takes.
 ghost use Rattle.std.specs.Prelude.{◌≡◌, ◌<◌, ◌≤◌, length, IfOk, OnOk};
 ghost use Rattle.hz_net.specs.Network.{network_of, IsInput};
-ghost use Rattle.hz_net.specs.Passes.{algorithm_a, algorithm_b, IsResult};
 ghost use Rattle.hz_net.specs.Starts.{IsStableStart};
 ghost use Rattle.hz_word.specs.Capped.{greatest_cap};
 ghost use Rattle.hz_free.specs.FreePart.{IsFreePart};
-ghost use Rattle.hz_desk.specs.Finding.{finding_of, values_a, values_b};
 ghost use Rattle.hz_core.specs.Netlist.{IsCircuit};
 ghost use Rattle.hz_cycle.specs.Cycles.{AreResultsOfBoth};
 ghost use Rattle.hz_free.specs.Inductive.{AreFreeWords, IsInductive};
 ghost use Rattle.hz_bounds.specs.Telling.{AreStill};
 ghost use Rattle.hz_witness.specs.Witness.{IsWitness};
-ghost use Rattle.hz_edges.specs.Edges.{AreEdgesOfChange, AreRightEdges, begin_of, range_at};
+ghost use Rattle.hz_edges.specs.Edges.{AreEdgesOfChange, range_at};
 ghost use Rattle.hz_edges.specs.Room.{edges_of, IsEdgeRoom};
 
 use hz_bounds::{Range, range_of, tell};
 use hz_core::{Memory, Tri};
 use hz_cycle::Results;
-use hz_desk::{Finding, Passes};
+use hz_desk::Passes;
 use hz_free::Free;
 use hz_gmw::Run;
 use hz_net::Net;
@@ -71,42 +69,6 @@ impl EdgeRoom {
         ensures { result ≡ range_at (edges_of self.now) var }
     {
         range_of(self.told[var as usize].changes, self.counts[var as usize])
-    }
-
-    // Finds how often the variables change in a change, beside its finding.
-    pub(crate) fn find(
-        &mut self,
-        alloc: Global,
-        net: &Net,
-        free: &Free,
-        cap: u64,
-        finding: &Finding,
-    ) -> Result<(), Memory>
-        requires room { IsEdgeRoom net.now self.old }
-        requires free { IsFreePart net.now free.now }
-        requires start { IsStableStart net.now (begin_of (finding_of finding.now)) }
-        requires input { IsInput net.now finding.now.input }
-        requires a { IsResult
-            (algorithm_a (network_of net.now) finding.now.input
-            (begin_of (finding_of finding.now)))
-            (values_a finding.now.rows) }
-        requires b { IsResult
-            (algorithm_b (network_of net.now) finding.now.input (values_a finding.now.rows))
-            (values_b finding.now.rows) }
-        requires cap_low { 1 ≤ cap }
-        requires cap_high { cap ≤ greatest_cap }
-        ensures found { OnOk result
-            (AreRightEdges (network_of net.now) cap (finding_of finding.now) (edges_of self.new)) }
-        ensures room { IsEdgeRoom net.now self.new }
-    {
-        net.keeps_shape();
-        let change = Change {
-            net,
-            start: finding.rows.starts(),
-            input: finding.input.as_slice(),
-        };
-        self.make_passes(&change);
-        self.find_edges(alloc, &change, free, cap)
     }
 
     /// Makes both passes of a change, and keeps their results. It takes no memory.
