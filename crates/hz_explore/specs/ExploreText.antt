@@ -26,7 +26,7 @@ number_text None = codes "more"
 abbrev pub counts_text : Classes → List ℕ
 counts_text classes =
     codes " single " ++ decimal classes.single
-    ++ codes " static " ++ decimal classes.fixed
+    ++ codes " static " ++ decimal classes.statics
     ++ codes " dynamic " ++ decimal classes.dynamic
     ++ codes " maybe-dynamic " ++ decimal classes.maybe_dynamic
 

@@ -18,7 +18,7 @@ use hz_edges::EdgeRoom;
 #[derive(Clone, Copy)]
 pub struct Classes {
     pub single: u32,
-    pub fixed: u32,
+    pub statics: u32,
     pub dynamic: u32,
     pub maybe_dynamic: u32,
     pub is_clean: bool,
@@ -31,7 +31,7 @@ impl Classes {
     {
         Classes {
             single: 0,
-            fixed: 0,
+            statics: 0,
             dynamic: 0,
             maybe_dynamic: 0,
             is_clean: true,
@@ -41,7 +41,7 @@ impl Classes {
     // Counts one node more.
     fn count(&mut self, class: EdgeClass)
         requires single { self.old.single < most_variables }
-        requires fixed { self.old.fixed < most_variables }
+        requires statics { self.old.statics < most_variables }
         requires dynamic { self.old.dynamic < most_variables }
         requires maybe_dynamic { self.old.maybe_dynamic < most_variables }
         ensures { (classes : List EdgeClass) → self.old ≡ classes_of classes →
@@ -51,7 +51,7 @@ impl Classes {
             EdgeClass::Steady => {}
             EdgeClass::Single => self.single += 1,
             EdgeClass::Static => {
-                self.fixed += 1;
+                self.statics += 1;
                 self.is_clean = false;
             }
             EdgeClass::Dynamic => {

@@ -96,7 +96,7 @@ fn write_classes<K: Sink>(writer: &mut Writer<'_, K>, classes: Classes)
         Text(b" single "),
         Number(classes.single),
         Text(b" static "),
-        Number(classes.fixed),
+        Number(classes.statics),
         Text(b" dynamic "),
         Number(classes.dynamic),
         Text(b" maybe-dynamic "),

@@ -30,7 +30,7 @@ count-requires-clause-fixed c =
       arith,
       c.requires.nodes,
       c.loop-node-test.true,
-      ap (λ (k : Classes). k.fixed) c.loop-node.invariant,
+      ap (λ (k : Classes). k.statics) c.loop-node.invariant,
       counts-few is_static (λ i. edge_class_of (bit_at c.args.start.now i) (value_at c.args.edges.now.b.items i) (range_at (edges_of c.args.edges.now) i)) c.loop-node.node,
     )
 
