@@ -20,6 +20,7 @@ QUESTIONS = (
     ("What does `changes -` mean?", USING, "6. What is wrong, in a long report?", "`-`: not counted, since it depends on feedback"),
     ("How often may this node change, behind feedback too?", USING, "9. `change`: how often, behind feedback too?", "the run shows three edges of `qb`"),
     ("Which wire has to be slow for this pulse?", USING, "7. `static`: which wire against which path?", "The sentence is a condition that suffices"),
+    ("How do I say that a fork is isochronic?", USING, "12. My circuit is right if this wire is not slow", "An ideal wire follows its source before anything else"),
     ("What do I do after `unsettled` or `stopped`?", USING, "How do I go on?", "Write a script for each outcome"),
     ("What do I write in place of a line that is refused?", USING, "What is refused in a netlist", "| `z = INV(a)`, `z = MUX(s, a, b)` |"),
     ("Which status fails my CI?", USING, "14. How do I keep it as a regression test?", "The status is 0 if all hold"),
