@@ -110,7 +110,7 @@ abbrev pub classes_of : List EdgeClass → Classes
 classes_of classes =
     record {
       single = count_by is_single classes;
-      fixed = count_by is_static classes;
+      statics = count_by is_static classes;
       dynamic = count_by is_dynamic classes;
       maybe_dynamic = count_by is_maybe_dynamic classes;
       is_clean = list_all is_clean_class classes;

@@ -24,8 +24,8 @@ count-requires-clause-single c =
       counts-few is_single (λ i. edge_class_of (bit_at c.args.start.now i) (value_at c.args.edges.now.b.items i) (range_at (edges_of c.args.edges.now) i)) c.loop-node.node,
     )
 
-pub count-requires-clause-fixed : goal.count-requires-clause-fixed
-count-requires-clause-fixed c =
+pub count-requires-clause-statics : goal.count-requires-clause-statics
+count-requires-clause-statics c =
     omega (
       arith,
       c.requires.nodes,
