@@ -19,6 +19,9 @@ MEANINGS = {
     "unsettled": "the delays decide where it ends, or it never settles",
 }
 
+# What an unsettled node means if orders are used: the end that is told of runs that keep them may be X, though they decide it.
+UNDECIDED = "the orders are not known to decide where it ends"
+
 
 def run(words, out):
     """Writes the summary of a netlist and a script."""
@@ -182,7 +185,9 @@ def _line(row):
     return f"  {row.name} {kind_of(row)}: {meaning(row)}"
 
 
-def meaning(row):
-    """What the class of a node means, in a sentence."""
-    bound = "no bound on its edges is known" if row.most is None else "no run makes more" + ("" if row.most == row.least else f" than {row.most}")
-    return MEANINGS[row.kind].format(start=row.start, new=1 - int(row.start), least=row.least, bound=bound)
+def meaning(row, used=()):
+    """What the class of a node means, in a sentence, if a change uses some orders."""
+    those = " that keeps the orders" if used else ""
+    bound = "no bound on its edges is known" if row.most is None else f"no run{those} makes more" + ("" if row.most == row.least else f" than {row.most}")
+    told = UNDECIDED if used and row.kind == "unsettled" else MEANINGS[row.kind]
+    return told.format(start=row.start, new=1 - int(row.start), least=row.least, bound=bound)
