@@ -9,6 +9,7 @@ import tempfile
 
 from . import exploration, report
 from .errors import DOES_NOT_HOLD, NAME_NOT_READ, NO_PROGRAM, NOT_ACCEPTED, OUTPUT_FAILED, OWN_FAULT, SCRIPT_FAULT, SIGNALLED, Failure, begins_with_mark, read_file
+from .lines import spelt
 from .terminal import Progress
 
 VARIABLE = "HAZARD"
@@ -103,17 +104,15 @@ class Program:
         with file_of(script) as path:
             yield from self.edges(netlist, path).changes
 
-    def last_runs(self, netlist, script):
-        """The lines of the last runs of a report of `hazard analyse`: of the change that leaves a node unsettled, if one does, in which
-        such nodes go on and on."""
-        found, taken = [], None
-        for line in self.lines(["analyse", netlist, script]):
-            taken = [] if line == "runs 2" else taken
-            if taken is not None:
-                taken.append(line)
-            if line == "end" and taken:
-                found, taken = taken, None
-        return found
+    def cycle_of(self, netlist, text):
+        """The lines of the runs in a report of `hazard analyse` on the change of a run text: in the second one all nodes that it leaves
+        unsettled go on and on."""
+        taken = []
+        with file_of(f"start{spelt(text.start)}\nchange{spelt(text.target)}\n") as path:
+            for line in self.lines(["analyse", netlist, path]):
+                if taken or line == "runs 2":
+                    taken.append(line)
+        return taken
 
     def must_read(self, netlist):
         """Fails with the program's refusal unless it reads a netlist. A script that is none is only looked at after that."""

@@ -126,6 +126,7 @@ def edges_of(statements):
     """The edges of a script that `hazard-look clock` wrote out: the number of the first change of each by that of its last one."""
     found, first, number = {}, None, 0
     for statement in statements:
+        first = None if statement.keyword == "start" else first
         if statement.keyword == "change":
             number += 1
             told = statement.texts("edge")
@@ -135,6 +136,18 @@ def edges_of(statements):
                 first = number if told else None
             if first is not None:
                 found[number] = first
+    return found
+
+
+def begins_of(statements):
+    """The numbers of the changes that begin at a start."""
+    found, number, is_begun = set(), 1, False
+    for statement in statements:
+        if statement.keyword == "change":
+            found.update([number] if is_begun else [])
+            number += 1
+        if statement.keyword in ("start", "change"):
+            is_begun = statement.keyword == "start"
     return found
 
 
