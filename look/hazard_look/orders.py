@@ -5,24 +5,27 @@ is read from reports of `hazard edges`, and so is what happens without each of t
 """
 import json
 
-from . import script, sentence
+from . import script
 from .circuit import load
 from .errors import DOES_NOT_HOLD, DONE, OUTPUT_FAILED, Failure
 from .moves import is_clean, kind_of
 from .proposal import Proposal
-from .summary import MOST_NAMED, meaning
+from .summary import MOST_NAMED, NOT_KEPT, meaning
 
 
 def run(words, out):
     """Writes the orders for a netlist and a script."""
-    found = Proposal(words.program, words.netlist, words.script, load(words.netlist), script.must_be_written_out(words.script))
+    report = words.program.edges(words.netlist, words.script)
+    statements = script.must_be_written_out(words.script)
+    found = Proposal(words, load(words.netlist), statements, report.changes)
     found.search()
     if words.write is not None:
         _save(words, found)
     if words.json:
         out.write(json.dumps(_as_data(words, found), indent=1) + "\n")
     else:
-        out.write("".join(line + "\n" for line in (_failures(words, found) if words.fail else _lines(found))))
+        left = _failures(words, found) if words.fail else [f"change {change.title()}: {NOT_KEPT}" for change in found.after if not change.kept]
+        out.write("".join(line + "\n" for line in [*_lines(found), *left, _counted(found)]))
     return DOES_NOT_HOLD if words.fail and any(change.stopped or not change.kept or hazards(change) for change in found.after) else DONE
 
 
@@ -31,22 +34,12 @@ def hazards(change):
     return [row for row in change.rows.values() if not is_clean(row)]
 
 
-def told(network, assumption):
-    """What a script assumes, as a sentence of paths."""
-    compared = sentence.no_later(network, *assumption.paths())
-    if assumption.second is not None:
-        return compared
-    return f"wire {assumption.first} without delay; so {compared.removeprefix('wire ')}"
-
-
 def _lines(found):
-    """The lines of all that is proposed, and what is left."""
+    """The lines of all that is proposed."""
     lines = []
     for one in found.chosen:
-        lines += [f"{told(found.network, one)}; {_used(found.uses(one))}", one.line()]
-    lines += [f"change {change.title()}: no run that keeps the orders is shown" for change in found.after if not change.kept]
-    lines += ["perhaps not all of these are needed: the search came to its limit"] if found.is_cut else []
-    return lines + [_counted(found)]
+        lines += [f"{one.told()}; {_used(found.uses(one))}", one.line()]
+    return lines + (["perhaps not all of these are needed: the search came to its limit"] if found.is_cut else [])
 
 
 def _used(numbers):
@@ -80,12 +73,10 @@ def _failures(words, found):
         if change.stopped:
             yield f"{front}: not analysed, {change.stopped} did not settle"
         elif not change.kept:
-            yield f"{front}: no run that keeps the orders is shown"
+            yield f"{front}: {NOT_KEPT}"
         for row in hazards(change):
             place = found.circuit.place(row.name, words.netlist)
             yield f"{front}: {row.name} {kind_of(row)}: {meaning(row, change.used)}" + (f" ({place})" if place else "")
-    for one in found.chosen:
-        yield one.line()
 
 
 def _as_data(words, found):
@@ -97,7 +88,7 @@ def _as_data(words, found):
         for row in change.rows.values():
             if not is_clean(row) or old and not is_clean(old[row.name]):
                 rows.append({"change": change.number, "node": row.name, "before": kind_of(old[row.name]) if old else None, "after": kind_of(row)})
-    orders = [{"line": one.line(), "first": one.first, "second": one.second, "sentence": told(found.network, one), "changes": found.uses(one)} for one in found.chosen]
+    orders = [{"line": one.line(), "first": one.first, "second": one.second, "sentence": one.told(), "changes": found.uses(one)} for one in found.chosen]
     count = lambda changes: {"hazards": sum(len(hazards(change)) for change in changes), "not analysed": [change.number for change in changes if change.stopped]}
     return {"netlist": words.netlist, "script": words.script, "orders": orders, "thinned": not found.is_cut, "calls": found.calls,
             "before": count(found.before), "after": count(found.after), "kept not shown": [change.number for change in found.after if not change.kept], "rows": rows}
@@ -105,7 +96,7 @@ def _as_data(words, found):
 
 def _save(words, found):
     """Writes the script with the lines in it, each with its sentence."""
-    lines = [f"{one.line()}  # {told(found.network, one)}" for one in found.chosen]
+    lines = [f"{one.line()}  # {one.told()}" for one in found.chosen]
     try:
         with open(words.script, encoding="utf-8", errors="surrogateescape", newline="") as file:
             text = file.read()

@@ -22,8 +22,10 @@ HINTS = (
     (r"netlist line \d+: undefined name", "nothing drives it; an input has a line `INPUT(NAME)`, or stands behind `.inputs`"),
     (r"script line \d+: unknown name", "a start assigns nodes of the netlist, a change inputs and flip-flops alone"),
     (r"script line 0: order", "no line is a statement; a script begins with a line `start`, which `hazard-look start` writes"),
-    (r"script line \d+: order", "the first statement is the start, and all others are changes"),
-    (r"script line \d+: form", "a line is `start NAME=BIT ..` or `change NAME=BIT ..`; a comment begins with #"),
+    (r"script line \d+: order", "a start comes before all changes, and what is assumed of delays before the first change"),
+    (r"script line \d+: form", "a line is `start NAME=BIT ..`, `change NAME=BIT ..`, `order WIRE WIRE` or `ideal WIRE`; a comment begins with #"),
+    (r"script line \d+: not two wires", "an order is one of two pins of a gate, as in `order q(2) q(1)`: the second does not change before the first"),
+    (r"script line \d+: number", "behind the wires of an order may stand the number of the change that has to wait, 1 to 1000"),
     (r"script line \d+: bit", "a value is 0 or 1, so each `?` of `hazard-look start` is to be filled in"),
     (r"script: no value for ", "the start lists each input; `hazard-look start` writes such a line"),
     (r"start: open ", "the inputs do not decide its value, so the start lists it; `hazard-look start` names all such gates"),
@@ -168,8 +170,10 @@ def _hint(line, words):
     text = re.match("(netlist|script) line ([0-9]+): ", refusal)
     if text and text[2] == "1" and begins_with_mark(words[1 if text[1] == "netlist" else 2]):
         return "; the file begins with a byte order mark: save it as UTF-8 without one"
-    if text and text[1] == "netlist" and _is_of_script(netlist, int(text[2])):
+    if text and text[1] == "netlist" and _is_line(netlist, int(text[2]), r"\s*(start|change)\s+\S+\s*=\s*[01?]"):
         return "; that is a line of a script, and the netlist comes before the script"
+    if words[0] == "explore" and text and text[1] == "script" and _is_line(words[2], int(text[2]), r"\s*(order|ideal)\s"):
+        return "; a table is of all runs: it takes no orders and no wires without delay"
     if refusal.startswith("netlist ") and netlist.lower().endswith((".v", ".sv")):
         return "; Verilog goes by way of Yosys: `hazard-look from-verilog` makes a netlist of it"
     if re.match(r"netlist line \d+: form", refusal) and not netlist.lower().endswith((".blif", ".json")):
@@ -179,10 +183,10 @@ def _hint(line, words):
     return next((f"; {hint}" for form, hint in HINTS if re.match(form, refusal)), "")
 
 
-def _is_of_script(path, number):
-    """Whether a line of a file is a statement of a script."""
+def _is_line(path, number, form):
+    """Whether a line of a file begins with a form, in letters of any case."""
     lines = read_file(path).split("\n", number)
-    return number <= len(lines) and bool(re.match(r"\s*(start|change)\s+\S+\s*=\s*[01?]", lines[number - 1], re.I))
+    return number <= len(lines) and bool(re.match(form, lines[number - 1], re.I))
 
 
 @contextlib.contextmanager

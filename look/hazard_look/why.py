@@ -9,6 +9,7 @@ from .history import History
 from .lines import spelt
 from .network import Network
 from .program import file_of
+from .proposal import mending
 from .runtext import Run
 from .script import NO_CHANGE, must_be_written_out
 from .search import Searcher
@@ -61,6 +62,9 @@ def run(words, out):
         _write(out, searcher, row.name, one)
     if row.kind == "unsettled":
         _write_in_front(out, searcher.network, change.rows, row.name)
+        lacking = mending(words, circuit, searcher.network, change, row.name)
+        if lacking:
+            out.write(f"\n{lacking.line()} alone makes {row.name} clean: {lacking.told()}\n")
     return DONE
 
 
