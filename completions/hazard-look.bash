@@ -3,18 +3,19 @@
 _hazard_look() {
   local word=${COMP_WORDS[COMP_CWORD]} job=${COMP_WORDS[1]} at place=0 ends=()
   if ((COMP_CWORD == 1)); then
-    COMPREPLY=($(compgen -W 'start summary expect why testbench page table clock from-yosys from-verilog --help --version' -- "$word"))
+    COMPREPLY=($(compgen -W 'start summary expect why orders testbench page table clock from-yosys from-verilog --help --version' -- "$word"))
     return
   fi
   case ${COMP_WORDS[COMP_CWORD - 1]} in
     --only | --top) COMPREPLY=(); return ;;
-    --save | --hazard) compopt -o filenames 2>/dev/null; COMPREPLY=($(compgen -f -- "$word")); return ;;
+    --save | --write | --hazard) compopt -o filenames 2>/dev/null; COMPREPLY=($(compgen -f -- "$word")); return ;;
   esac
   if [[ $word == -* ]]; then
     case $job in
       summary) COMPREPLY=($(compgen -W '--help --hazard --only --outputs --roots --all --fail --json' -- "$word")) ;;
       expect) COMPREPLY=($(compgen -W '--help --hazard --json --junit' -- "$word")) ;;
       table) COMPREPLY=($(compgen -W '--help --hazard --all --fail --page' -- "$word")) ;;
+      orders) COMPREPLY=($(compgen -W '--help --hazard --write --fail --json' -- "$word")) ;;
       why) COMPREPLY=($(compgen -W '--help --hazard --save' -- "$word")) ;;
       from-yosys) COMPREPLY=($(compgen -W '--help --top --join' -- "$word")) ;;
       from-verilog) COMPREPLY=($(compgen -W '--help --gates --top --join' -- "$word")) ;;
@@ -25,7 +26,7 @@ _hazard_look() {
   # the place of the word among those that are neither options nor their values
   for ((at = 2; at < COMP_CWORD; at++)); do
     case ${COMP_WORDS[at]} in
-      --only | --top | --save | --hazard) ((at++)) ;;
+      --only | --top | --save | --write | --hazard) ((at++)) ;;
       -*) ;;
       *) ((place++)) ;;
     esac

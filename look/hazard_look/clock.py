@@ -25,9 +25,12 @@ _EDGE = re.compile(r"(?:([^\s=]+)(?:=([01]))?)?$")
 
 def run(words, out):
     """Writes the script with its edges written out, all of it or nothing."""
-    start = words.program.edges(words.netlist, words.script).start
+    report = words.program.edges(words.netlist, words.script)
+    for _ in report.changes:
+        # the later starts are read behind the changes before them
+        pass
     circuit = load(words.netlist)
-    writer = _Writer(circuit, words.script, start)
+    writer = _Writer(circuit, words.script, report.starts)
     for statement in script.read(words.script):
         writer.statement(statement)
     text = "".join(line + "\n" for line in writer.lines)
@@ -47,12 +50,13 @@ def _warn(circuit):
 
 def _check(words, circuit, writer, text):
     """Compares the values after each change with the report on the script that is to be written, and warns of pulses."""
-    at_rest = dict(writer.start)
+    at_rest = {}
     for change, made in zip(words.program.edges_of_text(words.netlist, text), writer.made):
         unsettled = next((row.name for row in change.rows.values() if row.end == "X"), None)
         where = f"{words.script}:{made.number}"
         if unsettled:
             raise Failure(f"{where}: {unsettled} does not settle after `change{spelt(made.values)}`", DOES_NOT_HOLD)
+        at_rest = dict(made.begin) if made.begin else at_rest
         at_rest.update(made.settled)
         if any(str(at_rest[row.name]) != row.end for row in change.rows.values()):
             raise Failure(f"{where}: the values after `change{spelt(made.values)}` are not those of the report", NOT_ACCEPTED)
@@ -93,18 +97,19 @@ def left_out(circuit, change, following):
 
 
 class _Made:
-    """A change that is written: its line in the script that is read, what it assigns, and the nodes that it brings to another value."""
+    """A change that is written: its line in the script that is read, what it assigns, the nodes that it brings to another value, and the
+    values of all before it if it is the first one behind a start."""
 
-    def __init__(self, number, values, settled):
-        self.number, self.values, self.settled = number, values, settled
+    def __init__(self, number, values, settled, begin):
+        self.number, self.values, self.settled, self.begin = number, values, settled, begin
 
 
 class _Writer:
     """Writes changes, and knows the values of all nodes after them."""
 
-    def __init__(self, circuit, path, start):
-        self.circuit, self.path, self.start = circuit, path, start
-        self.resting = Resting(circuit, start)
+    def __init__(self, circuit, path, starts):
+        self.circuit, self.path, self.starts = circuit, path, list(starts)
+        self.resting, self.begin = Resting(circuit, starts[0]), None
         self.lines, self.made, self.is_started = [], [], False
 
     def statement(self, statement):
@@ -114,7 +119,9 @@ class _Writer:
             raise self._fault(statement, faults[0])
         if statement.texts("clock") and not self.is_started:
             raise self._fault(statement, "an edge stands after the start")
-        self.is_started = self.is_started or statement.keyword == "start"
+        if statement.keyword == "start":
+            self.is_started, self.begin = True, self.starts.pop(0)
+            self.resting = Resting(self.circuit, self.begin)
         if statement.texts("clock"):
             self._edge(statement)
             return
@@ -134,7 +141,8 @@ class _Writer:
 
     def _make(self, values, number):
         """Lets the circuit come to rest after a change."""
-        self.made.append(_Made(number, values, self.resting.after(values)))
+        self.made.append(_Made(number, values, self.resting.after(values), self.begin))
+        self.begin = None
 
     def _reset(self, number, end):
         """Writes the change of the flip-flops that a reset changes, if there is one."""

@@ -9,6 +9,7 @@ from .expectations import Class, Edges, Never
 from .moves import Moves, classes_of, kind_of
 from .network import Network
 from .search import Searcher, Values
+from .summary import NOT_KEPT
 
 
 class Answer(NamedTuple):
@@ -65,10 +66,12 @@ def checked(words, changes, keeps_all=False):
     bench = _Bench(words, circuit, plan.spans)
     for change in changes:
         bench.goes_on(change)
+        missed = 0
         for one, first in plan.checks(change.number):
             tally.all += 1
             if change.stopped:
                 tally.not_checked += 1
+                missed += 1
                 answer = Answer(None, f"not checked: {change.stopped} did not settle before")
             else:
                 answer = bench.answer(one, first)
@@ -78,9 +81,7 @@ def checked(words, changes, keeps_all=False):
             if keeps_all:
                 tally.cases.append(_finding(words, bench, one, first, answer))
         if change.stopped:
-            _note_stopped(tally, words, plan, change)
-    if tally.stopped:
-        tally.stopped[0]["remark"] += f": {tally.not_checked} expectation{'' if tally.not_checked == 1 else 's'} not checked"
+            _note_stopped(tally, words, plan, change, missed)
     return tally
 
 
@@ -93,13 +94,15 @@ def _finding(words, bench, one, first, answer):
             "netlist": bench.circuit.place(answer.node, words.netlist)}
 
 
-def _note_stopped(tally, words, plan, change):
-    """Notes in one line all changes that are not analysed."""
-    if not tally.stopped:
+def _note_stopped(tally, words, plan, change, missed):
+    """Notes in one line all changes up to a start that are not analysed, and how many expectations are missed."""
+    if not tally.stopped or tally.stopped[-1]["last"] < change.number - 1 or change.number in plan.begins:
         tally.stopped.append({"file": words.script, "line": plan.line_of[change.number], "first": change.number})
-    first = tally.stopped[0]["first"]
+        plan.missed = 0
+    first, plan.missed = tally.stopped[-1]["first"], plan.missed + missed
     which = f"change {first} is" if first == change.number else f"changes {first} to {change.number} are"
-    tally.stopped[0].update(last=change.number, remark=f"{which} not analysed, {change.stopped} did not settle in change {first - 1}")
+    told = f"{plan.missed} expectation{'' if plan.missed == 1 else 's'} not checked"
+    tally.stopped[-1].update(last=change.number, remark=f"{which} not analysed, {change.stopped} did not settle in change {first - 1}: {told}")
 
 
 class _Plan:
@@ -107,7 +110,7 @@ class _Plan:
 
     def __init__(self, expected, statements):
         self.line_of = script.lines_of_changes(statements)
-        self.edges = script.edges_of(statements)
+        self.edges, self.begins, self.missed = script.edges_of(statements), script.begins_of(statements), 0
         self.defaults = [one for one in expected if one.first is None]
         self.own = {}
         for one in expected:
@@ -149,7 +152,11 @@ class _Bench:
                 moves.add(change)
 
     def answer(self, one, first):
-        """Whether an expectation holds."""
+        """Whether an expectation holds; if no run is known that keeps the orders which are used, that is remarked."""
+        found = self._answer(one, first)
+        return found if self.change.kept or found.remark else found._replace(remark=NOT_KEPT)
+
+    def _answer(self, one, first):
         if isinstance(one.what, (Class, Edges)):
             row = self.change.rows[one.what.node]
             if first != self.change.number:
@@ -174,7 +181,9 @@ class _Bench:
         rows = self.change.rows
         if any(not rows[name].moves() and rows[name].start != str(bit) for name, bit in what.values.items()):
             return Answer(True, "")
-        searcher = Searcher(self.network, self.change.run_lines)
+        if not self.change.kept:
+            return Answer(True, "no run is known that keeps the orders, which is no proof")
+        searcher = Searcher(self.network, self.change.run_lines, self.change.used)
         cone = set().union(*(self.network.cone(self.network.number[name]) for name in what.values))
         found = searcher.find(Values(self.network, what.values), cone)
         if found is None:

@@ -74,6 +74,8 @@ def read(path, statements, circuit):
                 one = _expectation(item, statement.number, place, of_edge, changes, circuit)
                 (told if isinstance(one, str) else found).append(one)
         faults += [f"{path}:{statement.number}: {fault}" for fault in told]
+    begins = script.begins_of(statements)
+    faults += [f"{path}:{one.line}: `{one.text}`: a start stands between these changes" for one in found if one.first and any(one.first < begin <= one.last for begin in begins)]
     if faults:
         raise Failure("\n".join(faults), WRONG_WORDS)
     return found

@@ -36,6 +36,17 @@ def assigned(tokens):
     return {name: int(bit) for name, _, bit in threes}
 
 
+def variables(tokens):
+    """The variables of a statement's tokens: a node `q`, or a wire of the tokens `q`, `(`, `1`, `)`; other tokens as they are."""
+    found = []
+    for token in tokens:
+        if token == "(" or found and found[-1].endswith("(") or token == ")":
+            found[-1:] = ["".join(found[-1:]) + token]
+        else:
+            found.append(token)
+    return found
+
+
 def spelt(values):
     """Words `name=bit` of some values, with a blank before each."""
     return "".join(f" {name}={bit}" for name, bit in values.items())

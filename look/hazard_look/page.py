@@ -13,7 +13,7 @@ from .errors import DONE, read_file
 from .moves import is_clean, kind_of
 from .network import Network
 from .report import CLASSES
-from .summary import MEANINGS, roots
+from .summary import MEANINGS, UNDECIDED, roots, under
 
 HERE = os.path.dirname(os.path.abspath(__file__))
 PROGRAM = ("layout.js", "model.js", "circuit.js", "panels.js", "states.js", "page.js")
@@ -48,7 +48,7 @@ def write(words, out, gathered, **more):
         "files": [words.netlist, words.script],
         "most": MOST_DRAWN,
         "kinds": CLASSES,
-        "meanings": MEANINGS,
+        "meanings": {**MEANINGS, "undecided": UNDECIDED},
         **_circuit(circuit, gathered.network),
         "places": _places(circuit) if len(circuit.nodes) <= MOST_DRAWN else None,
         **more,
@@ -117,12 +117,13 @@ class Changes:
             return {"stopped": change.stopped}
         hazards = [row for row in change.rows.values() if not is_clean(row)]
         first = self._worst(hazards)
-        told = {**_rows(change), "hazards": [self.network.number[row.name] for row in first]}
+        assumed = {"under": under(change), "kept": change.kept} if change.used else {}
+        told = {**_rows(change), **assumed, "hazards": [self.network.number[row.name] for row in first]}
         if hazards:
             told["roots"] = len([row for row in first if row.name in self.roots])
-        text = runtext.read(change.run_lines)
-        self.left -= sum(map(len, text.runs[0].lead))
-        told.update(_run(text, self.network) if self.left > 0 else {"run": None, "target": ""})
+        text = runtext.read(change.run_lines) if change.kept else None
+        self.left -= sum(map(len, text.runs[0].lead)) if text else 0
+        told.update(_run(text, self.network) if text and self.left > 0 else {"run": None, "target": ""})
         if hazards and self.left > 0:
             told["why"] = self._why(change, first[0])
         return told
@@ -140,6 +141,8 @@ class Changes:
             return []
         self.sorted = self.sorted or Network(self.circuit, is_sorted=True)
         searcher, shown = why.explained(self.words, self.sorted, change, row)
+        if not shown:
+            return []
         named = [runtext.Run(searcher.named(one.lead), None if one.cycle is None else searcher.named(one.cycle)) for one in shown]
         self.words.program.must_accept(self.words.netlist, searcher.text.of(named))
         shown[0].told[:0] = cover.told(self.circuit, change, row)

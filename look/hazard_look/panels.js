@@ -16,7 +16,7 @@ const lookOfChange = one => (one.failed ? "failed" : one.stopped ? "stopped" : o
 const verdictOf = one => {
   if (one.stopped) return "not analysed";
   const count = one.hazards.length, roots = one.roots;
-  if (!count) return "clean";
+  if (!count) return one.kept === false ? "clean, if a run keeps the orders" : "clean";
   return `${count} hazard${count > 1 ? "s" : ""}` + (roots < count ? `, ${roots} root${roots > 1 ? "s" : ""}` : "");
 };
 
@@ -53,10 +53,13 @@ function drawRow() {
   const room = byId("row"), node = view.node;
   room.replaceChildren();
   if (!isAnalysed()) return;
-  const [least, most] = rangeOf(node), bound = most === null ? "no bound on its edges is known" : `no run makes more${most === least ? "" : ` than ${most}`}`;
+  const [least, most] = rangeOf(node), those = change().under ? " that keeps the orders" : "";
+  const bound = most === null ? "no bound on its edges is known" : `no run${those} makes more${most === least ? "" : ` than ${most}`}`;
+  const meaning = those && classOf(node) === "unsettled" ? DATA.meanings.undecided : DATA.meanings[classOf(node)];
   const values = { start: change().start[node], new: 1 - change().start[node], least, bound };
   put(room, "h2", DATA.names[node]);
-  put(room, "div", DATA.meanings[classOf(node)].replace(/\{(\w+)\}/g, (_, word) => values[word]));
+  put(room, "div", meaning.replace(/\{(\w+)\}/g, (_, word) => values[word]));
+  for (const text of change().under || []) put(room, "div", text, "under");
   drawWhy(room, node);
   for (const text of change().failed || []) put(room, "div", `#expect failed: ${text}`, "failed");
   const lines = [["class", kindOf(node)], ["kind", DATA.gates[node]], ["start", values.start],
@@ -109,7 +112,7 @@ function drawPlayer() {
   which.value = view.run;
   const count = steps().length, edges = runs.length ? edgesOf(view.node) : [];
   const names = list => list.slice(0, 14).map(nameOf).join(" ") + (list.length > 14 ? " .." : "");
-  byId("step").textContent = runs.length ? `step ${view.step} of ${count}` : "the runs of this change are left out";
+  byId("step").textContent = runs.length ? `step ${view.step} of ${count}` : change()?.kept === false ? "no run is known that keeps the orders" : "the runs of this change are left out";
   byId("edges").textContent = runs.length ? `${DATA.names[view.node]}: ${edges.length} edge${edges.length === 1 ? "" : "s"}` : "";
   byId("before").disabled = !edges.some(at => at < view.step);
   byId("after").disabled = !edges.some(at => at > view.step);

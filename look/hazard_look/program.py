@@ -9,6 +9,7 @@ import tempfile
 
 from . import exploration, report
 from .errors import DOES_NOT_HOLD, NAME_NOT_READ, NO_PROGRAM, NOT_ACCEPTED, OUTPUT_FAILED, OWN_FAULT, SCRIPT_FAULT, SIGNALLED, Failure, begins_with_mark, read_file
+from .lines import spelt
 from .terminal import Progress
 
 VARIABLE = "HAZARD"
@@ -21,8 +22,10 @@ HINTS = (
     (r"netlist line \d+: undefined name", "nothing drives it; an input has a line `INPUT(NAME)`, or stands behind `.inputs`"),
     (r"script line \d+: unknown name", "a start assigns nodes of the netlist, a change inputs and flip-flops alone"),
     (r"script line 0: order", "no line is a statement; a script begins with a line `start`, which `hazard-look start` writes"),
-    (r"script line \d+: order", "the first statement is the start, and all others are changes"),
-    (r"script line \d+: form", "a line is `start NAME=BIT ..` or `change NAME=BIT ..`; a comment begins with #"),
+    (r"script line \d+: order", "a start comes before all changes, and what is assumed of delays before the first change"),
+    (r"script line \d+: form", "a line is `start NAME=BIT ..`, `change NAME=BIT ..`, `order WIRE WIRE` or `ideal WIRE`; a comment begins with #"),
+    (r"script line \d+: not two wires", "an order is one of two pins of a gate, as in `order q(2) q(1)`: the second does not change before the first"),
+    (r"script line \d+: number", "behind the wires of an order may stand the number of the change that has to wait, 1 to 1000"),
     (r"script line \d+: bit", "a value is 0 or 1, so each `?` of `hazard-look start` is to be filled in"),
     (r"script: no value for ", "the start lists each input; `hazard-look start` writes such a line"),
     (r"start: open ", "the inputs do not decide its value, so the start lists it; `hazard-look start` names all such gates"),
@@ -103,17 +106,15 @@ class Program:
         with file_of(script) as path:
             yield from self.edges(netlist, path).changes
 
-    def last_runs(self, netlist, script):
-        """The lines of the last runs of a report of `hazard analyse`: of the change that leaves a node unsettled, if one does, in which
-        such nodes go on and on."""
-        found, taken = [], None
-        for line in self.lines(["analyse", netlist, script]):
-            taken = [] if line == "runs 2" else taken
-            if taken is not None:
-                taken.append(line)
-            if line == "end" and taken:
-                found, taken = taken, None
-        return found
+    def cycle_of(self, netlist, text):
+        """The lines of the runs in a report of `hazard analyse` on the change of a run text: in the second one all nodes that it leaves
+        unsettled go on and on."""
+        taken = []
+        with file_of(f"start{spelt(text.start)}\nchange{spelt(text.target)}\n") as path:
+            for line in self.lines(["analyse", netlist, path]):
+                if taken or line == "runs 2":
+                    taken.append(line)
+        return taken
 
     def must_read(self, netlist):
         """Fails with the program's refusal unless it reads a netlist. A script that is none is only looked at after that."""
@@ -169,8 +170,10 @@ def _hint(line, words):
     text = re.match("(netlist|script) line ([0-9]+): ", refusal)
     if text and text[2] == "1" and begins_with_mark(words[1 if text[1] == "netlist" else 2]):
         return "; the file begins with a byte order mark: save it as UTF-8 without one"
-    if text and text[1] == "netlist" and _is_of_script(netlist, int(text[2])):
+    if text and text[1] == "netlist" and _is_line(netlist, int(text[2]), r"\s*(start|change)\s+\S+\s*=\s*[01?]"):
         return "; that is a line of a script, and the netlist comes before the script"
+    if words[0] == "explore" and text and text[1] == "script" and _is_line(words[2], int(text[2]), r"\s*(order|ideal)\s"):
+        return "; a table is of all runs: it takes no orders and no wires without delay"
     if refusal.startswith("netlist ") and netlist.lower().endswith((".v", ".sv")):
         return "; Verilog goes by way of Yosys: `hazard-look from-verilog` makes a netlist of it"
     if re.match(r"netlist line \d+: form", refusal) and not netlist.lower().endswith((".blif", ".json")):
@@ -180,10 +183,10 @@ def _hint(line, words):
     return next((f"; {hint}" for form, hint in HINTS if re.match(form, refusal)), "")
 
 
-def _is_of_script(path, number):
-    """Whether a line of a file is a statement of a script."""
+def _is_line(path, number, form):
+    """Whether a line of a file begins with a form, in letters of any case."""
     lines = read_file(path).split("\n", number)
-    return number <= len(lines) and bool(re.match(r"\s*(start|change)\s+\S+\s*=\s*[01?]", lines[number - 1], re.I))
+    return number <= len(lines) and bool(re.match(form, lines[number - 1], re.I))
 
 
 @contextlib.contextmanager

@@ -1,5 +1,5 @@
 """Reports of `hazard edges`, read change by change."""
-from typing import Dict, Iterator, List, NamedTuple, Optional
+from typing import Dict, Iterator, List, NamedTuple, Optional, Sequence
 
 from .lines import assignments
 
@@ -7,6 +7,8 @@ from .lines import assignments
 STRANGE = (IndexError, KeyError, RuntimeError, StopIteration, ValueError)
 # So many inputs are named in the title of a change.
 MOST_TITLED = 16
+# The words of a line that names an order; that of a node has more.
+_USED = 4
 CLASSES = ("steady", "single", "static", "maybe-static", "dynamic", "maybe-dynamic", "unsettled")
 
 
@@ -30,14 +32,29 @@ class Row(NamedTuple):
         return f"{self.least}" if self.most == self.least else f"{self.least}..{'' if self.most is None else self.most}"
 
 
+class Order(NamedTuple):
+    """An order of two wires of a gate: the second does not make its change of a number before the first has changed."""
+
+    first: str
+    second: str
+    number: int = 1
+
+    def spelt(self):
+        """Its words behind `order` in a script."""
+        return f"{self.first} {self.second}" + (f" {self.number}" if self.number != 1 else "")
+
+
 class Change(NamedTuple):
-    """A change of the script. If an earlier one left a node unsettled, `stopped` names it, and there is nothing else."""
+    """A change of the script. If an earlier one left a node unsettled, `stopped` names it, and there is nothing else. If it uses orders, all
+    that is said of it holds of the runs that keep them; `kept` says whether one is printed, and else there are no lines of a run."""
 
     number: int
     assigned: Dict[str, int]
     rows: Dict[str, Row]
     run_lines: List[str]
     stopped: Optional[str]
+    used: Sequence[Order] = ()
+    kept: bool = True
 
     def changes(self):
         """The inputs that get another value, with that. None are known of a change that is not analysed."""
@@ -52,10 +69,11 @@ class Change(NamedTuple):
 
 
 class Report(NamedTuple):
-    """A whole report: the completed start, and its changes, which can be gone through once."""
+    """A whole report: the completed start; its changes, which can be gone through once; and all starts that were read so far."""
 
     start: Dict[str, int]
     changes: Iterator[Change]
+    starts: List[Dict[str, int]]
 
 
 def read(lines):
@@ -66,22 +84,40 @@ def read(lines):
     words = next(lines).split()
     while words[0] == "feedback":
         words = next(lines).split()
-    return Report(assignments(words[1:]), _changes(lines, nodes))
+    starts = [assignments(words[1:])]
+    return Report(starts[0], _changes(lines, nodes, starts), starts)
 
 
-def _changes(lines, nodes):
+def _changes(lines, nodes, starts):
+    """The changes; a later start is added to the starts."""
     for line in lines:
-        _, number, *words = line.split()
-        number, values = int(number), assignments(words)
-        line = next(lines)
-        if len(line.split()) == 2:
-            yield Change(number, values, {}, [], line.split()[1])
+        word, number, *words = line.split()
+        if word == "start":
+            starts.append(assignments([number] + words))
             continue
-        rows = {}
-        for at in range(nodes):
-            row = _row(line if at == 0 else next(lines))
-            rows[row.name] = row
-        yield Change(number, values, rows, _run_lines(lines), None)
+        values, line = assignments(words), next(lines)
+        if len(line.split()) == 2:
+            yield Change(int(number), values, {}, [], line.split()[1])
+        else:
+            yield _made(int(number), values, line, lines, nodes)
+
+
+def _made(number, values, line, lines, nodes):
+    """A change that was made, from its second line on: the orders that it uses, the rows, whether a run keeps the orders, the run."""
+    used, rows, kept = [], {}, True
+    while len(line.split()) == _USED:
+        _, first, second, word = line.split()
+        used.append(Order(first, second, int(word)))
+        line = next(lines)
+    for at in range(nodes):
+        row = _row(line if at == 0 else next(lines))
+        rows[row.name] = row
+    line = next(lines)
+    if used:
+        kept, line = line == "kept yes", next(lines)
+    if line.startswith("orders "):
+        line = next(lines) if kept else None
+    return Change(number, values, rows, _run_lines(line, lines) if kept else [], None, used, kept)
 
 
 def _row(line):
@@ -90,9 +126,9 @@ def _row(line):
     return Row(name, start, end, int(least), int(most) if most else None if is_range else int(least), kind)
 
 
-def _run_lines(lines):
+def _run_lines(first, lines):
     """The lines of the run text at the end of a change."""
-    taken = [next(lines)]
+    taken = [first]
     while taken[-1] != "end":
         taken.append(next(lines))
     return taken

@@ -8,9 +8,11 @@ import re
 from typing import Dict, List, NamedTuple, Optional
 
 from .errors import SCRIPT_FAULT, WRONG_WORDS, Failure, read_file
-from .lines import assigned, lines_of
+from .lines import assigned, lines_of, variables
 
 NO_CHANGE = "the script has no change"
+# The statements of assumptions on delays.
+ASSUMING = ("order", "ideal")
 MARKS = ("expect", "clock", "edge")
 # What a mark `#edge` says of a change that is not the first one of its edge.
 GOES_ON = "goes on"
@@ -25,12 +27,13 @@ class Mark(NamedTuple):
 
 
 class Statement(NamedTuple):
-    """A line of a script: `start`, `change`, or nothing but a comment; its assignments, its marks, its remark, why the marks can't be
-    read, and the line itself."""
+    """A line of a script: `start`, `change`, `order`, `ideal`, or nothing but a comment; its assignments, or the wires of which it assumes
+    something, with a number; its marks, its remark, why the marks can't be read, and the line itself."""
 
     number: int
     keyword: Optional[str]
     values: Dict[str, int]
+    assumed: List[str]
     marks: List[Mark]
     remark: str
     faults: List[str]
@@ -50,12 +53,16 @@ def read(path):
     text = read_file(path)
     for line, raw in zip(lines_of(text), text.split("\n")):
         marks, remark, faults = _comment(line.comment)
-        keyword, values = None, {}
+        keyword, values, assumed = None, {}, []
         if line.tokens:
-            keyword, values = line.tokens[0].lower(), assigned(line.tokens[1:])
-            if keyword not in ("start", "change") or values is None:
+            keyword = line.tokens[0].lower()
+            if keyword in ASSUMING:
+                assumed = variables(line.tokens[1:])
+            else:
+                values = assigned(line.tokens[1:])
+            if keyword not in ("start", "change") + ASSUMING or values is None:
                 raise fault_of(path, line.number, "neither `start` nor `change` with assignments", SCRIPT_FAULT)
-        yield Statement(line.number, keyword, values, marks, remark, faults, raw.rstrip("\r"))
+        yield Statement(line.number, keyword, values, assumed, marks, remark, faults, raw.rstrip("\r"))
 
 
 def _comment(comment):
@@ -119,6 +126,7 @@ def edges_of(statements):
     """The edges of a script that `hazard-look clock` wrote out: the number of the first change of each by that of its last one."""
     found, first, number = {}, None, 0
     for statement in statements:
+        first = None if statement.keyword == "start" else first
         if statement.keyword == "change":
             number += 1
             told = statement.texts("edge")
@@ -131,6 +139,18 @@ def edges_of(statements):
     return found
 
 
+def begins_of(statements):
+    """The numbers of the changes that begin at a start."""
+    found, number, is_begun = set(), 1, False
+    for statement in statements:
+        if statement.keyword == "change":
+            found.update([number] if is_begun else [])
+            number += 1
+        if statement.keyword in ("start", "change"):
+            is_begun = statement.keyword == "start"
+    return found
+
+
 def lines_of_changes(statements):
     """The line of each change, by its number."""
     changes = (statement.number for statement in statements if statement.keyword == "change")
@@ -140,3 +160,17 @@ def lines_of_changes(statements):
 def name_of(path):
     """The name of a file as findings show it."""
     return os.path.relpath(path) if os.path.isabs(path) and not os.path.relpath(path).startswith(os.pardir) else path
+
+
+def place_of_assumptions(statements):
+    """Behind so many lines of a script a further assumption stands: behind the last one, or else behind the first start."""
+    return max((statement.number for statement in statements if statement.keyword in ASSUMING), default=None) or next(
+        statement.number for statement in statements if statement.keyword == "start")
+
+
+def with_lines(text, place, lines):
+    """The text of a script with more lines behind so many."""
+    rows = text.split("\n")
+    end = "\r" if rows[place - 1].endswith("\r") else ""
+    rows[place:place] = [line + end for line in lines]
+    return "\n".join(rows) if place < len(rows) - len(lines) or not lines else "\n".join(rows) + "\n"

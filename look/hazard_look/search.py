@@ -9,6 +9,7 @@ from typing import NamedTuple
 
 from . import runtext
 from .history import History
+from .kept import Keeper
 from .network import Follower
 
 # Limits of the work, in changes of single variables: of all random runs of a search, and of all attempts to cut a run.
@@ -56,10 +57,11 @@ class Ending(NamedTuple):
 
 
 class Searcher:
-    """Looks for runs of a change, which is given by the lines of the run text in its report."""
+    """Looks for runs of a change, which is given by the lines of the run text in its report. They keep the orders that it uses."""
 
-    def __init__(self, network, lines):
+    def __init__(self, network, lines, used=()):
         self.network, self.lines, self.text = network, lines, runtext.head(lines)
+        self.used, self.keeper = used, Keeper(network, used)
         self.follower = Follower(network, self.text.start, self.text.target)
 
     def printed(self):
@@ -75,8 +77,8 @@ class Searcher:
         """A run that reaches a goal, as short as cuts make it, or None if none is found. The goal speaks of a cone alone."""
         for steps in chain([self.printed()], self._random_runs(cone)):
             found = play(self.follower, ([variable for variable in step if variable in cone] for step in steps), goal)
-            if found is not None:
-                return shorten(self.follower, found, goal)
+            if found is not None and self.keeper.keeps(found):
+                return shorten(self.follower, found, goal, self.keeper)
         return None
 
     def edges(self, node, count, moving):
@@ -84,8 +86,8 @@ class Searcher:
         cone = self.network.cone(node)
         steps = _to_edge([[variable] for step in self.printed() for variable in step if variable in cone], node, count)
         kept = sliced(History(self.follower, steps, moving), steps, node, count)
-        steps = kept if is_run(self.follower, kept) else steps
-        return shorten(self.follower, steps, Edges(node, count)) if len(steps) < MOST_TRIED else steps
+        steps = kept if is_run(self.follower, kept) and self.keeper.keeps(kept) else steps
+        return shorten(self.follower, steps, Edges(node, count), self.keeper) if len(steps) < MOST_TRIED else steps
 
     def _random_runs(self, cone):
         """Runs under random delays, the same ones at each call."""
@@ -100,7 +102,7 @@ class Searcher:
     def delayed(self, chance, cone):
         """A run under delays by chance, between 1 and 1000, up to a state of rest or to a number of changes. It changes
         variables of a cone alone."""
-        follower, steps, due = self.follower, [], {}
+        follower, steps, due, made, waiting = self.follower, [], {}, {}, {}
         delay = {variable: 10 ** chance.uniform(0, 3) for variable in sorted(cone)}
         queue = []
 
@@ -115,12 +117,18 @@ class Searcher:
             look_at(variable, 0)
         while queue and len(steps) < 2 * len(cone) + 50:
             now, variable = heapq.heappop(queue)
-            if due.get(variable) == now:
-                del due[variable]
-                follower.flip(variable)
-                steps.append([variable])
-                for reader in self.network.readers(variable):
-                    look_at(reader, now)
+            if due.get(variable) != now:
+                continue
+            del due[variable]
+            first = self.keeper.held_by(variable, made)
+            if first is not None:
+                waiting.setdefault(first, []).append(variable)
+                continue
+            follower.flip(variable)
+            steps.append([variable])
+            self.keeper.note([variable], made)
+            for reader in self.network.readers(variable) + waiting.pop(variable, []):
+                look_at(reader, now)
         follower.flip_all(steps)
         return steps
 
@@ -139,20 +147,23 @@ class Searcher:
         return found
 
     def turning(self, node):
-        """A lead and a cycle in which a node changes and in which all variables move as soon as they are unstable, so none
-        waits all around; None if that run settles, or keeps the node."""
-        steps, seen, values = [], {}, []
+        """A lead and a cycle in which a node changes and in which all variables move as soon as they are unstable and the orders let
+        them, so none waits all around; None if that run settles, or keeps the node, or if an order keeps a variable back for ever."""
+        steps, seen, values, made, held = [], {}, [], {}, []
         while len(steps) * len(self.network.names) < MOST_SEARCHED:
-            state = bytes(self.follower.value)
+            state = bytes(self.follower.value), self.keeper.counts(made)
             if state in seen:
                 break
             seen[state] = len(steps)
             values.append(self.follower.value[node])
-            steps.append(self.follower.unstable())
+            unstable = self.follower.unstable()
+            steps.append(self.keeper.free(unstable, made))
+            held.append(len(steps[-1]) < len(unstable))
+            self.keeper.note(steps[-1], made)
             self.follower.move(steps[-1])
-        begin = seen.get(bytes(self.follower.value))
+        begin = seen.get((bytes(self.follower.value), self.keeper.counts(made)))
         self.follower.flip_all(steps)
-        if begin is None or len(set(values[begin:])) < 2:
+        if begin is None or len(set(values[begin:])) < 2 or any(held[begin:]):
             return None
         return steps[:begin], steps[begin:]
 
@@ -219,8 +230,8 @@ def play(follower, steps, goal):
     return made if reached else None
 
 
-def shorten(follower, steps, goal):
-    """Cuts a run that reaches a goal. A cut takes some changes away, and with them all later ones that fail without them. The
+def shorten(follower, steps, goal, keeper):
+    """Cuts a run that reaches a goal, and still keeps the orders. A cut takes some changes away, and with them all later ones that fail without them. The
     cuts become smaller and smaller, down to a single change."""
     best, size, left = steps, sum(map(len, steps)), MOST_CUT
     piece = size // 2
@@ -229,7 +240,7 @@ def shorten(follower, steps, goal):
         while at > -piece and left > 0:
             cut = play(follower, _without(best, max(at, 0), at + piece), goal)
             left -= size
-            if cut is not None:
+            if cut is not None and keeper.keeps(cut):
                 best, size = cut, sum(map(len, cut))
             at = min(at, size) - piece
         if piece > 1 or size == begun or left <= 0:

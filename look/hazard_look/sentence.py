@@ -28,6 +28,11 @@ def lines(network, comparisons, what, passes=(), last=None):
     return told
 
 
+def no_later(network, early, late):
+    """That one path is no longer than another one."""
+    return f"{_names(network, early)} no later than {_names(network, late)}: {_sizes(network, early)} against {_sizes(network, late)}"
+
+
 def _slower(network, late):
     return f"{_names(network, late)} {'is' if len(late) == 1 else 'are'} slower"
 

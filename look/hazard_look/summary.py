@@ -19,6 +19,10 @@ MEANINGS = {
     "unsettled": "the delays decide where it ends, or it never settles",
 }
 
+# What an unsettled node means if orders are used: the end that is told of runs that keep them may be X, though they decide it.
+UNDECIDED = "the orders are not known to decide where it ends"
+NOT_KEPT = "no run is known that keeps these orders, so this may speak of no run at all"
+
 
 def run(words, out):
     """Writes the summary of a netlist and a script."""
@@ -46,6 +50,15 @@ class Finding:
         self.echoes = [row for row in rows if row.name not in names]
 
 
+def under(change):
+    """What a change assumes: the orders that it uses, and whether a run is known that keeps them."""
+    if not change.used:
+        return []
+    lines = [f"under order {order.spelt()}" for order in change.used[:MOST_LINES]]
+    lines += [f"  .. and {len(change.used) - MOST_LINES} orders more"] if len(change.used) > MOST_LINES else []
+    return lines + ([] if change.kept else [NOT_KEPT])
+
+
 def roots(circuit, names):
     """Those of some nodes with hazards that have them by themselves: no other such node leads to them, but for those of their own loop.
     All others may be echoes."""
@@ -66,23 +79,24 @@ class _Teller:
         self.line_of, self.first_of = script.lines_of_changes(statements), script.edges_of(statements)
         self.firsts = set(self.first_of.values())
         changes = [statement for statement in statements if statement.keyword == "change"]
+        self.begins = script.begins_of(statements)
         # of each plain change, which is none of an edge that is written out, what the next one assigns
-        self.following = {number: after.values if after else {} for number, (one, after) in enumerate(zip(changes, changes[1:] + [None]), 1) if not one.texts("edge")}
+        self.following = {number: after.values if after and number + 1 not in self.begins else {}
+                          for number, (one, after) in enumerate(zip(changes, changes[1:] + [None]), 1) if not one.texts("edge")}
         self.chosen = _chosen(words, circuit)
-        self.moves, self.stopped, self.told, self.data = None, None, 0, []
+        self.moves, self.stopped, self.told, self.data = None, [], 0, []
 
     def change(self, change):
         """The lines of a change, and then of the edge that ends with it."""
         if change.stopped:
-            self.stopped = (self.stopped or change)._replace(stopped=change.stopped)
-            self.last = change.number
+            self._note_stopped(change)
             return []
         finding = Finding(self.circuit, change, self.chosen if self.words.roots else None)
         told = [row for row in finding.roots + ([] if self.words.roots else finding.echoes) if row.name in self.chosen]
         pulses = self._pulses(change)
         for line in clock.left_out(self.circuit, change, self.following[change.number]) if change.number in self.following else ():
             say(f"hazard-look: {self.words.script}:{self.line_of[change.number]}: {line}")
-        self.told += len(told) + len(pulses)
+        self.told += len(told) + len(pulses) + (not change.kept)
         if self.words.json:
             self.data.append(self._as_data(change, told, finding, pulses))
             return []
@@ -90,21 +104,30 @@ class _Teller:
             return self._findings(change, told, pulses)
         return self._lines(change, told, finding) + self._edge_lines(change, pulses)
 
+    def _note_stopped(self, change):
+        """Notes a change that is not analysed, with those right before it."""
+        last = self.stopped[-1] if self.stopped else None
+        if last and last["last"] == change.number - 1 and change.number not in self.begins:
+            last["last"] = change.number
+        else:
+            self.stopped.append({"first": change.number, "last": change.number, "node": change.stopped})
+            self.told += 1
+
     def end(self):
         """What is told after the last change."""
-        lines = []
-        if self.stopped:
-            first = self.stopped.number
-            which = f"{first}" if first == self.last else f"{first} to {self.last}"
-            what = f"not analysed, {self.stopped.stopped} did not settle in change {first - 1}"
-            lines = [f"{self.words.script}:{self.line_of[first]}: changes {which}: {what}" if self.words.fail else f"{which}: {what}"]
-            self.told += 1
         if not self.words.json:
-            return lines
+            return list(map(self._stopped_line, self.stopped))
         document = {"netlist": self.words.netlist, "script": self.words.script, "findings": self.told, "changes": self.data}
         if self.stopped:
-            document["not analysed"] = {"first": self.stopped.number, "last": self.last, "node": self.stopped.stopped}
+            document["not analysed"] = {**self.stopped[0], **({"more": self.stopped[1:]} if len(self.stopped) > 1 else {})}
         return [json.dumps(document, indent=1)]
+
+    def _stopped_line(self, stopped):
+        """The line of changes that are not analysed."""
+        first, last = stopped["first"], stopped["last"]
+        which = f"{first}" if first == last else f"{first} to {last}"
+        what = f"not analysed, {stopped['node']} did not settle in change {first - 1}"
+        return f"{self.words.script}:{self.line_of[first]}: changes {which}: {what}" if self.words.fail else f"{which}: {what}"
 
     def _pulses(self, change):
         """The nodes that pulse across the edge that ends with a change, with the numbers of the changes in which they move."""
@@ -123,10 +146,11 @@ class _Teller:
         of_root = {row.name for row in finding.roots}
         rows = told if self.words.all or len(told) <= MOST_LINES else [row for row in told if row.name in of_root][:None if self.words.roots else MOST_LINES]
         more = len(told) - len(rows)
-        lines = [f"{change.title()}: {_verdict(told, finding)}{'' if change.changes() else '; no input changes'}"] + [_line(row) for row in rows]
+        lines = [f"{change.title()}: {_verdict(told, finding)}{'' if change.changes() else '; no input changes'}"]
+        lines += [f"  {line}" for line in under(change)] + [_line(row, change) for row in rows]
         lines += [f"  .. and {more} more, which --all has"] if more else []
         names = {row.name for row in told}
-        return lines + [_line(row) for row in change.rows.values() if self.words.all and row.name in self.chosen and row.name not in names]
+        return lines + [_line(row, change) for row in change.rows.values() if self.words.all and row.name in self.chosen and row.name not in names]
 
     def _edge_lines(self, change, pulses):
         if not pulses:
@@ -139,7 +163,8 @@ class _Teller:
     def _findings(self, change, told, pulses):
         """A line for each finding, as compilers write them."""
         front = f"{self.words.script}:{self.line_of[change.number]}: change {change.title()}"
-        lines = [f"{front}: {row.name} {kind_of(row)}: {meaning(row)}{self._place(row.name)}" for row in told]
+        lines = [f"{front}: {row.name} {kind_of(row)}: {meaning(row, change.used)}{self._place(row.name)}" for row in told]
+        lines += [] if change.kept else [f"{front}: {NOT_KEPT}"]
         return lines + [f"{front}: {name} pulses across the edge, in the changes {' and '.join(map(str, numbers))}{self._place(name)}" for name, numbers in pulses]
 
     def _place(self, name):
@@ -150,8 +175,9 @@ class _Teller:
         """What is told of a change, as data."""
         of_root = {row.name for row in finding.roots}
         hazards = [{"node": row.name, "class": row.kind, "kind": kind_of(row), "start": int(row.start), "end": row.end, "edges": {"least": row.least, "most": row.most},
-                    "root": row.name in of_root, "place": self.circuit.place(row.name, self.words.netlist), "meaning": meaning(row)} for row in told]
-        return {"number": change.number, "line": self.line_of[change.number], "assigned": change.assigned, "hazards": hazards,
+                    "root": row.name in of_root, "place": self.circuit.place(row.name, self.words.netlist), "meaning": meaning(row, change.used)} for row in told]
+        assumed = {"under": [order.spelt() for order in change.used], "kept": change.kept} if change.used else {}
+        return {"number": change.number, "line": self.line_of[change.number], "assigned": change.assigned, **assumed, "hazards": hazards,
                 "pulses across the edge": [{"node": name, "changes": numbers} for name, numbers in pulses]}
 
 
@@ -178,11 +204,13 @@ def _verdict(told, finding):
     return f"{len(told)} hazard{'s' if len(told) > 1 else ''}{rooted}: " + ", ".join(named)
 
 
-def _line(row):
-    return f"  {row.name} {kind_of(row)}: {meaning(row)}"
+def _line(row, change):
+    return f"  {row.name} {kind_of(row)}: {meaning(row, change.used)}"
 
 
-def meaning(row):
-    """What the class of a node means, in a sentence."""
-    bound = "no bound on its edges is known" if row.most is None else "no run makes more" + ("" if row.most == row.least else f" than {row.most}")
-    return MEANINGS[row.kind].format(start=row.start, new=1 - int(row.start), least=row.least, bound=bound)
+def meaning(row, used=()):
+    """What the class of a node means, in a sentence, if a change uses some orders."""
+    those = " that keeps the orders" if used else ""
+    bound = "no bound on its edges is known" if row.most is None else f"no run{those} makes more" + ("" if row.most == row.least else f" than {row.most}")
+    told = UNDECIDED if used and row.kind == "unsettled" else MEANINGS[row.kind]
+    return told.format(start=row.start, new=1 - int(row.start), least=row.least, bound=bound)

@@ -10,6 +10,7 @@ from .errors import DONE, WRONG_WORDS, Failure
 from .netlist import INVERTED
 from .network import Network
 from .script import must_be_written_out
+from .summary import under
 
 # The delays before they are made to fit, and how often they are changed until they do.
 USUAL, MOST_ROUNDS = 10, 10_000
@@ -28,13 +29,13 @@ def run(words, out):
     if row.kind == "steady":
         raise Failure(f"{row.name} is steady in change {change.title()}, so no delays move it", WRONG_WORDS)
     searcher, shown = why.explained(words, Network(circuit, is_sorted=True), change, row)
-    if shown[0].comparisons is None:
+    if not shown or shown[0].comparisons is None:
         raise Failure(f"no fixed delays are known with which {row.name} shows what `why` shows", WRONG_WORDS)
     network = searcher.network
     delay = fitting(shown[0].comparisons, len(network.names))
     if delay is None:
         raise Failure(f"no delays were found that satisfy what `why` says of {row.name}", WRONG_WORDS)
-    about = [f"{row.name} in change {change.title()}: {shown[0].title}"] + shown[0].told
+    about = [f"{row.name} in change {change.title()}: {shown[0].title}"] + under(change) + shown[0].told
     out.write("\n".join([f"// {line}" for line in about] + list(_lines(network, searcher.follower, delay, row.name))) + "\n")
     return DONE
 

@@ -9,11 +9,12 @@ from .history import History
 from .lines import spelt
 from .network import Network
 from .program import file_of
+from .proposal import mending
 from .runtext import Run
 from .script import NO_CHANGE, must_be_written_out
 from .search import Searcher
 from .moves import is_clean, kind_of
-from .summary import meaning
+from .summary import meaning, under
 from .waves import LEGEND, drawn, waves
 
 # How many variables and how many steps a waveform shows.
@@ -41,12 +42,17 @@ def run(words, out):
         raise Failure(no_node(circuit, words.node), WRONG_WORDS)
     change = change_of(words, report)
     row = change.rows[words.node]
-    out.write(f"{row.name} in change {change.title()}: {kind_of(row)}, {meaning(row)}\n")
+    out.write(f"{row.name} in change {change.title()}: {kind_of(row)}, {meaning(row, change.used)}\n")
+    for line in under(change):
+        out.write(f"  {line}\n")
     if row.kind == "steady":
         return DONE
     for line in cover.told(circuit, change, row):
         out.write(f"  {line}\n")
     searcher, shown = explained(words, Network(circuit, is_sorted=True), change, row)
+    if not shown:
+        out.write(f"  no run that keeps the orders was found in which {row.name} moves so, which is no proof that there is none\n")
+        return DONE
     text = searcher.text.of([Run(searcher.named(one.lead), _named_cycle(searcher, one)) for one in shown])
     words.program.must_accept(words.netlist, text)
     # before the waveforms, of which a reader may want the first lines alone
@@ -56,6 +62,9 @@ def run(words, out):
         _write(out, searcher, row.name, one)
     if row.kind == "unsettled":
         _write_in_front(out, searcher.network, change.rows, row.name)
+        lacking = mending(words, circuit, searcher.network, change, row.name)
+        if lacking:
+            out.write(f"\n{lacking.line()} alone makes {row.name} clean: {lacking.told()}\n")
     return DONE
 
 
@@ -77,12 +86,17 @@ def change_of(words, report):
 
 
 def explained(words, network, change, row):
-    """A searcher for the runs of a change, and those that show the class of a node."""
-    searcher = Searcher(network, _run_of_sorted_pins(words, network, change, row) or change.run_lines)
+    """A searcher for the runs of a change, and those that show the class of a node: none if no such run is known that keeps the orders."""
+    if not change.kept:
+        return None, []
+    sorted_run = None if change.used else _run_of_sorted_pins(words, network, change, row)
+    searcher = Searcher(network, sorted_run or change.run_lines, change.used)
     moving, node = {network.number[one.name] for one in change.rows.values() if one.moves()}, network.number[row.name]
     if row.kind == "unsettled":
         return searcher, _endless(words, searcher, node, moving)
     wanted, title = _SHOWN.get(row.kind, (1, "its edge; no run with more edges is known, which is no proof that there is none"))
+    if not row.least:
+        return searcher, []
     found = searcher.edges(node, wanted, moving)
     told, compared = _told(History(searcher.follower, found, moving), node, row.name, wanted) if wanted > 1 else ([], [])
     return searcher, [Shown(title, found, None, told, compared)]
@@ -159,8 +173,10 @@ def _endless(words, searcher, node, moving):
     ends, network = searcher.endings(node), searcher.network
     shown = [Shown(f"it can end at {bit}", ends[bit], [], *_told_of_end(searcher, node, ends[bit], bit, moving)) for bit in sorted(ends)]
     turning = searcher.turning(node)
+    if turning is None and searcher.used:
+        return shown
     if turning is None:
-        printed = runtext.read(words.program.last_runs(words.netlist, words.script)).runs[1]
+        printed = runtext.read(words.program.cycle_of(words.netlist, searcher.text)).runs[1]
         turning = [[[network.number[name] for name in step] for step in steps] for steps in (printed.lead, printed.cycle)]
     return shown + [Shown("it can go on for ever", *turning, [])]
 

@@ -5,14 +5,14 @@ import re
 import sys
 import traceback
 
-from . import VERSION, clock, expect, from_verilog, from_yosys, page, program, start, summary, table, terminal, testbench, why
+from . import VERSION, clock, expect, from_verilog, from_yosys, orders, page, program, start, summary, table, terminal, testbench, why
 from .errors import INTERRUPTED, OUTPUT_FAILED, OWN_FAULT, WRONG_WORDS, Failure, must_be_plain, say
 
 ABOUT = """The companion of `hazard`: it shows what a circuit does, asks why, and keeps it as a test. Each value and class
 that it prints is read from a report of `hazard analyse`; each run that it shows stands in a report, or `hazard replay`
 has accepted it."""
-STATUSES = """status: 0 done; 1 an expectation does not hold or could not be checked (expect), there is a hazard (summary, if it is to
-fail), or a change does not settle (clock); 2 wrong words, or an expectation that can't be read, or none; 3 to 10 as `hazard`
+STATUSES = """status: 0 done; 1 an expectation does not hold or could not be checked (expect), there is a hazard (summary, table
+or orders, if it is to fail), or a change does not settle (clock); 2 wrong words, or an expectation that can't be read, or none; 3 to 10 as `hazard`
 has them, whose refusal is passed on; 70 a fault of this program, as a run that `hazard replay` does not accept; 127 no
 program `hazard` is found, or no yosys; 128 and more: `hazard` or this program was ended by a signal"""
 
@@ -89,6 +89,10 @@ def parser():
     job = _job(jobs, "why", why.run, "a short run in which a node makes its hazard")
     _node(job)
     job.add_argument("--save", metavar="FILE", help="keep the run as a run text for `hazard replay`")
+    job = _job(jobs, "orders", orders.run, "few orders of wires under which the hazards go: what the layout has to keep")
+    job.add_argument("--write", metavar="FILE", help="write the script with these orders in it")
+    job.add_argument("--fail", action="store_true", help="write each hazard that is left as FILE:LINE: .., and end with 1 if there is one")
+    job.add_argument("--json", action="store_true", help="write it as JSON")
     _node(_job(jobs, "testbench", testbench.run, "Verilog with delays under which a node makes its hazard"))
     _job(jobs, "page", page.run, "one self-contained page: the circuit, its hazards, a player of the runs")
     job = _job(jobs, "table", table.run, "the flow table: each state that the changes reach, in any order, by each of them")

@@ -1,0 +1,192 @@
+"""A search for few orders of wires, and wires without delay, under which hazards go. Each step is a report of `hazard edges`."""
+from typing import NamedTuple, Optional, Tuple
+
+from . import script, sentence
+from .errors import read_file
+from .lines import spelt
+from .moves import is_clean
+from .network import Network
+from .ranks import Ranks
+from .summary import roots
+
+# The reports of a search: those that look for more, and all of them; and those that it makes of a large circuit too, if all reports together
+# have more rows than so many.
+MOST_ROUNDS, MOST_CALLS, FEW_CALLS, MOST_ROWS = 40, 160, 20, 20_000_000
+# A script states no more orders and no more wires without delay.
+MOST_ORDERS, MOST_IDEALS = 1000, 256
+
+
+class Assumption(NamedTuple):
+    """An order of two wires, or, without a second one, a wire without delay; the ranks of a change in which it may help, with the numbers of
+    its first wire and of the one that has to wait; and what it looks like: the same at a place in parts of a circuit that are alike."""
+
+    first: str
+    second: Optional[str]
+    ranks: Ranks
+    wires: Tuple[int, int]
+    likeness: tuple
+
+    def line(self):
+        """The statement of a script."""
+        return f"ideal {self.first}" if self.second is None else f"order {self.first} {self.second}"
+
+    def key(self):
+        return self.first, self.second
+
+    def paths(self):
+        """The paths to both wires, from where they part."""
+        return self.ranks.paths(*self.wires)
+
+    def told(self):
+        """What it assumes, as a sentence of paths."""
+        compared = sentence.no_later(self.ranks.network, *self.paths())
+        return compared if self.second is not None else f"wire {self.first} without delay; so {compared.removeprefix('wire ')}"
+
+    def is_natural(self, ranks):
+        """Whether it does not turn around how two wires move in a change that uses it."""
+        first, second = self.wires
+        return not (first in ranks.round and second in ranks.round and ranks.must_leave(first)) or ranks.round[first] <= ranks.round[second]
+
+
+def candidates(circuit, ranks, names, is_ideal=False):
+    """What may be assumed at some gates that have a hazard in a change. Of an order the first wire must move, in an earlier round than the
+    second one may; if it need not, the wire may be one without delay."""
+    network = ranks.network
+    for gate in map(network.number.get, names):
+        wires = [wire for wire in network.wires(gate) if wire in ranks.round]
+        for first in wires:
+            later = [wire for wire in wires if ranks.round[first] < ranks.round[wire]]
+            if later and ranks.must_leave(first) != is_ideal:
+                for second in [min(later, key=ranks.round.get)] if is_ideal else later:
+                    likeness = (circuit.gates[gate - network.inputs].kind, len(network.wires(gate)), first - wires[0], second - wires[0], ranks.start[first], ranks.start[second], ranks.start[gate])
+                    yield Assumption(network.names[first], None if is_ideal else network.names[second], ranks, (first, second), likeness)
+
+
+def _hazards(circuit, change, at_roots):
+    """The gates that have a hazard in a change, or the roots of these alone."""
+    names = [row.name for row in change.rows.values() if not is_clean(row) and row.name in circuit.gate_of]
+    found = roots(circuit, names) if at_roots else names
+    return [name for name in names if name in found]
+
+
+def mending(words, circuit, network, change, node):
+    """An order that makes an unsettled node clean in a change, without any other one; None if none is found. `hazard edges` is asked about
+    all that may help, then about halves of what does."""
+    ranks, cone = Ranks(network, change.rows), network.cone(network.number[node])
+    names = [name for at_roots in (True, False) for name in _hazards(circuit, change, at_roots) if network.number[name] in cone]
+    given = [statement for statement in script.read(words.script) if statement.keyword in script.ASSUMING]
+    left, before = dict.fromkeys(_stated(given)), [f"start{spelt({row.name: row.start for row in change.rows.values()})}"] + [statement.line for statement in given]
+    for one in candidates(circuit, ranks, dict.fromkeys(names)):
+        left.setdefault(one.key(), one)
+    left = [one for one in left.values() if one][:MOST_ORDERS - len(given)]
+
+    def is_mended(block):
+        lines = before + [one.line() for one in block] + [f"change{spelt(change.assigned)}", ""]
+        found, = words.program.edges_of_text(words.netlist, "\n".join(lines))
+        return found.kept and is_clean(found.rows[node])
+
+    left = left if left and is_mended(left) else []
+    while len(left) > 1:
+        halves = left[:len(left) // 2], left[len(left) // 2:]
+        left = next((half for half in halves if is_mended(half)), [])
+    return left[0] if left else None
+
+
+def _stated(statements):
+    """The keys of what a script assumes."""
+    orders = {tuple(statement.assumed[:2]) for statement in statements if statement.keyword == "order" and int((statement.assumed + ["1"])[2]) == 1}
+    return orders | {(statement.assumed[0], None) for statement in statements if statement.keyword == "ideal"}
+
+
+class Proposal:
+    """The search for a netlist and a script. Of the reports without and with what is chosen it keeps the rows."""
+
+    def __init__(self, words, circuit, statements, changes):
+        self.words, self.circuit, self.statements = words, circuit, statements
+        self.network, self.text = Network(circuit), read_file(words.script)
+        self.place = script.place_of_assumptions(statements)
+        self.given = [statement for statement in statements if statement.keyword in script.ASSUMING]
+        self.rows = len(circuit.nodes) * sum(statement.keyword == "change" for statement in statements)
+        self.calls, self.is_cut, self.chosen = 1, False, []
+        self.before = self.after = [change._replace(run_lines=[]) for change in changes]
+
+    def search(self):
+        """Finds what is proposed: first enough, and then what is needed of that."""
+        self._gather()
+        if self.worth(self.after) < self.worth(self.before):
+            self._thinned()
+        else:
+            self.chosen, self.after = [], self.before
+        self.chosen.sort(key=lambda one: one.wires)
+
+    def uses(self, one):
+        """The numbers of the changes that use an assumption."""
+        return [change.number for change in self.after if any(used.first == one.first and one.second in (None, used.second) for used in change.used)]
+
+    def report(self, chosen):
+        """The changes under what is chosen, without their runs."""
+        self.calls += 1
+        text = script.with_lines(self.text, self.place, [one.line() for one in chosen])
+        return [change._replace(run_lines=[]) for change in self.words.program.edges_of_text(self.words.netlist, text)]
+
+    def worth(self, changes):
+        """How much is wrong: the hazards; a change that is not analysed counts more, and one in which no run is known to keep the orders."""
+        nodes = len(self.circuit.nodes)
+        return sum(nodes + 1 if change.stopped else nodes if not change.kept else sum(not is_clean(row) for row in change.rows.values()) for change in changes)
+
+    def _ranks(self, changes):
+        return [Ranks(self.network, change.rows) for change in changes if change.rows]
+
+    def _gather(self):
+        """Adds assumptions as long as there are hazards and new ones: at roots first, and orders before wires without delay."""
+        tried = _stated(self.given)
+        while self.worth(self.after) and self.calls <= MOST_ROUNDS:
+            new = self._next(tried)
+            tried.update(one.key() for one in new)
+            if not new:
+                break
+            after = self.report(self.chosen + new)
+            if self.worth(after) <= self.worth(self.after):
+                self.after = after
+                self.chosen += new
+
+    def _next(self, tried):
+        """What may be assumed besides, of the first of four kinds of which there is something."""
+        changes = [change for change in self.after if change.rows]
+        made = self._ranks(changes)
+        for is_ideal in (False, True):
+            used = [statement.keyword == "ideal" for statement in self.given] + [one.second is None for one in self.chosen]
+            room = (MOST_IDEALS if is_ideal else MOST_ORDERS) - used.count(is_ideal)
+            for at_roots in (True, False):
+                found = {}
+                for change, ranks in zip(changes, made):
+                    for one in candidates(self.circuit, ranks, _hazards(self.circuit, change, at_roots), is_ideal):
+                        if one.key() not in tried and (is_ideal or all(map(one.is_natural, made))):
+                            found.setdefault(one.key(), one)
+                if found and room > 0:
+                    return list(found.values())[:room]
+        return []
+
+    def _thinned(self):
+        """Leaves out what is not needed. What is alike stands together; wires without delay go first, and what some change turns around."""
+        ranks = self._ranks(self.after)
+        tried = sorted(self.chosen, key=lambda one: (all(map(one.is_natural, ranks)), one.second is not None, one.likeness))
+        self._leave_out(tried, True)
+
+    def _leave_out(self, block, is_needed):
+        """Leaves out what is not needed of a block, all of it at once if that goes. Answers whether it did. `is_needed`: it is known that
+        not all of it can go."""
+        if self.calls >= MOST_CALLS or self.calls >= FEW_CALLS and self.calls * self.rows > MOST_ROWS:
+            self.is_cut = True
+            return False
+        if not is_needed:
+            dropped = {one.key() for one in block}
+            rest = [one for one in self.chosen if one.key() not in dropped]
+            after = self.report(rest)
+            if self.worth(after) <= self.worth(self.after):
+                self.chosen, self.after = rest, after
+                return True
+        if len(block) > 1:
+            middle = len(block) // 2
+            self._leave_out(block[middle:], self._leave_out(block[:middle], False))
+        return False

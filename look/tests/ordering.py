@@ -1,0 +1,144 @@
+"""Orders of wires: what `orders` proposes, what the jobs say of a script with orders, and that the runs of `why` keep them."""
+import json
+import os
+import random
+import re
+
+from hazard_look import circuit, kept, network, ranks, report, runtext
+from hazard_look import summary as summary_of
+
+LATCH = """INPUT(d)\nINPUT(clk)\nn4 = NOT(dn)\ncn = NOT(clk)\nn1 = NOT(d)\nq_bar = NAND(q, n6)\nq = NAND(q_bar, n5)\nn6 = NAND(n4, cn)
+n5 = NAND(dn, cn)\nq_bar_n = NAND(dn, n3)\ndn = NAND(q_bar_n, n2)\nn3 = NAND(n1, clk)\nn2 = NAND(d, clk)\n"""
+PRESET = """INPUT(d)\nINPUT(en)\nINPUT(clr)\nINPUT(pre)\nn6 = NOT(n20)\nn7 = NOT(n6)\nn8 = AND(n6, n12)\nn9 = AND(n7, q)\nq = OR(n8, n9)
+n10 = NOT(clr)\nn11 = AND(n10, n16)\nn12 = BUFF(n11)\nn13 = NOT(pre)\nn14 = AND(n13, d)\nn15 = BUFF(pre)\nn16 = OR(n14, n15)\nn17 = NOT(clr)
+n18 = NOT(pre)\nn19 = NOT(en)\nn20 = AND(n17, n18, n19)\n"""
+STARTS = "start r=1 s=1\norder q(1) q(2)\nchange r=0 s=0\nchange s=1\nstart r=1 s=0\nchange s=1 #expect q steady\nchange r=0 s=0\nchange r=1 #expect settled\n"
+# What no order mends, as the wires that race come from different inputs, or there is no hazard at all.
+STAY = {"mutex": "no order helps; left: 4 hazards: free1 unsettled in change 1, ", "latch": "no order helps; left: 2 hazards: q unsettled in change 1, ",
+        "celement": "no hazard, so no order is needed\n"}
+
+
+def pipeline(stages):
+    """A Muller pipeline, each C element of four gates, and a script in which all of it empties."""
+    lines, nodes = ["INPUT(req)", "INPUT(ack)"], ""
+    for at in range(1, stages + 1):
+        before = f"c{at - 1}" if at > 1 else "req"
+        lines += [f"n{at} = NOT({f'c{at + 1}' if at < stages else 'ack'})", f"c{at}.ab = AND({before}, n{at})", f"c{at}.ac = AND({before}, c{at})", f"c{at}.bc = AND(n{at}, c{at})",
+                  f"c{at} = OR(c{at}.ab, c{at}.ac, c{at}.bc)"]
+        nodes += f" c{at}=1"
+    return "\n".join(lines) + "\n", f"start req=1 ack=0{nodes}\nchange ack=1\nchange req=0\n"
+
+
+def rows(folder, run, write, hazard, example, circuits, model):
+    """Rows of name, found, wanted."""
+    yield from _proposed(folder, run, write, example)
+    yield from _jobs(folder, run, write, example)
+    yield from _rounds(folder, write, hazard, circuits, model)
+    yield from _kept(folder, run, write, hazard, circuits, model)
+
+
+def _proposed(folder, run, write, example):
+    """What is proposed, and what is left under it."""
+    muller = pipeline(4)
+    cases = {"flipflop": example("flipflop") + [["order r(2) r(1)"]], "clockgate": example("clockgate") + [["order hold(2) hold(1)", "order gated(1) gated(2)"]],
+             "latch of NANDs": [write(folder, "d.bench", LATCH), write(folder, "d.txt", "start d=1 clk=0 q=0 dn=0\nchange clk=1\n"), ["order n5(2) n5(1)"]],
+             "latch with a preset": [write(folder, "p.bench", PRESET), write(folder, "p.txt", "start d=1 en=1 clr=0 pre=0 q=1\nchange pre=1\n"), ["order n16(2) n16(1)"]],
+             "pipeline": [write(folder, "m.bench", muller[0]), write(folder, "m.txt", muller[1]), ["order c1.ab(1) c1.ab(2)", "ideal c1.bc(2)", "ideal c2.ab(1)", "ideal c2.bc(2)", "ideal c3.ab(1)", "ideal c3.bc(2)"]]}
+    for name, (bench, script, lines) in cases.items():
+        status, text, _ = run(["orders", "--json", bench, script], folder)
+        told = json.loads(text)
+        yield f"orders for {name}", (status, [one["line"] for one in told["orders"]], told["after"]["hazards"], told["kept not shown"]), (0, lines, 0, [])
+        yield f"calls for {name}", told["calls"] <= 30, True
+        saved = os.path.join(folder, "saved.txt")
+        yield f"lines for {name}", [line for line in run(["orders", bench, script, "--write", saved], folder)[1].splitlines() if line.startswith(("order ", "ideal "))], lines
+        yield f"nothing to add for {name}", run(["orders", bench, saved], folder)[1], "no hazard, so no order is needed\n"
+        for line in lines:
+            with open(saved, encoding="utf-8") as file:
+                less = write(folder, "less.txt", "".join(row for row in file if not row.startswith(line)))
+            yield f"{line} is needed for {name}", run(["summary", "--fail", bench, less], folder)[0], 1
+    for name, said in STAY.items():
+        status, text, _ = run(["orders"] + example(name), folder)
+        yield f"orders for {name}", (status, text[:len(said)]), (0, said)
+        yield f"orders for {name} that are to fail", run(["orders", "--fail"] + example(name), folder)[0], int("left" in said)
+    sentence = "wire r(2) no later than s(2), s, r(1): 1 wire against 1 gate and 2 wires"
+    yield "the sentence", run(["orders"] + example("flipflop"), folder), (0, f"{sentence}; in changes 3, 5\norder r(2) r(1)\nbefore: 3 hazards; left: none\n", "")
+    yield "an order that mends", run(["why"] + example("flipflop") + ["q"], folder)[1].splitlines()[-1], f"order r(2) r(1) alone makes q clean: {sentence}"
+
+
+def _jobs(folder, run, write, example):
+    """Jobs on a script with orders and two starts."""
+    bench, script = example("latch")[0], write(folder, "two.txt", STARTS)
+    summary = run(["summary", bench, script], folder)[1].splitlines()
+    yield "summary", [line for line in summary if line[:1].isdigit() or "under" in line], [
+        "1 r=0 s=0: 2 hazards: q unsettled, qb unsettled", "  under order q(1) q(2)", "3 s=1: clean", "4 r=0 s=0: 2 hazards: q unsettled, qb unsettled", "  under order q(1) q(2)",
+        "2: not analysed, q did not settle in change 1", "5: not analysed, q did not settle in change 4"]
+    data = json.loads(run(["summary", "--json", bench, script], folder)[1])
+    yield "summary as data", ([change.get("under") for change in data["changes"]], data["not analysed"]["more"]), ([["q(1) q(2)"], None, ["q(1) q(2)"]], [{"first": 5, "last": 5, "node": "q"}])
+    status, text, _ = run(["expect", bench, script], folder)
+    yield "expect", (status, text.splitlines()[-2:]), (1, [f"{script}:4: change 2 is not analysed, q did not settle in change 1: 0 expectations not checked"][1:] + [
+        f"{script}:8: change 5 is not analysed, q did not settle in change 4: 1 expectation not checked", "2 expectations, 0 failed, 1 not checked"])
+    page = json.loads(re.search(r"^const DATA = (.*);$", run(["page", bench, script], folder)[1], re.M)[1])
+    yield "page", [change.get("under") for change in page["changes"]], [["under order q(1) q(2)"], None, None, ["under order q(1) q(2)"], None]
+    gate, lines = write(folder, "or.bench", "INPUT(a)\nINPUT(b)\ng = OR(a, b)\n"), ["start a=0 b=0\n", "order g(1) g(2)\n", "change a=1 b=1  #expect never g=1 a=0\n"]
+    for name, kept_lines, status in (("with", lines, 0), ("without", lines[::2], 1)):
+        yield f"a state {name} an order that bars it", run(["expect", gate, write(folder, "never.txt", "".join(kept_lines))], folder)[0], status
+    stuck = write(folder, "stuck.txt", "start r=0 s=1\norder q(2) q(1)\nchange r=1 s=0  #expect q steady\n")
+    yield "no run that keeps an order", run(["expect", bench, stuck], folder), (0, f"{stuck}:3: change 1 r=1 s=0: q steady: {summary_of.NOT_KEPT}\n1 expectation, 0 failed\n", "")
+    yield "no run to show", run(["why", bench, stuck, "s"], folder)[1].splitlines()[1:], [
+        "  under order q(2) q(1)", f"  {summary_of.NOT_KEPT}", "  no run that keeps the orders was found in which s moves so, which is no proof that there is none"]
+    yield "a finding without a run", run(["summary", "--fail", bench, stuck], folder)[:2], (1, f"{stuck}:3: change 1 r=1 s=0: {summary_of.NOT_KEPT}\n")
+    both = write(folder, "both.txt", "start r=1 s=1\nchange r=0\nstart r=1 s=1\nchange s=0 #expect q steady in 1..2\n")
+    yield "a range over a start", run(["expect", bench, both], folder), (2, "", f"hazard-look: {both}:4: `q steady in 1..2`: a start stands between these changes\n")
+    yield "no table under orders", "a table is of all runs" in run(["table", bench, script], folder)[2], True
+    clocked = write(folder, "ck.bench", "INPUT(ck)\nn = NOT(q)\nq = DFF(n)  # clock ck rising\nz = AND(ck, q)\n")
+    edges = write(folder, "ck.txt", "start ck=0 q=0\norder z(1) z(2)\n#clock ck\nstart ck=0 q=1\n#clock ck\n")
+    yield "clock", run(["clock", clocked, edges], folder)[1].splitlines(), [
+        "start ck=0 q=0", "order z(1) z(2)", "change ck=1  #edge ck=1", "change q=1  #edge goes on", "start ck=0 q=1", "change ck=1  #edge ck=1", "change q=0  #edge goes on"]
+
+
+def _rounds(folder, write, hazard, circuits, model):
+    """The plain rounds of A and B are those of the report."""
+    for name, one in circuits.random_circuits(model, 100, seed=31):
+        bench, script = write(folder, "r.bench", one.netlist()), write(folder, "r.txt", one.script())
+        change = next(hazard.edges(bench, script).changes)
+        found = ranks.Ranks(network.Network(circuit.load(bench)), change.rows)
+        yield f"A of {name}", [at in found.round for at in range(len(change.rows))], [row.moves() for row in change.rows.values()]
+        yield f"B of {name}", ["X" if bit is None else str(bit) for bit in found.end[:len(change.rows)]], [row.end for row in change.rows.values()]
+
+
+def _kept(folder, run, write, hazard, circuits, model):
+    """The runs that `why` shows under orders by chance: each keeps them, by a plain count."""
+    chance, shown = random.Random(6), 0
+    for name, one in circuits.random_circuits(model, 120, seed=61):
+        bench = write(folder, "k.bench", one.netlist())
+        gates = [gate for gate in circuit.load(bench).gates if len(gate.sources) > 1]
+        orders = {report.Order(*(f"{gate.name}({pin})" for pin in chance.sample(range(1, len(gate.sources) + 1), 2)), chance.choice((1, 1, 2))) for gate in chance.sample(gates, min(len(gates), 3))}
+        lines = "".join(f"order {order.spelt()}\n" for order in sorted(orders))
+        script = write(folder, "k.txt", lines + one.script())
+        change = next(hazard.edges(bench, script).changes)
+        if not change.used:
+            continue
+        row = max(change.rows.values(), key=lambda row: report.CLASSES.index(row.kind))
+        saved = os.path.join(folder, "k.runs")
+        status, text, errors = run(["why", bench, script, row.name, "--save", saved], folder)
+        yield f"why of {name}", (status, errors), (0, "")
+        if os.path.exists(saved):
+            with open(saved, encoding="utf-8") as file:
+                runs = runtext.read(file.read().splitlines()).runs
+            os.remove(saved)
+            shown += len(runs)
+            yield f"runs of {name}", [order for order in change.used for found in runs if not _keeps(order, found.lead + 3 * (found.cycle or []))], []
+            keeper, number = kept.Keeper(network.Network(circuit.load(bench)), change.used), network.Network(circuit.load(bench)).number
+            yield f"keeper of {name}", all(keeper.keeps([[number[word] for word in step] for step in found.lead]) for found in runs), True
+    yield "runs under orders", shown > 50, True
+
+
+def _keeps(order, steps):
+    """Whether the second wire makes its change of a number no earlier than the first one changes."""
+    count = {order.first: 0, order.second: 0}
+    for step in steps:
+        for word in step:
+            count[word] = count.get(word, 0) + 1
+        if count[order.second] >= order.number and not count[order.first]:
+            return False
+    return True
