@@ -228,10 +228,11 @@ def parts_of(text):
 
 
 class Script:
-    """Assumptions, and parts: a start with changes, each of which assigns inputs. An assumption is the words of its statement."""
+    """Assumptions, parts, and options of the call. A part is a start with changes, each of which assigns inputs; an assumption is the words
+    of its statement."""
 
-    def __init__(self, assumptions, parts):
-        self.assumptions, self.parts = assumptions, parts
+    def __init__(self, assumptions, parts, options=()):
+        self.assumptions, self.parts, self.options = assumptions, parts, ["--show", "all", *options]
 
     def text(self, circuit, assumptions=None):
         """The text, some of whose assumptions stand before the first start."""
@@ -248,13 +249,25 @@ def random_scripts(count, seed):
     chance = random.Random(seed)
     while count:
         circuit = random_circuit(chance)
-        pairs = [pair for wires in circuit.reads()[len(circuit.inputs):len(circuit.names)] for pair in combinations(wires, 2)]
         starts = list(circuit.stable_starts())
-        if pairs and starts:
+        parts = [random_part(chance, circuit, starts) for _ in range(chance.choice((1, 1, 2)) if starts else 0)]
+        pairs = list(pairs_of(circuit, *parts[0])) if parts else []
+        if pairs:
             count -= 1
-            parts = [(circuit.expanded(chance.choice(starts)), [random_burst(chance, circuit) for _ in range(chance.choice((1, 1, 2, 3)))]) for _ in range(chance.choice((1, 1, 2)))]
             circuit.start = parts[0][0]
-            yield circuit, Script(random_assumptions(chance, circuit, pairs), parts)
+            yield circuit, Script(random_assumptions(chance, circuit, pairs), parts, ("--cap", str(chance.randint(1, 3))) if count % 5 == 0 else ())
+
+
+def random_part(chance, circuit, starts):
+    return circuit.expanded(chance.choice(starts)), [random_burst(chance, circuit) for _ in range(chance.choice((1, 1, 2, 3)))]
+
+
+def pairs_of(circuit, state, bursts):
+    """The pairs of wires of one gate; five times those of which both move in the first change."""
+    a = circuit.moved(state, bursts[0]).algorithm_a()[-1]
+    for wires in circuit.reads()[len(circuit.inputs):len(circuit.names)]:
+        for pair in combinations(wires, 2):
+            yield from [pair] * (5 if {a[wire] for wire in pair} == {"X"} else 1)
 
 
 def random_circuit(chance):
@@ -336,7 +349,14 @@ class Tally:
     """What is counted over all changes: bounds that are the true numbers, ends that are the true ones, runs that are shown."""
 
     def __init__(self):
-        self.bounds = self.exact = self.ends = self.least = self.ordered = self.kept = self.large = 0
+        self.bounds = self.exact = self.ends = self.least = self.ordered = self.rests = self.kept = self.large = 0
+        self.counts_bounds = True
+
+    def checks(self):
+        """Nearly all is as it can be at best; how much, is said if it is not."""
+        yield "changes under orders of which all runs were looked at", self.ordered - self.large >= SCRIPTS / 2, True
+        for name, found, best in (("bounds", self.exact, self.bounds), ("ends", self.least, self.ends), ("runs that come to rest", self.kept, self.rests)):
+            yield f"{name} under orders, {found} of {best}", found >= 0.95 * best, True
 
 
 def is_kept_run(circuit, orders, steps):
@@ -372,12 +392,14 @@ def enumerated(name, circuit, orders, change, tally):
     ends = runs.outcomes()
     values = [{state[i] for state in ends} for i in range(len(circuit.start))]
     yield f"ends of {name}", [row[0] for row, found in zip(change.rows, values) if row[2] != "X" and found - {row[2]}], []
-    moving = [i for i, bound in enumerate(most) if bound]
-    tally.bounds += len(moving)
-    tally.exact += sum(min(most[i], MOST_CHANGES) == true[i] for i in moving)
-    if ends:
-        tally.ends += len(moving)
-        tally.least += sum(change.rows[i][2] == model.join(values[i]) for i in moving)
+    tally.rests += any(not unstable for unstable in runs.unstable.values())
+    tally.kept += change.kept == "yes"
+    if tally.counts_bounds:
+        moving = [i for i, bound in enumerate(most) if bound]
+        tally.bounds += len(moving)
+        tally.exact += sum(min(most[i], MOST_CHANGES) == true[i] for i in moving)
+        tally.ends += len(moving) if ends else 0
+        tally.least += sum(change.rows[i][2] == model.join(values[i]) for i in moving if ends)
 
 
 def change_checks(name, circuit, script, change, tally):
@@ -396,7 +418,6 @@ def change_checks(name, circuit, script, change, tally):
     if change.kept == "yes":
         yield f"kept run of {name}", is_kept_run(circuit, orders, circuit.runs_of(change.run)[0][0]), True
     tally.ordered += 1
-    tally.kept += change.kept == "yes"
     yield from enumerated(name, circuit, orders, change, tally)
     for wire, (first, second, nth) in following:
         order = (names.index(first), names.index(second), nth)
@@ -440,10 +461,10 @@ def call_checks(number, program, folder, circuit, text, script):
             steps = sum(line.split()[0] == "step" for line in change.run)
             yield f"replay of change {count} of script {number}", run(program, ["replay", "o.bench", runs], folder), (0, f"yes: runs 1 steps {steps} cycles 0\n")
         if moved and not change.used:
-            plain = run(program, ["edges", "--show", "all", "o.bench", write(folder, "p.txt", moved.script())], folder)[1]
+            plain = run(program, ["edges"] + script.options + ["o.bench", write(folder, "p.txt", moved.script())], folder)[1]
             yield f"change {count} of script {number} as without assumptions", change.text(), parts_of(plain)[1][0][1][0].text()
     if not any(change.used for _, changes in parts for change in changes):
-        plain = run(program, ["edges", "--show", "all", "o.bench", write(folder, "p.txt", script.text(circuit, []))], folder)[1]
+        plain = run(program, ["edges"] + script.options + ["o.bench", write(folder, "p.txt", script.text(circuit, []))], folder)[1]
         yield f"script {number} as without assumptions", re.sub(r"(?m)^orders used 0 idle \d+\n", "", text), plain
 
 
@@ -452,16 +473,13 @@ def orders(program, folder):
     tally = Tally()
     for number, (circuit, script) in enumerate(random_scripts(SCRIPTS, 7)):
         files = [write(folder, "o.bench", circuit.netlist()), write(folder, "o.txt", script.text(circuit))]
-        status, text = run(program, ["edges", "--show", "all"] + files, folder)
+        status, text = run(program, ["edges"] + script.options + files, folder)
         yield f"status of script {number}", status, 0
         if status == 0:
+            tally.counts_bounds = "--cap" not in script.options
             yield from script_checks(number, circuit, script, text, tally)
             yield from call_checks(number, program, folder, circuit, text, script)
-    print(f"orders: {tally.ordered} changes under orders, {tally.kept} with a run that keeps them; {tally.exact} of {tally.bounds} bounds are the true "
-          f"numbers, {tally.least} of {tally.ends} ends the true ones; {tally.large} changes too large")
-    yield "bounds under orders that are the true numbers", tally.exact >= 0.9 * tally.bounds, True
-    yield "ends under orders that are the true ones", tally.least >= 0.9 * tally.ends, True
-    yield "changes under orders of which all runs were looked at", tally.ordered - tally.large >= SCRIPTS / 2, True
+    yield from tally.checks()
 
 
 PARTS = (orders,)
