@@ -1,11 +1,11 @@
 -- Of each position of a gate's wires the orders of these wires say the same as all orders.
-use Rattle.std.proofs.Common.{◌≡◌, ◌↔◌, ℕ, ◌+◌, ◌<◌, ◌≤◌, List, [], ◌∷◌, ◌++◌, length, get_or, All, Some, refl, sym, ap, ◌∙◌, subst, arith, inl, inr}
+use Rattle.std.proofs.Common.{◌≡◌, ◌↔◌, ℕ, ◌+◌, ◌<◌, List, [], ◌∷◌, ◌++◌, length, Some, sym, subst, arith, inl, inr}
 use Rattle.std.proofs.lemmas.Bool.{cases_lt}
 use Rattle.std.proofs.lemmas.List.Elements.{All-push, All-pop}
 use Rattle.std.specs.List.{slice_index_or}
 use Rattle.hz_orders.specs.Parts.{IsKeptAt}
 use Rattle.hz_orders.specs.Positions.{KeepsAt}
-use Rattle.hz_orders.specs.Tables.{AreEnoughOrders, AreWithOrder, IsOfOthers}
+use Rattle.hz_orders.specs.Tables.{AreWithOrder, IsOfOthers}
 use Rattle.hz_orders.specs.declared.order.Order.{Order}
 use Rattle.hz_orders.specs.declared.table.OrderedGate.{OrderedGate}
 
@@ -37,12 +37,7 @@ AreOwnSoFar gate end own =
     KeepsAt own gate.wire position
     ↔ ((i : ℕ) (none : Order) → i < end → IsKeptBy gate position (slice_index_or gate.orders.now i none))
 
-pub own-none : (gate : OrderedGate) (own : List Order) → own ≡ [] → AreOwnSoFar gate 0 own
-own-none gate own none = λ position long. (
-  λ kept i d few. absurd (omega (arith, few)),
-  λ kept i d few. absurd (omega (arith, few, ap length none)),
-)
-
+-- one order more, of own wires or of others
 pub own-more : (gate : OrderedGate) (order : Order) (place next : ℕ) (own own' : List Order) → next ≡ place + 1 → ((none : Order) → slice_index_or gate.orders.now place none ≡ order) → AreOwnSoFar gate place own → AreWithOrder gate order own own' → AreOwnSoFar gate next own'
 own-more gate order place next own own' is_next is so_far with = λ position long. (
   λ kept i d few.
@@ -57,10 +52,4 @@ own-more gate order place next own own' is_next is so_far with = λ position lon
     (so_far position long).1 (λ i d few. kept i d (omega (arith, few, is_next))),
     subst (IsKeptBy gate position) (is order) (kept place order (omega (arith, is_next))),
   ),
-)
-
-pub own-all : (gate : OrderedGate) (end : ℕ) (own : List Order) → end ≡ length gate.orders.now → AreOwnSoFar gate end own → AreEnoughOrders gate own
-own-all gate end own is so_far = λ position long. (
-  λ kept i d few. (so_far position long).0 kept i d (omega (arith, few, is)),
-  λ kept. (so_far position long).1 (λ i d few. kept i d (omega (arith, few, is))),
 )

@@ -48,7 +48,7 @@ pub fn add_following(
 {
     change.net.keeps_shape();
     let ends = ends_of(change.net, wire);
-    if told[ends.source as usize].changes == Count::Exact(0) {
+    if !may_follow(change.net, told, ends) {
         return Ok(());
     }
     let words = words_holding(alloc, change, told, ends.source)?;
@@ -69,6 +69,32 @@ fn ends_of(net: &Net, wire: u32) -> WireEnds
         VarKind::Gate { .. } => unreachable!(),
         VarKind::Input { .. } => unreachable!(),
     }
+}
+
+// Whether orders may follow from a wire: its source may move, and so may another wire of its gate. It saves words, and nothing rests on it.
+fn may_follow(net: &Net, told: &[Word], ends: WireEnds) -> bool
+    requires circuit { IsCircuit net.now }
+    requires ends { IsWireOf net.now ends }
+    requires told { length told.now ≡ length (network_of net.now) }
+{
+    if !moves(told, ends.source) {
+        return false;
+    }
+    let (first, pins) = net.wires_in(ends.gate);
+    for pin in 0..pins {
+        let wire = first + pin;
+        if wire != ends.wire && moves(told, wire) {
+            return true;
+        }
+    }
+    false
+}
+
+// Whether a variable may move.
+fn moves(told: &[Word], var: u32) -> bool
+    requires { var < length told.now }
+{
+    told[var as usize].changes != Count::Exact(0)
 }
 
 // Words of all variables while one is held.

@@ -1,5 +1,5 @@
 -- One place more, and all.
-use Rattle.std.proofs.Common.{◌≡◌, ◌∙◌, ℕ, ◌+◌, suc, ◌<◌, List, length, get_or, sym, ap, subst, arith}
+use Rattle.std.proofs.Common.{◌∙◌, ℕ, ◌+◌, suc, ◌<◌, List, length, get_or, sym, ap, subst, arith}
 use Rattle.hz_orders.specs.Positions.{value_of}
 use Rattle.hz_orders.specs.Tables.{IsPlaceAt, no_place}
 use Rattle.hz_orders.proofs.Rows.{best-more, best-all, most-of}
