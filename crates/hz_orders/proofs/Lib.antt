@@ -8,6 +8,10 @@ pub mod Onward
 pub mod Moves
 -- The table, place by place: the most from a place on follows from what is told of the later ones
 pub mod Rows
+-- Of each position of a gate's wires the orders of these wires say the same as all orders
+pub mod OwnOrders
+-- What is told of each position of a gate's wires
+pub mod Places
 -- Rows of letters along a run advance as often as their variables change
 pub mod Tracked
 -- Along every run that keeps the orders, and in which what is held stays, each word that is told covers the history of its variable
@@ -17,7 +21,9 @@ pub mod Folded
 -- All outcome states of runs that keep orders refine what words that are inductive under them narrow to
 pub mod Outcomes
 -- A run that keeps orders, and in which a wire is ideal, keeps the orders that follow from it
-pub mod Ideal
+pub mod IdealWires
+-- Orders that follow from a wire being ideal, by words that are told while its source is held
+pub mod Following
 -- A wire must move exactly if Algorithm B ends at its other value
 pub mod Used
 -- Numbers of changes that are enough for a variable under orders, by what drives it, and words that are told so far

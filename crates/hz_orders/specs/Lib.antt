@@ -14,6 +14,7 @@
 -- narrowings net input first round: each X takes its excitation, and 0 and 1 stay
 -- IsIdeal net input start steps wire: a wire that changes in each step from a state in which it is unstable
 -- FollowsFromIdeal orders net input start cap order: the order follows from its first wire being ideal
+-- GrowsByFollowing change wire old new: orders that follow from a wire being ideal are added
 -- positions_of pins: how often each pin's word may have advanced
 -- HaveTable pins: there are few positions
 -- IsWay orders wire pins position way: a way through positions that keep the orders
@@ -27,6 +28,7 @@ pub mod Parts
 pub mod Inductive
 pub mod Outcomes
 pub mod Ideal
+pub mod Following
 pub mod Positions
 pub mod Tables
 pub mod Telling

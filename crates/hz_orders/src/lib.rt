@@ -8,6 +8,7 @@
 //! | `telling` | [`tell_under`]: words of all variables under orders |
 //! | `driven` | how many changes are enough for a variable, and whether what it is told is enough |
 //! | `component` | the order in which words are raised |
+//! | `ideal` | [`add_following`]: the orders that follow from an ideal wire |
 //! | `ends` | [`ends_under`]: what a change comes to under orders |
 //! | `laws` | what holds along runs that keep orders |
 #![tactic(auto)]
@@ -15,6 +16,7 @@
 mod component;
 mod driven;
 mod ends;
+mod ideal;
 mod laws;
 mod order;
 mod positions;
@@ -22,6 +24,7 @@ mod table;
 mod telling;
 
 pub use ends::ends_under;
+pub use ideal::add_following;
 pub use laws::{
     gate_bounds, ideal_wires_keep, inductive_under_orders, kept_outcomes_refine, ordered_covers,
     prefixes_keep, used_by_b,

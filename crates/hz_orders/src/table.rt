@@ -1,5 +1,5 @@
 //! The most changes of a gate along what keeps its orders, by a table of the positions of its pins.
-ghost use Rattle.std.specs.Prelude.{◌≡◌, ◌⊎◌, ◌+◌, ◌*◌, ◌<◌, ◌≤◌, ℕ, suc, List, [], ◌∷◌, ◌++◌, map, All, IfOk, IfSome, IsNone, OnOk, IsTrue, length, slice_index_or};
+ghost use Rattle.std.specs.Prelude.{◌≡◌, ◌⊎◌, ◌+◌, ◌*◌, ◌<◌, ◌≤◌, ℕ, false, suc, List, [], ◌∷◌, ◌++◌, map, All, IfOk, IfSome, IsNone, OnOk, IsTrue, length, slice_index_or};
 ghost use Rattle.hz_core.specs.Gate.{takes};
 ghost use Rattle.hz_word.specs.declared.count.Count.TheVariants.{Exact};
 ghost use Rattle.hz_word.specs.declared.word.Word.{Word};
@@ -8,7 +8,7 @@ ghost use Rattle.hz_word.specs.Pairs.{last_after};
 ghost use Rattle.hz_word.specs.Walk.{change_between};
 ghost use Rattle.hz_orders.specs.Parts.{IsBoundUnder, IsCountUnder, IsKeptAt};
 ghost use Rattle.hz_orders.specs.Positions.{begin, behind_numbers, HaveTable, IsExact, IsMostFrom, KeepsAt, most_places, number_of, positions_of, value_of};
-ghost use Rattle.hz_orders.specs.Tables.{AdvancesEach, AreMostBehind};
+ghost use Rattle.hz_orders.specs.Tables.{AdvancesEach, AreEnoughOrders, AreMostBehind, ArePlaces, AreWithOrder, IsOfOthers, IsPlaceAt, IsTable};
 
 use crate::order::Order;
 use crate::positions::Positions;
@@ -23,6 +23,21 @@ pub struct OrderedGate<'a> {
     pub pins: &'a [Word],
     pub wire: u32,
     pub orders: &'a [Order],
+}
+
+/// What a position of a gate's wires tells: whether it keeps the orders, and the value of the gate.
+#[derive(Clone, Copy)]
+pub(crate) struct Place {
+    pub(crate) kept: bool,
+    pub(crate) value: bool,
+}
+
+/// A gate, all positions of its pins, and what each tells.
+#[derive(Clone, Copy)]
+pub(crate) struct Table<'a> {
+    pub(crate) gate: &'a OrderedGate<'a>,
+    pub(crate) positions: &'a Positions,
+    pub(crate) places: &'a [Place],
 }
 
 // No table has more places.
@@ -105,14 +120,106 @@ fn most_changes(alloc: Global, gate: &OrderedGate) -> Result<u64, Memory>
         (begin gate.now.pins.now) most) }
 {
     let positions = all_positions(alloc, gate.pins)?;
-    let mut letters = vec![in alloc; false; gate.pins.len()]?;
+    let own = own_orders(alloc, gate)?;
+    let places = all_places(alloc, gate, own.as_slice(), &positions)?;
     let mut most = vec![in alloc; 0u64; positions.len()]?;
-    Ok(most_from_begin(
+    let table = Table {
         gate,
-        &positions,
-        most.as_mut_slice(),
-        letters.as_mut_slice(),
-    ))
+        positions: &positions,
+        places: places.as_slice(),
+    };
+    Ok(most_from_begin(&table, most.as_mut_slice()))
+}
+
+// The orders of which both wires are wires of the gate. Each position keeps them exactly if it keeps all orders.
+fn own_orders(alloc: Global, gate: &OrderedGate) -> Result<Vec<Order>, Memory>
+    ensures { IfOk result (λ own. AreEnoughOrders gate.now own.items) }
+{
+    let mut own = Vec::new(alloc);
+    for place in 0..gate.orders.len() {
+        add_own(gate, gate.orders[place], &mut own)?;
+    }
+    Ok(own)
+}
+
+// Adds an order if both its wires are wires of the gate.
+fn add_own(gate: &OrderedGate, order: Order, own: &mut Vec<Order>) -> Result<(), Memory>
+    ensures { OnOk result (AreWithOrder gate.now order own.old.items own.new.items) }
+{
+    if !is_own(gate, order) {
+        return Ok(());
+    }
+    own.push(order)?;
+    Ok(())
+}
+
+// Whether both wires of an order are wires of the gate.
+fn is_own(gate: &OrderedGate, order: Order) -> bool
+    ensures { result ≡ false → IsOfOthers gate.now order }
+{
+    if order.first < gate.wire || order.second < gate.wire {
+        return false;
+    }
+    let first = (order.first - gate.wire) as usize;
+    let second = (order.second - gate.wire) as usize;
+    first < gate.pins.len() && second < gate.pins.len()
+}
+
+// What each position tells: by the orders of the gate's own wires.
+fn all_places(
+    alloc: Global,
+    gate: &OrderedGate,
+    own: &[Order],
+    positions: &Positions,
+) -> Result<Vec<Place>, Memory>
+    requires pins { IsTrue (takes gate.now.kind (length gate.now.pins.now)) }
+    requires table { HaveTable gate.now.pins.now }
+    requires positions { positions.now ≡ positions_of gate.now.pins.now }
+    requires own { AreEnoughOrders gate.now own.now }
+    ensures { IfOk result (λ places. ArePlaces gate.now positions.now places.items) }
+{
+    let mut letters = vec![in alloc; false; gate.pins.len()]?;
+    let mut places = Vec::new(alloc);
+    add_places(gate, own, positions, letters.as_mut_slice(), &mut places)?;
+    Ok(places)
+}
+
+// Adds what each position tells, one position after the other.
+fn add_places(
+    gate: &OrderedGate,
+    own: &[Order],
+    positions: &Positions,
+    letters: &mut [bool],
+    places: &mut Vec<Place>,
+) -> Result<(), Memory>
+    requires pins { IsTrue (takes gate.now.kind (length gate.now.pins.now)) }
+    requires table { HaveTable gate.now.pins.now }
+    requires positions { positions.now ≡ positions_of gate.now.pins.now }
+    requires own { AreEnoughOrders gate.now own.now }
+    requires letters { length letters.old ≡ length gate.now.pins.now }
+    requires places { places.old.items ≡ [] }
+    ensures { OnOk result (ArePlaces gate.now positions.now places.new.items) }
+{
+    for number in 0..positions.len() {
+        let place = place_at(gate, own, positions.position(number), letters);
+        places.push(place)?;
+    }
+    Ok(())
+}
+
+// What a position tells.
+fn place_at(gate: &OrderedGate, own: &[Order], position: &[u32], letters: &mut [bool]) -> Place
+    requires pins { IsTrue (takes gate.now.kind (length gate.now.pins.now)) }
+    requires position { length position.now ≡ length gate.now.pins.now }
+    requires own { AreEnoughOrders gate.now own.now }
+    requires letters { length letters.old ≡ length gate.now.pins.now }
+    ensures place { IsPlaceAt gate.now position.now result }
+    ensures letters { length letters.new ≡ length letters.old }
+{
+    Place {
+        kept: keeps(gate.wire, own, position),
+        value: value_at(gate, position, letters),
+    }
 }
 
 // All positions of pins.
@@ -179,88 +286,54 @@ fn joined(alloc: Global, times: u32, tail: &[u32]) -> Result<Vec<u32>, Memory>
 
 // How often the gate changes at most from the first place on. It tells each place its number, from the last one to the first, since moves
 // lead to later ones.
-fn most_from_begin(
-    gate: &OrderedGate,
-    positions: &Positions,
-    most: &mut [u64],
-    letters: &mut [bool],
-) -> u64
-    requires pins { IsTrue (takes gate.now.kind (length gate.now.pins.now)) }
-    requires table { HaveTable gate.now.pins.now }
-    requires positions { positions.now ≡ positions_of gate.now.pins.now }
-    requires most { length most.old ≡ length positions.now }
-    requires letters { length letters.old ≡ length gate.now.pins.now }
-    ensures { IsMostFrom gate.now.orders.now gate.now.kind gate.now.wire gate.now.pins.now
-        (begin gate.now.pins.now) result }
+fn most_from_begin(table: &Table, most: &mut [u64]) -> u64
+    requires table { IsTable table.now }
+    requires most { length most.old ≡ length table.now.positions.now }
+    ensures { IsMostFrom table.now.gate.now.orders.now table.now.gate.now.kind table.now.gate.now.wire
+        table.now.gate.now.pins.now (begin table.now.gate.now.pins.now) result }
 {
     let mut from_here = 0;
-    for done in 0..positions.len() {
-        let place = positions.len() - 1 - done;
-        from_here = most_from(gate, positions, most, place, letters);
+    for done in 0..table.positions.len() {
+        let place = table.positions.len() - 1 - done;
+        from_here = most_from(table, most, place);
         most[place] = from_here;
     }
     from_here
 }
 
 // How often the gate changes at most from a place on, if that is told of all later ones.
-fn most_from(
-    gate: &OrderedGate,
-    positions: &Positions,
-    most: &[u64],
-    place: usize,
-    letters: &mut [bool],
-) -> u64
-    requires pins { IsTrue (takes gate.now.kind (length gate.now.pins.now)) }
-    requires table { HaveTable gate.now.pins.now }
-    requires positions { positions.now ≡ positions_of gate.now.pins.now }
-    requires place { place < length positions.now }
-    requires most { AreMostBehind gate.now positions.now most.now (suc place) }
-    requires letters { length letters.old ≡ length gate.now.pins.now }
-    ensures most { IsMostFrom gate.now.orders.now gate.now.kind gate.now.wire gate.now.pins.now
-        (slice_index_or positions.now place []) result }
-    ensures less { result + place < length positions.now }
-    ensures letters { length letters.new ≡ length letters.old }
+fn most_from(table: &Table, most: &[u64], place: usize) -> u64
+    requires table { IsTable table.now }
+    requires place { place < length table.now.positions.now }
+    requires most { AreMostBehind table.now.gate.now table.now.positions.now most.now (suc place) }
+    ensures most { IsMostFrom table.now.gate.now.orders.now table.now.gate.now.kind table.now.gate.now.wire
+        table.now.gate.now.pins.now (slice_index_or table.now.positions.now place []) result }
+    ensures less { result + place < length table.now.positions.now }
 {
+    let before = table.positions.position(place);
+    let old = table.places[place].value;
     let mut best = 0u64;
-    for later in place + 1..positions.len() {
-        let more = most_through(
-            gate,
-            positions.position(place),
-            positions.position(later),
-            most[later],
-            letters,
-        );
+    for later in place + 1..table.positions.len() {
+        let after = table.positions.position(later);
+        let more = most_through(before, old, after, table.places[later], most[later]);
         best = best.max(more);
     }
     best
 }
 
-// How often the gate changes at most if the first move leads from one position to another, from which on it changes so often. It is 0 if no
+// How often a gate changes at most if the first move leads from one position to another, from which on it changes so often. It is 0 if no
 // move does.
-fn most_through(
-    gate: &OrderedGate,
-    before: &[u32],
-    after: &[u32],
-    most: u64,
-    letters: &mut [bool],
-) -> u64
-    requires pins { IsTrue (takes gate.now.kind (length gate.now.pins.now)) }
-    requires before { length before.now ≡ length gate.now.pins.now }
-    requires after { length after.now ≡ length gate.now.pins.now }
-    requires most { most < most_places }
-    requires letters { length letters.old ≡ length gate.now.pins.now }
-    ensures bound { AdvancesEach before.now after.now → KeepsAt gate.now.orders.now gate.now.wire after.now →
-        most + change_between (value_of gate.now.kind gate.now.pins.now before.now) (value_of gate.now.kind gate.now.pins.now after.now) ≤ result }
-    ensures attained { (result ≡ 0) ⊎ (AdvancesEach before.now after.now × KeepsAt gate.now.orders.now gate.now.wire after.now
-        × (most + change_between (value_of gate.now.kind gate.now.pins.now before.now) (value_of gate.now.kind gate.now.pins.now after.now) ≡ result)) }
-    ensures letters { length letters.new ≡ length letters.old }
+fn most_through(before: &[u32], old: bool, after: &[u32], new: Place, most: u64) -> u64
+    requires { most < most_places }
+    ensures bound { AdvancesEach before.now after.now → IsTrue new.kept →
+        most + change_between old new.value ≤ result }
+    ensures attained { (result ≡ 0) ⊎ (AdvancesEach before.now after.now × IsTrue new.kept
+        × (most + change_between old new.value ≡ result)) }
 {
-    if !is_onward(before, after) || !keeps(gate, after) {
+    if !new.kept || !is_onward(before, after) {
         return 0;
     }
-    let old = value_at(gate, before, letters);
-    let new = value_at(gate, after, letters);
-    most + changed(old, new)
+    most + changed(old, new.value)
 }
 
 // 1 if two values differ, else 0.
@@ -286,13 +359,13 @@ fn is_onward(before: &[u32], after: &[u32]) -> bool
     true
 }
 
-// Whether a position of a gate's wires keeps the orders.
-fn keeps(gate: &OrderedGate, position: &[u32]) -> bool
-    ensures kept { IsTrue result → KeepsAt gate.now.orders.now gate.now.wire position.now }
-    ensures others { KeepsAt gate.now.orders.now gate.now.wire position.now → IsTrue result }
+// Whether a position of a gate's wires keeps orders.
+fn keeps(wire: u32, orders: &[Order], position: &[u32]) -> bool
+    ensures kept { IsTrue result → KeepsAt orders.now wire position.now }
+    ensures others { KeepsAt orders.now wire position.now → IsTrue result }
 {
-    for place in 0..gate.orders.len() {
-        if !keeps_one(gate.wire, gate.orders[place], position) {
+    for place in 0..orders.len() {
+        if !keeps_one(wire, orders[place], position) {
             return false;
         }
     }

@@ -1,5 +1,5 @@
 -- By the lemma of this crate.
-use Rattle.hz_orders.proofs.Ideal.{ideal-keeps}
+use Rattle.hz_orders.proofs.IdealWires.{ideal-keeps}
 use Rattle.hz_orders.proofs.laws.ideal_wires_keep.Goals as goal
 
 pub returns : goal.returns

@@ -6,4 +6,4 @@ use Rattle.hz_orders.proofs.table.keeps.Given as goal
 
 abbrev pub invariant-loop-place : goal.invariant-loop-place
 invariant-loop-place l =
-    (i : ℕ) (none : Order) → i < l.place → IsKeptAt l.gate.wire (length l.position) (λ pin. slice_index_or l.position pin 0) (slice_index_or l.gate.orders.now i none)
+    (i : ℕ) (none : Order) → i < l.place → IsKeptAt l.wire (length l.position) (λ pin. slice_index_or l.position pin 0) (slice_index_or l.orders i none)

@@ -5,6 +5,5 @@ use Rattle.hz_orders.proofs.table.most_from_begin.Given as goal
 
 abbrev pub invariant-loop-done : goal.invariant-loop-done
 invariant-loop-done l =
-    (length l.letters ≡ length l.initial.letters)
-    × AreMostBehind l.gate l.positions l.most (length l.positions - l.done)
-    × (1 ≤ l.done → slice_index_or l.most (length l.positions - l.done) 0 ≡ l.from_here)
+    AreMostBehind l.table.gate.now l.table.positions.now l.most (length l.table.positions.now - l.done)
+    × (1 ≤ l.done → slice_index_or l.most (length l.table.positions.now - l.done) 0 ≡ l.from_here)
