@@ -64,3 +64,28 @@ keeps-more number steps marks counts order few noted counted looked kept k less 
           ])
       | inr not_more ↦ kept k (omega (arith, not_more))
     ]
+
+-- one step more is counted
+counted-more : (number : ℕ) (steps : List (List ℕ)) (flips counts counts' : List ℕ) → number < length steps → flips ≡ get_or steps number [] → length counts' ≡ length counts → AreCountedTo number steps counts → ((i : ℕ) → i < length counts → get_or counts' i 0 ≡ get_or counts i 0 + changes_in (flips ∷ []) i) → AreCountedTo (number + 1) steps counts'
+counted-more number steps flips counts counts' few same long counted more i inside =
+    let before = counted i (omega (arith, inside, long)) in
+    let here = more i (omega (arith, inside, long)) in
+    let step = changes-step steps number i few in
+    let listed : changes_in (flips ∷ []) i ≡ changes_in (get_or steps number [] ∷ []) i = ap (λ (list : List ℕ). changes_in (list ∷ []) i) same in
+    omega (arith, before, here, step, listed)
+
+-- all orders are kept up to the next step
+pub step-kept : (number : ℕ) (steps : List (List ℕ)) (marks : List Bool) (flips counts counts' : List ℕ) (orders : List Order) → number < length steps → flips ≡ get_or steps number [] → length counts' ≡ length counts → All (IsNoted (length counts) marks) orders → ((i : ℕ) → i < length counts → get_or counts' i 0 ≡ get_or counts i 0 + changes_in (flips ∷ []) i) → (All (λ var. bit_at marks var ≡ false) flips) ⊎ (All (KeepsByCounts counts') orders) → AreCountedTo number steps counts → All (λ order. KeepsUpTo number steps order) orders → AreCountedTo (number + 1) steps counts' × All (λ order. KeepsUpTo (number + 1) steps order) orders
+step-kept number steps marks flips counts counts' orders few same long noted more looked counted kept =
+    let counted' = counted-more number steps flips counts counts' few same long counted more in (
+      counted',
+      λ i none inside.
+          let order = get_or orders i none in
+          let order_noted : IsNoted (length counts') marks order = subst (λ (n : ℕ). IsNoted n marks order) (sym long) (noted i none inside) in
+          keeps-more number steps marks counts' order few order_noted counted'
+          (elim looked [
+            | inl out ↦ inl (subst (λ (list : List ℕ). All (λ var. bit_at marks var ≡ false) list) same out)
+            | inr here ↦ inr (here i none inside)
+          ])
+          (kept i none inside),
+    )

@@ -36,12 +36,18 @@ pub(crate) fn keeps_orders(run: &Run, orders: &[Order], marks: &[bool], counts: 
         slice_index_or counts.new i 0 ≡ changes_in run.now.steps i }
 {
     counts.fill(0);
-    if !are_noted(orders, counts.len(), marks) || !are_kept(orders, counts) {
+    if !are_noted(orders, counts.len(), marks) {
+        return false;
+    }
+    if !are_kept(orders, counts) {
         return false;
     }
     for number in 0..run.steps() {
         let flips = run.step(number);
-        if !count_step(flips, counts) || !step_keeps(orders, marks, flips, counts) {
+        if !count_step(flips, counts) {
+            return false;
+        }
+        if !step_keeps(orders, marks, flips, counts) {
             return false;
         }
     }

@@ -27,7 +27,10 @@ impl Search<'_> {
     fn mark_waiting(&mut self, alloc: Global) -> Result<(), Memory> {
         let mut left = Vec::new(alloc);
         for place in 0..self.waits.len() {
-            let var = self.waits[place];
+            let Some(waiting) = self.waits.get(place) else {
+                break;
+            };
+            let var = *waiting;
             if !is_marked(self.marks.as_slice(), var) && self.is_unstable(var) {
                 set_mark(self.marks.as_mut_slice(), var, true);
                 left.push(var)?;
@@ -41,7 +44,10 @@ impl Search<'_> {
     fn leave_out(&mut self) -> bool {
         let mut some = false;
         for place in 0..self.waits.len() {
-            let var = self.waits[place];
+            let Some(waiting) = self.waits.get(place) else {
+                break;
+            };
+            let var = *waiting;
             if is_marked(self.marks.as_slice(), var) && !self.is_free(var) {
                 set_mark(self.marks.as_mut_slice(), var, false);
                 some = true;
@@ -54,7 +60,10 @@ impl Search<'_> {
     fn take_marked(&mut self, alloc: Global) -> Result<Vec<u32>, Memory> {
         let mut flips = Vec::new(alloc);
         for place in 0..self.waits.len() {
-            let var = self.waits[place];
+            let Some(waiting) = self.waits.get(place) else {
+                break;
+            };
+            let var = *waiting;
             if is_marked(self.marks.as_slice(), var) {
                 set_mark(self.marks.as_mut_slice(), var, false);
                 flips.push(var)?;

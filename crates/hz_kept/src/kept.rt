@@ -7,7 +7,7 @@ ghost use Rattle.hz_kept.specs.Kept.{IsKeptRun};
 
 use crate::check::{keeps_orders, second_wires};
 use crate::rest::comes_to_rest;
-use crate::search::search;
+use crate::search::find_steps;
 use hz_core::Memory;
 use hz_gmw::Run;
 use hz_orders::OrderedChange;
@@ -34,7 +34,7 @@ pub fn kept_run(
         (AreCounts (network_of change.now.net.now) run.new.steps counts.new) }
     ensures room { AreByVariable change.now.net.now counts.new }
 {
-    search(alloc, change, run)?;
+    find_steps(alloc, change, run)?;
     if is_kept_run(alloc, change, run, counts)? {
         return Ok(true);
     }

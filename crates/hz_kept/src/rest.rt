@@ -1,5 +1,5 @@
 //! Whether steps are a run that comes to rest.
-ghost use Rattle.std.specs.Prelude.{◌≡◌, [], length, All, IfOk, IsTrue};
+ghost use Rattle.std.specs.Prelude.{◌≡◌, ◌<◌, ◌++◌, ℕ, List, [], ◌∷◌, length, All, IfOk, IsTrue};
 ghost use Rattle.hz_net.specs.Network.{network_of, IsInput, IsState, IsVariable};
 ghost use Rattle.hz_gmw.specs.Replayer.{StandsFor};
 ghost use Rattle.hz_kept.specs.Kept.{IsRestingRun};

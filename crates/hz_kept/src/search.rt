@@ -35,7 +35,11 @@ enum Way {
 }
 
 /// Writes steps that may be a run that keeps the orders and comes to rest. Of three ways it takes that with the most changes.
-pub(crate) fn search(alloc: Global, change: &OrderedChange, run: &mut Run) -> Result<(), Memory> {
+pub(crate) fn find_steps(
+    alloc: Global,
+    change: &OrderedChange,
+    run: &mut Run,
+) -> Result<(), Memory> {
     let mut best = Way::Oldest;
     let mut most = search_by(alloc, change, best, run)?;
     for way in [Way::NewestFirst, Way::NewestLast] {
