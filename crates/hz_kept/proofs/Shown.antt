@@ -6,7 +6,7 @@ use Rattle.hz_core.specs.Netlist.{Netlist}
 use Rattle.hz_net.specs.Network.{Driver, network_of, bit_at, excitation}
 use Rattle.hz_gmw.specs.Runs.{end_of}
 use Rattle.hz_gmw.specs.Instability.{unstable_count}
-use Rattle.hz_gmw.specs.Replayer.{Replayer, StandsFor}
+use Rattle.hz_gmw.specs.Replayer.{Replayer, StandsFor, initial_replayer}
 use Rattle.hz_gmw.proofs.ReplayLemmas.{same-bit, none-unstable}
 use Rattle.hz_reach.specs.Spread.{changes_in}
 use Rattle.hz_orders.specs.declared.order.Order.{Order}
@@ -23,6 +23,19 @@ resting now steps stands none = record {
       subst (λ (s : List Bool). bit_at s i ≡ excitation (network_of now.circuit) now.input s i) (sym stands.ends)
       (same-bit (bit_at now.state i) (excitation (network_of now.circuit) now.input now.state i) (λ differ. none-unstable now.circuit now.input now.state none i (few, differ)));
 }
+
+-- the same of where the replayer stood before the steps
+pub rested : (old now : Replayer) (steps : List (List ℕ)) → StandsFor now steps → unstable_count (network_of now.circuit) now.input now.state ≡ 0 → now.circuit ≡ old.circuit → now.input ≡ old.input → now.marked ≡ old.marked → IsRestingRun (network_of old.circuit) old.input old.marked steps
+rested old now steps stands none circuit input marked =
+    subst (λ (bits : List Bool). IsRestingRun (network_of old.circuit) old.input bits steps) marked
+    (subst (λ (bits : List Bool). IsRestingRun (network_of old.circuit) bits now.marked steps) input
+    (subst (λ (netlist : Netlist). IsRestingRun (network_of netlist) now.input now.marked steps) circuit (resting now steps stands none)))
+
+-- a replayer that began where it was set, on the circuit of another
+pub began : (made begun : Replayer) (circuit : Netlist) (input start input' start' : List Bool) (steps : List (List ℕ)) → made ≡ initial_replayer circuit input' start' → begun ≡ initial_replayer made.circuit input start → IsRestingRun (network_of begun.circuit) begun.input begun.marked steps → IsRestingRun (network_of circuit) input start steps
+began made begun circuit input start input' start' steps made_is begun_is rests =
+    subst (λ (netlist : Netlist). IsRestingRun (network_of netlist) input start steps) (ap (λ (now : Replayer). now.circuit) made_is)
+    (subst (λ (now : Replayer). IsRestingRun (network_of now.circuit) now.input now.marked steps) begun_is rests)
 
 -- after all steps there are no more
 keeps-all : (steps : List (List ℕ)) (order : Order) → KeepsUpTo (length steps) steps order → (k : ℕ) → order.nth ≤ changes_in (take k steps) order.second → 1 ≤ changes_in (take k steps) order.first

@@ -60,8 +60,8 @@ fn is_kept_run(
 {
     let marks = second_wires(alloc, change.net.len(), change.orders)?;
     let rests = comes_to_rest(alloc, change, run)?;
-    if !rests {
-        return Ok(false);
+    if rests {
+        return Ok(keeps_orders(run, change.orders, marks.as_slice(), counts));
     }
-    Ok(keeps_orders(run, change.orders, marks.as_slice(), counts))
+    Ok(false)
 }

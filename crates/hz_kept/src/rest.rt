@@ -1,6 +1,7 @@
 //! Whether steps are a run that comes to rest.
 ghost use Rattle.std.specs.Prelude.{◌≡◌, ◌<◌, ◌++◌, ℕ, List, [], ◌∷◌, length, All, IfOk, IsTrue};
 ghost use Rattle.hz_net.specs.Network.{network_of, IsInput, IsState, IsVariable};
+ghost use Rattle.hz_gmw.specs.Instability.{unstable_count};
 ghost use Rattle.hz_gmw.specs.Replayer.{StandsFor};
 ghost use Rattle.hz_kept.specs.Kept.{IsRestingRun};
 
@@ -24,7 +25,28 @@ pub(crate) fn comes_to_rest(
     let variables = change.net.len();
     let mut replay = Replay::new(alloc, change.net)?;
     replay.begin(change.input, change.start);
-    Ok(replays(&mut replay, variables, run) && replay.unstable_count() == 0)
+    Ok(rests(&mut replay, variables, run))
+}
+
+// Whether a replayer can make all steps of a run, and no variable is unstable then.
+fn rests(replay: &mut Replay, variables: u32, run: &Run) -> bool
+    requires variables { variables ≡ length (network_of replay.old.circuit) }
+    requires begins { StandsFor replay.old [] }
+    ensures { IsTrue result → IsRestingRun (network_of replay.old.circuit) replay.old.input
+        replay.old.marked run.now.steps }
+{
+    if !replays(replay, variables, run) {
+        return false;
+    }
+    is_at_rest(replay)
+}
+
+// Whether no variable is unstable where a replayer stands.
+fn is_at_rest(replay: &Replay) -> bool
+    ensures { IsTrue result →
+        unstable_count (network_of replay.now.circuit) replay.now.input replay.now.state ≡ 0 }
+{
+    replay.unstable_count() == 0
 }
 
 // Whether a replayer can make all steps of a run.
