@@ -1,16 +1,15 @@
 -- What was replayed, counted and looked at is a run that keeps the orders and comes to rest.
-use Rattle.std.proofs.Common.{◌≡◌, ℕ, ◌+◌, ◌<◌, ◌≤◌, Bool, List, [], ◌∷◌, length, get_or, take, All, refl, sym, ap, ◌∙◌, subst, arith, inl, inr}
+use Rattle.std.proofs.Common.{◌≡◌, ℕ, ◌≤◌, Bool, List, length, get_or, take, All, sym, ap, ◌∙◌, subst, arith, inl, inr}
 use Rattle.std.proofs.lemmas.Bool.{cases_lt}
 use Rattle.std.proofs.lemmas.List.{take_all}
 use Rattle.hz_core.specs.Netlist.{Netlist}
 use Rattle.hz_net.specs.Network.{Driver, network_of, bit_at, excitation}
-use Rattle.hz_gmw.specs.Runs.{end_of}
 use Rattle.hz_gmw.specs.Instability.{unstable_count}
 use Rattle.hz_gmw.specs.Replayer.{Replayer, StandsFor, initial_replayer}
 use Rattle.hz_gmw.proofs.ReplayLemmas.{same-bit, none-unstable}
 use Rattle.hz_reach.specs.Spread.{changes_in}
 use Rattle.hz_orders.specs.declared.order.Order.{Order}
-use Rattle.hz_orders.specs.Orders.{Keeps, KeepsOrder}
+use Rattle.hz_orders.specs.Orders.{KeepsOrder}
 use Rattle.hz_kept.specs.Kept.{IsKeptRun, IsRestingRun}
 use Rattle.hz_kept.specs.Counted.{IsNoted, KeepsUpTo}
 use Rattle.hz_kept.proofs.History.{changes-history}
