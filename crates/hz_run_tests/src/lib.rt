@@ -5,6 +5,7 @@
 //! |---|---|
 //! | `edges` | how often nodes change, from above and from below |
 //! | `gates` | the tables of the gates, and the canonical pattern |
+//! | `kept` | runs that keep orders of wires and come to rest |
 //! | `orders` | how often nodes change under orders of wires, and what they come to |
 //! | `passes` | Algorithms A and B, and the runs that show what they find |
 //! | `replays` | what a replayer knows of each state of a run |
@@ -15,6 +16,8 @@
 mod edges;
 #[cfg(test)]
 mod gates;
+#[cfg(test)]
+mod kept;
 #[cfg(test)]
 mod orders;
 #[cfg(test)]
