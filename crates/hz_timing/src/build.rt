@@ -1,12 +1,15 @@
 // The script of statements without a fault.
 
-ghost use Rattle.std.specs.Prelude.{◌≡◌, ◌++◌, [], length, map, All, IfOk, OnOk, option_to_list};
+ghost use Rattle.std.specs.Prelude.{◌≡◌, true, ◌<◌, ◌++◌, [], length, map, All, IfOk, OnOk, option_to_list};
 ghost use Rattle.hz_text.specs.Assignment.{assignment_to};
 ghost use Rattle.hz_text.specs.Bits.{ArePairs};
 ghost use Rattle.hz_timing.specs.TimedResolution.{timed_resolution_of, numbered_timed_resolutions};
-ghost use Rattle.hz_timing.specs.TimedReading.{IsSoundTimed, AreFewChanges};
+ghost use Rattle.hz_script.specs.Limits.{most_changes};
+ghost use Rattle.hz_timing.specs.TimedFault.{is_change};
+ghost use Rattle.hz_timing.specs.TimedReading.{IsSoundTimed, AreFewChanges, ArePartsPushed, changes_of};
 ghost use Rattle.hz_timing.specs.TimedText.{assumption_of, assumptions_in, changes_up_to_start, parts_in, AreScriptsOf, IsScriptOfPart, IsTimedScriptBy};
 
+use crate::order::is_start;
 use crate::script::{Assumption, TimedScript};
 use crate::statement::{TimedEntry, TimedHeld};
 use hz_core::Memory;
@@ -81,13 +84,32 @@ fn build_parts(alloc: Global, nodes: u32, entries: &[TimedEntry]) -> Result<Vec<
 {
     let mut parts = Vec::new(alloc);
     for (place, entry) in entries.iter().enumerate() {
-        if let TimedHeld::Start(assigned) = &entry.held {
-            let later = &entries[place + 1..];
-            let script = build_part(alloc, nodes, assigned.as_slice(), later)?;
-            parts.push(script)?;
-        }
+        push_part(&mut parts, nodes, &entry.held, &entries[place + 1..])?;
     }
     Ok(parts)
+}
+
+// Adds the script that begins with a statement, if it is a start; these statements are behind it.
+fn push_part(
+    parts: &mut Vec<Script>,
+    nodes: u32,
+    held: &TimedHeld,
+    later: &[TimedEntry],
+) -> Result<(), Memory>
+    requires held { IsSoundTimed nodes (timed_resolution_of held.now) }
+    requires few { AreFewChanges (numbered_timed_resolutions later.now) }
+    requires sound { All (λ entry. IsSoundTimed nodes (timed_resolution_of entry.held)) later.now }
+    ensures { OnOk result
+        (ArePartsPushed nodes (timed_resolution_of held.now)
+        (changes_up_to_start (numbered_timed_resolutions later.now)) parts.old.items parts.new.items) }
+{
+    let TimedHeld::Start(assigned) = held else {
+        return Ok(());
+    };
+    let alloc = *parts.allocator();
+    let script = build_part(alloc, nodes, assigned.as_slice(), later)?;
+    parts.push(script)?;
+    Ok(())
 }
 
 // The script of a start, and of the changes up to the next one.
@@ -131,14 +153,33 @@ fn add_changes(
         (changes_up_to_start (numbered_timed_resolutions entries.now))) }
 {
     for entry in entries {
-        match &entry.held {
-            TimedHeld::Start(_) => return Ok(()),
-            TimedHeld::Change(assigned) => {
-                read_pairs(assigned.as_slice(), pairs)?;
-                script.add_change(pairs.as_slice())?;
-            }
-            _ => {}
+        if is_start(&entry.held) {
+            return Ok(());
         }
+        add_if_change(script, &entry.held, pairs)?;
     }
+    Ok(())
+}
+
+// Adds the change that a statement is, if it is one.
+fn add_if_change(
+    script: &mut Script,
+    held: &TimedHeld,
+    pairs: &mut Vec<(u32, bool)>,
+) -> Result<(), Memory>
+    requires few { is_change (timed_resolution_of held.now) ≡ true →
+        length script.old.changes < most_changes }
+    requires sound { IsSoundTimed (length script.old.start) (timed_resolution_of held.now) }
+    ensures start { OnOk result (script.new.start ≡ script.old.start) }
+    ensures changes { OnOk result
+        (map (map assignment_to) script.new.changes
+        ≡ map (map assignment_to) script.old.changes
+        ++ changes_of (timed_resolution_of held.now)) }
+{
+    let TimedHeld::Change(assigned) = held else {
+        return Ok(());
+    };
+    read_pairs(assigned.as_slice(), pairs)?;
+    script.add_change(pairs.as_slice())?;
     Ok(())
 }
