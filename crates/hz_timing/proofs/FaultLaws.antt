@@ -1,9 +1,10 @@
 -- The first answer of the passes over a script with assumptions of time is its least fault.
-use Rattle.std.proofs.Common.{◌≡◌, ◌∙◌, ℕ, ◌<◌, ◌≤◌, Bool, false, List, [], ◌∷◌, Option, Some, None, suc, refl, ap, sym, subst, inl, inr, arith}
+use Rattle.std.proofs.Common.{◌≡◌, ◌∙◌, ℕ, zero, ◌-◌, ◌<◌, ◌≤◌, Bool, true, false, ◌&&◌, cond, nat_eq, filter, slice_get, List, [], ◌∷◌, Option, Some, None, suc, refl, ap, sym, subst, inl, inr, arith}
 use Rattle.std.specs.Prelude.{◌⊎◌}
 use Rattle.std.specs.Option.{option_map}
 use Rattle.hz_core.specs.Netlist.{Netlist, primary_inputs}
-use Rattle.hz_lists.specs.Least.{IsLeastOf}
+use Rattle.std.proofs.lemmas.Bool.Decides.{nat_tests}
+use Rattle.hz_lists.specs.Least.{IsLeastOf, option_min}
 use Rattle.hz_lists.proofs.LeastLemmas.{IsLeastOf-either}
 use Rattle.hz_line.specs.LeastFault.{ComesFirst, IsLeastOfAll, AreFound, IsAnswer}
 use Rattle.hz_line.specs.Line.{lines_of}
@@ -24,7 +25,7 @@ use Rattle.hz_timing.specs.declared.fault.TimedFault.TheVariants.{Text, Wires, N
 use Rattle.hz_timing.specs.TimedStatement.{Ordered, Ideal, Start, Change, TimedStatement, timed_statement_of, timed_statements_of}
 use Rattle.hz_timing.specs.TimedResolution.{ResolvedTimed, resolve_timed, resolve_timed_tokens}
 use Rattle.hz_timing.specs.TimedFault.{resolved_timed_statements, names_unknown, names_twice, lacks_bit, is_order, is_ideal, is_start, is_change, line_behind, IsBeyond, is_unpaired, lacks_number, is_stated, PassesBehind, HasTimedFault, IsTimedFaultless, IsLeastTimedFault, IsTimedRefusal, timed_fault_number, timed_place_of, timed_faults_that}
-use Rattle.hz_timing.specs.TimedRules.{names_node_twice, least_missing, first_out_of_order, first_beyond, timed_rules, first_line_behind, assumption_faults, first_assumption_fault}
+use Rattle.hz_timing.specs.TimedRules.{names_node_twice, least_missing, first_out_of_order, line_from, first_beyond, timed_rules, first_line_behind, assumption_faults, first_assumption_fault}
 use Rattle.hz_timing.specs.Limits.{most_orders, most_ideals, most_starts}
 use Rattle.hz_timing.proofs.BehindLaws.{answers_behind, answers_order}
 use Rattle.hz_timing.proofs.MissingLaws.{answers_missing}
@@ -32,6 +33,34 @@ use Rattle.hz_timing.proofs.MissingLaws.{answers_missing}
 -- the statements that the reader reads are those of the text, looked up
 pub resolved_statements-read : (netlist : Netlist) (bytes : List ℕ) → numbered_statements (resolve_timed_tokens netlist) bytes ≡ resolved_timed_statements netlist bytes
 resolved_statements-read netlist bytes = numbered_from-map (resolve_timed netlist) timed_statement_of 1 (lines_of bytes)
+
+-- the pass over one limit
+pub line_from-is : (kind : ResolvedTimed → Bool) (most : ℕ) (statements : List (Numbered ResolvedTimed)) → line_from kind most statements ≡ line_behind kind most statements
+line_from-is kind most [] = refl
+line_from-is kind most (first ∷ later) = by_test (kind first.statement) most (λ n. line_from-is kind n later)
+  where
+    by_test :
+        (b : Bool) (n : ℕ) → ((m : ℕ) → line_from kind m later ≡ line_behind kind m later) →
+        cond (b && nat_eq n 0) (Some first.line) (line_from kind (cond b (n - 1) n) later)
+        ≡ option_map (λ numbered. numbered.line) (slice_get (cond b (first ∷ filter (λ numbered. kind numbered.statement) later) (filter (λ numbered. kind numbered.statement) later)) n)
+    by_test false n ih = ih n
+    by_test true zero ih = refl
+    by_test true (suc n) ih =
+        let off : nat_eq (suc n) 0 ≡ false = grind (arith, nat_tests) in
+        let less : suc n - 1 ≡ n = omega arith in
+        rw (off, less) (ih n)
+
+-- the pass over the limits, by the statements of each kind
+pub first_beyond-is :
+    (statements : List (Numbered ResolvedTimed)) →
+    first_beyond statements
+    ≡ option_min (line_behind is_order most_orders statements)
+    (option_min (line_behind is_ideal most_ideals statements) (option_min (line_behind is_start most_starts statements) (line_behind is_change most_changes statements)))
+first_beyond-is statements =
+    ap (λ one. option_min one (option_min (line_from is_ideal most_ideals statements) (option_min (line_from is_start most_starts statements) (line_from is_change most_changes statements)))) (line_from-is is_order most_orders statements)
+    ∙ ap (λ one. option_min (line_behind is_order most_orders statements) (option_min one (option_min (line_from is_start most_starts statements) (line_from is_change most_changes statements)))) (line_from-is is_ideal most_ideals statements)
+    ∙ ap (λ one. option_min (line_behind is_order most_orders statements) (option_min (line_behind is_ideal most_ideals statements) (option_min one (line_from is_change most_changes statements)))) (line_from-is is_start most_starts statements)
+    ∙ ap (λ one. option_min (line_behind is_order most_orders statements) (option_min (line_behind is_ideal most_ideals statements) (option_min (line_behind is_start most_starts statements) one))) (line_from-is is_change most_changes statements)
 
 -- the pass over the limits answers the least line
 answers_beyond : (statements : List (Numbered ResolvedTimed)) → IsLeastOf (IsBeyond statements) (first_beyond statements)
@@ -42,7 +71,9 @@ answers_beyond statements =
     let change = line_behind is_change most_changes statements in
     let last = IsLeastOf-either (λ line. start ≡ Some line) (λ line. change ≡ Some line) start change (answers_itself start) (answers_itself change) in
     let more = IsLeastOf-either (λ line. ideal ≡ Some line) (λ line. (start ≡ Some line) ⊎ (change ≡ Some line)) ideal _ (answers_itself ideal) last in
-    IsLeastOf-either (λ line. order ≡ Some line) (λ line. (ideal ≡ Some line) ⊎ ((start ≡ Some line) ⊎ (change ≡ Some line))) order _ (answers_itself order) more
+    let all = IsLeastOf-either (λ line. order ≡ Some line) (λ line. (ideal ≡ Some line) ⊎ ((start ≡ Some line) ⊎ (change ≡ Some line))) order _ (answers_itself order) more in
+    let P : Option ℕ → Type 0 = IsLeastOf (IsBeyond statements) in
+    subst P (sym (first_beyond-is statements)) all
 
 -- a statement without an unknown name assigns a node twice if it assigns a name twice
 same_twice : (netlist : Netlist) (statement : TimedStatement) → names_unknown netlist (resolve_timed netlist statement) ≡ false → names_node_twice (resolve_timed netlist statement) ≡ names_twice statement

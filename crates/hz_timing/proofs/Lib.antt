@@ -10,3 +10,9 @@ pub mod AssumptionLaws
 pub mod PartLaws
 -- What holds of a text in which no pass finds a fault
 pub mod ReadLaws
+-- Orders and wires without delay, by the variables that a line begins with
+pub mod StatementLaws
+-- What a refusal says
+pub mod TimedLaws
+-- One entry more or less of those that were read
+pub mod EntryLaws

@@ -28,7 +28,7 @@ use Rattle.hz_timing.specs.TimedValue.{TimedScriptOf}
 use Rattle.hz_timing.specs.Limits.{most_orders, most_ideals, most_starts}
 use Rattle.hz_script.specs.Limits.{most_changes}
 use Rattle.hz_timing.proofs.MissingLaws.{answers_missing}
-use Rattle.hz_timing.proofs.FaultLaws.{resolved_statements-read, HasText, text-answer, assumption-answer}
+use Rattle.hz_timing.proofs.FaultLaws.{first_beyond-is, resolved_statements-read, HasText, text-answer, assumption-answer}
 use Rattle.hz_timing.proofs.AssumptionLaws.{assumptions-fit}
 use Rattle.hz_timing.proofs.PartLaws.{IsClearStatement, scripts-fit, parts-good, parts-counted, changes-counted, parts-some, few-kind}
 
@@ -57,7 +57,7 @@ record AreFew (statements : List (Numbered ResolvedTimed)) : Type 0 where
 
 few-from : (statements : List (Numbered ResolvedTimed)) → first_beyond statements ≡ None → AreFew statements
 few-from statements h =
-    let a = option_min-none (line_behind is_order most_orders statements) _ h in
+    let a = option_min-none (line_behind is_order most_orders statements) _ (sym (first_beyond-is statements) ∙ h) in
     let b = option_min-none (line_behind is_ideal most_ideals statements) _ a.1 in
     let c = option_min-none (line_behind is_start most_starts statements) (line_behind is_change most_changes statements) b.1 in
     record { starts = few-kind is_start most_starts statements c.0; changes = few-kind is_change most_changes statements c.1 }

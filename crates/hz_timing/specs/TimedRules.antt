@@ -1,5 +1,5 @@
 -- What the passes over the statements of a script with assumptions of time answer.
-use Rattle.std.specs.Prelude.{ℕ, ◌++◌, Bool, ◌||◌, not, false, nat_lt, List, [], ◌∷◌, Option, Some, None, if◌then◌else◌}
+use Rattle.std.specs.Prelude.{ℕ, ◌-◌, ◌++◌, Bool, ◌&&◌, ◌||◌, nat_eq, not, false, nat_lt, List, [], ◌∷◌, Option, Some, None, if◌then◌else◌}
 use Rattle.std.specs.Option.{option_map}
 use Rattle.hz_lists.specs.Least.{option_min}
 use Rattle.hz_core.specs.Netlist.{Netlist, primary_inputs}
@@ -14,7 +14,7 @@ use Rattle.hz_timing.specs.TimedKeyword.{TimedKeyword}
 use Rattle.hz_timing.specs.TimedKeyword as keyword
 use Rattle.hz_timing.specs.TimedStatement.{Ordered, Ideal, Start, Change}
 use Rattle.hz_timing.specs.TimedResolution.{ResolvedTimed}
-use Rattle.hz_timing.specs.TimedFault.{assignments_in, names_unknown, lacks_bit, is_order, is_ideal, is_start, is_change, has_start, line_behind, is_unpaired, lacks_number, is_stated}
+use Rattle.hz_timing.specs.TimedFault.{assignments_in, names_unknown, lacks_bit, is_order, is_ideal, is_start, is_change, has_start, is_unpaired, lacks_number, is_stated}
 use Rattle.hz_timing.specs.Limits.{most_orders, most_ideals, most_starts}
 
 -- the statement assigns a node twice
@@ -71,13 +71,20 @@ is_of keyword.Ideal = is_ideal
 is_of keyword.Start = is_start
 is_of keyword.Change = is_change
 
+-- the line of the first statement of a kind behind so many more of it
+abbrev pub line_from : (ResolvedTimed → Bool) → ℕ → List (Numbered ResolvedTimed) → Option ℕ
+line_from kind left [] = None
+line_from kind left (first ∷ later) =
+    if kind first.statement && nat_eq left 0 then Some first.line
+    else line_from kind (if kind first.statement then left - 1 else left) later
+
 -- the first line that passes a limit
 abbrev pub first_beyond : List (Numbered ResolvedTimed) → Option ℕ
 first_beyond statements =
-    option_min (line_behind is_order most_orders statements)
-    (option_min (line_behind is_ideal most_ideals statements)
-    (option_min (line_behind is_start most_starts statements)
-    (line_behind is_change most_changes statements)))
+    option_min (line_from is_order most_orders statements)
+    (option_min (line_from is_ideal most_ideals statements)
+    (option_min (line_from is_start most_starts statements)
+    (line_from is_change most_changes statements)))
 
 -- the passes over a script with assumptions of a network
 abbrev pub timed_rules : Netlist → Rules ResolvedTimed

@@ -1,5 +1,9 @@
 -- What the reader of one variable answers, which is not looked up yet.
-use Rattle.std.specs.Prelude.{◌≡◌, ℕ, false, List, length, IsTrue, Option, None, Some}
+use Rattle.std.specs.Prelude.{◌≡◌, ℕ, false, List, [], ◌∷◌, IsTrue, Option, None, Some}
+use Rattle.std.specs.Option.{option_map}
+use Rattle.hz_core.specs.Netlist.{Netlist}
+use Rattle.hz_timing.specs.TimedStatement.{number_word, ordered_by, ideal_by, by_variables}
+use Rattle.hz_timing.specs.TimedResolution.{ResolvedTimed, number_of, resolve_timed}
 use Rattle.std.specs.Borrow.{Bor}
 use Rattle.std.specs.List.{list_all}
 use Rattle.hz_line.specs.Reading.{by_tokens}
@@ -43,3 +47,26 @@ IsVariableFirst line (Some first) =
     (by_tokens variables_of_tokens (tokens_of line)
     ≡ with_first (variable_written first.0) (by_tokens variables_of_tokens (tokens_of first.1.now)))
     × HasDigits first.0
+
+-- a line with these tokens, of which there are some, has this variable alone; or its tokens are no single variable
+abbrev pub IsVariableAlone : Option (List TokenOf) → Option Written → Type 0
+IsVariableAlone tokens None =
+    has_no_token tokens ≡ false →
+    (one : Variable) → ¬ (by_tokens variables_of_tokens tokens ≡ Some (one ∷ []))
+IsVariableAlone tokens (Some written) =
+    (by_tokens variables_of_tokens tokens ≡ Some (variable_written written ∷ []))
+    × HasDigits written
+
+-- the number of an order, by the variables behind its wires, looked up
+abbrev pub number_by_variables : Option (List Variable) → Option (Option ℕ)
+number_by_variables variables =
+    by_variables (λ those. option_map number_of (number_word those)) variables
+
+-- an order and a wire without delay, by their variables, looked up
+abbrev pub order_by_variables : Netlist → Option (List Variable) → Option ResolvedTimed
+order_by_variables netlist variables =
+    option_map (resolve_timed netlist) (by_variables ordered_by variables)
+
+abbrev pub ideal_by_variables : Netlist → Option (List Variable) → Option ResolvedTimed
+ideal_by_variables netlist variables =
+    option_map (resolve_timed netlist) (by_variables ideal_by variables)

@@ -1,9 +1,9 @@
 // What the passes over the statements return, but for their order.
 
-ghost use Rattle.std.specs.Prelude.{◌≡◌, IfOk, Option};
+ghost use Rattle.std.specs.Prelude.{◌≡◌, ◌≤◌, ◌-◌, true, IfOk, if◌then◌else◌};
 ghost use Rattle.hz_timing.specs.TimedResolution.{timed_keyword_by, timed_resolution_of, numbered_timed_resolutions};
-ghost use Rattle.hz_timing.specs.TimedFault.{assignments_in, gate_into, names_unknown, line_behind};
-ghost use Rattle.hz_timing.specs.TimedRules.{left_out, left_out_by_any, least_missing, is_of, first_beyond};
+ghost use Rattle.hz_timing.specs.TimedFault.{assignments_in, gate_into, names_unknown};
+ghost use Rattle.hz_timing.specs.TimedRules.{left_out, left_out_by_any, least_missing, is_of, line_from, first_beyond};
 
 use crate::keyword::TimedKeyword;
 use crate::order::{is_change, is_start};
@@ -120,7 +120,7 @@ pub(crate) fn line_beyond(entries: &[TimedEntry]) -> Option<u32>
 
 // The line of the first statement with this keyword behind so many of them.
 fn line_behind(entries: &[TimedEntry], keyword: TimedKeyword, most: usize) -> Option<u32>
-    ensures { result ≡ line_behind (is_of (timed_keyword_by keyword)) most
+    ensures { result ≡ line_from (is_of (timed_keyword_by keyword)) most
         (numbered_timed_resolutions entries.now) }
 {
     let mut left = most;
@@ -129,9 +129,17 @@ fn line_behind(entries: &[TimedEntry], keyword: TimedKeyword, most: usize) -> Op
         if counts && left == 0 {
             return Some(entry.line);
         }
-        left -= counts as usize;
+        left = left_after(left, counts);
     }
     None
+}
+
+// A number of statements that are left, after one that counts or does not.
+fn left_after(left: usize, counts: bool) -> usize
+    requires { counts ≡ true → 1 ≤ left }
+    ensures { result ≡ (if counts then left - 1 else left) }
+{
+    if counts { left - 1 } else { left }
 }
 
 // Whether the statement begins with this keyword.

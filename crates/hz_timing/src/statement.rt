@@ -1,21 +1,23 @@
 // The statements of a script with assumptions of time, looked up in a network.
 
-ghost use Rattle.std.specs.Prelude.{◌≡◌, length, IfOk, MatchResult, MatchOption, Option, Some, None};
+ghost use Rattle.std.specs.Prelude.{◌≡◌, ◌∷◌, [], length, IfOk, MatchResult, Some};
 ghost use Rattle.std.specs.Option.{option_map};
 ghost use Rattle.hz_line.specs.Reading.{by_tokens, IsUnread};
 ghost use Rattle.hz_line.specs.Token.{tokens_of};
-ghost use Rattle.hz_run_text.specs.RunStatement.{variables_of_tokens};
+ghost use Rattle.hz_run_text.specs.RunStatement.{Variable, variables_of_tokens, with_first};
+ghost use Rattle.hz_run_text.specs.RunResolution.{variable_named};
 ghost use Rattle.hz_text.specs.Rules.{AreBelow};
 ghost use Rattle.hz_timing.specs.TimedKeyword.{Order as OrderWord, Ideal as IdealWord};
-ghost use Rattle.hz_timing.specs.TimedStatement.{timed_keyword_of, number_word, by_variables};
+ghost use Rattle.hz_timing.specs.TimedStatement.{Ordered, timed_keyword_of, number_word};
 ghost use Rattle.hz_timing.specs.TimedResolution.{resolve_timed_tokens, resolve_timed_keyword, timed_resolution_of, timed_keyword_by, nth_of, number_of};
+ghost use Rattle.hz_timing.specs.VariableRead.{variable_written, number_by_variables, order_by_variables};
 ghost use Rattle.hz_timing.specs.TimedFault.{assignments_in};
 ghost use Rattle.hz_timing.specs.TimedRules.{timed_rules};
 
 use crate::keyword::TimedKeyword;
 use crate::order::first_out_of_order;
 use crate::rules::{assignments_in, least_missing, line_beyond, names_unknown};
-use crate::variable::{Written, first_written, variable_named};
+use crate::variable::{Written, first_written, only_written, variable_named};
 use hz_core::Memory;
 use hz_line::{Numbered, StatementFault, Token, is_blank_line, is_keyword};
 use hz_net::Net;
@@ -148,43 +150,70 @@ fn read_statement_of(
 
 // The order that a line after the keyword is.
 fn read_order(net: &Net, line: &[u8]) -> Option<TimedHeld>
-    ensures read { by_tokens (resolve_timed_keyword net.now (Some OrderWord)) (tokens_of line.now)
+    ensures { by_tokens (resolve_timed_keyword net.now (Some OrderWord)) (tokens_of line.now)
         ≡ option_map timed_resolution_of result }
 {
-    let (first, after) = first_written(line)?;
-    let (second, rest) = first_written(after)?;
-    let number = read_number(rest)?;
-    Some(TimedHeld::Order(
-        variable_named(net, first),
-        variable_named(net, second),
-        number,
-    ))
+    match first_written(line) {
+        None => None,
+        Some((first, after)) => read_second(net, variable_named(net, first), after),
+    }
+}
+
+// The order that a line behind its first wire is.
+fn read_second(net: &Net, first: Option<u32>, line: &[u8]) -> Option<TimedHeld>
+    ensures { (one : Variable) → variable_named net.now one ≡ first →
+        order_by_variables net.now (with_first one (by_tokens variables_of_tokens (tokens_of line.now)))
+        ≡ option_map timed_resolution_of result }
+{
+    match first_written(line) {
+        None => None,
+        Some((second, rest)) => read_third(first, variable_named(net, second), rest),
+    }
+}
+
+// The order of two wires, by the line behind them.
+fn read_third(first: Option<u32>, second: Option<u32>, line: &[u8]) -> Option<TimedHeld>
+    ensures { option_map timed_resolution_of result
+        ≡ option_map (Ordered first second)
+        (number_by_variables (by_tokens variables_of_tokens (tokens_of line.now))) }
+{
+    match read_number(line) {
+        None => None,
+        Some(number) => Some(TimedHeld::Order(first, second, number)),
+    }
 }
 
 // The wire without delay that a line after the keyword is.
 fn read_ideal(net: &Net, line: &[u8]) -> Option<TimedHeld>
-    ensures read { by_tokens (resolve_timed_keyword net.now (Some IdealWord)) (tokens_of line.now)
+    ensures { by_tokens (resolve_timed_keyword net.now (Some IdealWord)) (tokens_of line.now)
         ≡ option_map timed_resolution_of result }
 {
-    let (wire, rest) = first_written(line)?;
-    if is_blank_line(rest) {
-        Some(TimedHeld::Ideal(variable_named(net, wire)))
-    } else {
-        None
+    match only_written(line) {
+        None => None,
+        Some(wire) => Some(TimedHeld::Ideal(variable_named(net, wire))),
     }
 }
 
 // The number of an order, by the line behind its wires: 1 if nothing stands there.
 fn read_number(line: &[u8]) -> Option<Option<u32>>
-    ensures { by_variables (λ variables. option_map number_of (number_word variables))
-        (by_tokens variables_of_tokens (tokens_of line.now)) ≡ result }
+    ensures { result ≡ number_by_variables (by_tokens variables_of_tokens (tokens_of line.now)) }
 {
     if is_blank_line(line) {
         return Some(Some(1));
     }
-    match first_written(line) {
-        Some((Written::Node(word), rest)) if is_blank_line(rest) => Some(nth_of(word)),
-        _ => None,
+    match only_written(line) {
+        None => None,
+        Some(written) => number_written(written),
+    }
+}
+
+// The number of an order, by the variable that stands behind its wires.
+fn number_written(written: Written) -> Option<Option<u32>>
+    ensures { result ≡ option_map number_of (number_word (variable_written written.entry ∷ [])) }
+{
+    match written {
+        Written::Node(word) => Some(nth_of(word)),
+        Written::Pin(_, _) => None,
     }
 }
 

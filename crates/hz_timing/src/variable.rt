@@ -6,10 +6,10 @@ ghost use Rattle.hz_line.specs.declared.bytes.Punctuation.TheVariants.{Open};
 ghost use Rattle.hz_line.specs.Token.{PunctuationOf, tokens_of, with_token};
 ghost use Rattle.hz_text.specs.Decimal.{is_digit, number_by};
 ghost use Rattle.hz_run_text.specs.RunResolution.{wire_into, variable_named};
-ghost use Rattle.hz_timing.specs.VariableRead.{IsPinAfter, IsVariableFirst, HasDigits, variable_written};
+ghost use Rattle.hz_timing.specs.VariableRead.{IsPinAfter, IsVariableFirst, IsVariableAlone, HasDigits, variable_written};
 
 use hz_core::MAX_PINS;
-use hz_line::{Punctuation, first_punctuation, first_word};
+use hz_line::{Punctuation, first_punctuation, first_word, is_blank_line};
 use hz_net::Net;
 use hz_run_text::{is_decimal, number_within};
 
@@ -37,6 +37,17 @@ pub(crate) fn first_written<'a>(line: &'a [u8]) -> Option<(Written<'a>, &'a [u8]
         PinAfter::Absent => Some((Written::Node(name), after)),
         PinAfter::Malformed => None,
         PinAfter::Pin(number, rest) => Some((Written::Pin(name, number), rest)),
+    }
+}
+
+/// The variable that a line with tokens has alone.
+pub(crate) fn only_written(line: &[u8]) -> Option<Written>
+    ensures { IsVariableAlone (tokens_of line.now) result }
+{
+    match first_written(line) {
+        None => None,
+        Some((written, rest)) if is_blank_line(rest) => Some(written),
+        Some(_) => None,
     }
 }
 
