@@ -20,7 +20,7 @@ use Rattle.hz_timing.specs.declared.fault.TimedFault.{TimedFault}
 use Rattle.hz_timing.specs.declared.fault.TimedFault.TheVariants.{Wires, Number, Again}
 use Rattle.hz_timing.specs.TimedStatement.{Ordered, Ideal, Start, Change, timed_statements_of}
 use Rattle.hz_timing.specs.TimedResolution.{ResolvedTimed, TimedEntry, resolve_timed_tokens, timed_resolution_of, numbered_timed_resolution, numbered_timed_resolutions}
-use Rattle.hz_timing.specs.TimedFault.{resolved_timed_statements, assignments_in, names_unknown, lacks_bit, is_order, is_ideal, is_start, is_change, has_start, IsMissing, LeavesOut, line_behind, is_unpaired, lacks_number, is_stated, HasTimedFault, IsTimedFaultless, timed_faults_that}
+use Rattle.hz_timing.specs.TimedFault.{resolved_timed_statements, assignments_in, names_unknown, lacks_bit, is_order, is_ideal, is_start, is_change, has_start, IsMissing, LeavesOut, line_behind, is_unpaired, lacks_number, is_stated, HasTimedFault, IsTimedRefusal, timed_faults_that}
 use Rattle.hz_timing.specs.TimedRules.{names_node_twice, least_missing, misplaced_from, first_out_of_order, first_beyond, timed_rules, first_assumption_fault, first_line_behind}
 use Rattle.hz_timing.specs.TimedReading.{IsSoundTimed, AreFewChanges, IsAcceptedTimed}
 use Rattle.hz_timing.specs.TimedText.{parts_in, changes_up_to_start, Part, IsTimedScriptBy, IsTimedScriptFor}
@@ -151,3 +151,14 @@ accepted netlist bytes entries h below none =
       faultless = subst F here (assumption-answer netlist bytes no_text);
       usable = λ circuit whole script is. usable netlist bytes script circuit whole (subst C looked clear) (paired-from netlist (resolved_timed_statements netlist bytes) here) is;
     }
+
+-- what the passes over assumptions answer, as a refusal
+pub assumption-refusal :
+    (netlist : Netlist) (bytes : List ℕ) (entries : List TimedEntry) (fault : TimedFault) → IsChecked (resolve_timed_tokens netlist) (timed_rules netlist) bytes (numbered_timed_resolutions entries) →
+    first_assumption_fault netlist (numbered_timed_resolutions entries) ≡ Some fault → IsTimedRefusal netlist bytes fault
+assumption-refusal netlist bytes entries fault h found =
+    let looked : numbered_timed_resolutions entries ≡ resolved_timed_statements netlist bytes = sym h.read.statements ∙ resolved_statements-read netlist bytes in
+    let no_text = unanswered (HasText netlist bytes) _ (text-answer netlist bytes) (checked-none (resolve_timed_tokens netlist) (timed_rules netlist) bytes (numbered_timed_resolutions entries) h) in
+    let F : Option TimedFault → Type 0 = IsAnswer (timed_faults_that (HasTimedFault netlist bytes)) in
+    let P : List (Numbered ResolvedTimed) → Type 0 = λ statements. first_assumption_fault netlist statements ≡ Some fault in
+    inr (subst F (subst P looked found) (assumption-answer netlist bytes no_text))

@@ -1,6 +1,6 @@
 // The order of the statements: a start before the first change, assumptions before the first change.
 
-ghost use Rattle.std.specs.Prelude.{◌≡◌};
+ghost use Rattle.std.specs.Prelude.{◌≡◌, false};
 ghost use Rattle.hz_timing.specs.TimedResolution.{timed_resolution_of, numbered_timed_resolutions};
 ghost use Rattle.hz_timing.specs.TimedFault.{is_start, is_change, has_start};
 ghost use Rattle.hz_timing.specs.TimedRules.{misplaced_behind, misplaced_from, first_out_of_order};
