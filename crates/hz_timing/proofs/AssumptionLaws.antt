@@ -5,7 +5,7 @@ use Rattle.std.specs.Option.{IfSome, is_none}
 use Rattle.std.proofs.lemmas.Bool.Decides.{nat_tests}
 use Rattle.std.proofs.lemmas.List.{length-map}
 use Rattle.std.proofs.lemmas.List.Elements.{All-nil, All-cons, All-head, All-tail}
-use Rattle.std.proofs.lemmas.Option.{same_Some, slice_get_within}
+use Rattle.std.proofs.lemmas.Option.{same_Some, slice_get_within, slice_get_past}
 use Rattle.hz_core.specs.Netlist.{Netlist, IsCircuit, IsWhole}
 use Rattle.hz_net.specs.Driven.{IsWireAt}
 use Rattle.hz_net.specs.Entries.{entries_of, entry_kind}
@@ -33,6 +33,10 @@ pub length-kinds : (netlist : Netlist) → IsCircuit netlist → length (variabl
 length-kinds netlist circuit =
     let same : length (map entry_kind (entries_of netlist)) ≡ length (variable_kinds netlist) = ap length (variable_kinds-entries netlist) in
     omega (arith, same, length-map (entries_of netlist) entry_kind, length-entries_of netlist circuit, length-network_of netlist circuit)
+
+-- a variable past the last is no wire
+pub gate-none : (netlist : Netlist) (variable : ℕ) → IsCircuit netlist → length (network_of netlist) ≤ variable → gate_into netlist (Some variable) ≡ None
+gate-none netlist variable circuit past = ap gate_by (slice_get_past (variable_kinds netlist) variable (omega (arith, past, length-kinds netlist circuit)))
 
 wire-gate : (kind : Option VarKind) (gate : ℕ) → gate_by kind ≡ Some gate → (pin : ℕ) × (source : ℕ) × (kind ≡ Some (WireVariable gate pin source))
 wire-gate None gate e = cc
@@ -87,7 +91,7 @@ number-bounds : (word : Option (List ℕ)) → IfSome (number_of word) (λ n. (1
 number-bounds None = (omega arith, omega arith)
 number-bounds (Some word) = by_test (is_decimal word) (nat_le 1 (number_by word)) (nat_le (number_by word) most_nth) refl refl
   where
-    by_test : (d low high : Bool) → nat_le 1 (number_by word) ≡ low → nat_le (number_by word) most_nth ≡ high → IfSome (cond (d && (low && high)) (Some (number_by word)) None) (λ n. (1 ≤ n) × (n ≤ most_nth))
+    by_test : (d low high : Bool) → nat_le 1 (number_by word) ≡ low → nat_le (number_by word) most_nth ≡ high → IfSome (cond d (cond (low && high) (Some (number_by word)) None) None) (λ n. (1 ≤ n) × (n ≤ most_nth))
     by_test true true true a b = (grind (arith, nat_tests, a), grind (arith, nat_tests, b))
     by_test true true false a b = tt
     by_test true false high a b = tt

@@ -1,6 +1,10 @@
 -- One entry more or less of those that were read.
 use Rattle.std.proofs.Common.{◌≡◌, ◌∙◌, ℕ, zero, suc, ◌+◌, ◌<◌, ◌≤◌, Bool, true, false, cond, List, [], ◌∷◌, ◌++◌, Option, Some, None, length, get_or, take, drop, map, filter, refl, ap, sym, subst, arith, append_assoc, length-append}
-use Rattle.std.specs.List.{All, cons_option}
+use Rattle.std.specs.List.{All, cons_option, filter_map}
+use Rattle.hz_text.specs.Bits.{ArePairs, pair_of}
+use Rattle.hz_text.proofs.BuildLemmas.{pairs_back}
+use Rattle.hz_timing.specs.declared.statement.TimedHeld.{TimedHeld}
+use Rattle.hz_timing.specs.declared.statement.TimedHeld.TheVariants as held
 use Rattle.std.specs.Option.{option_to_list}
 use Rattle.std.proofs.lemmas.List.{length-map, take_more, drop_more, drop_all, map-append, append-nil}
 use Rattle.hz_line.specs.Statement.{Numbered}
@@ -206,3 +210,19 @@ changes-few entries i entry old within is few so_far change =
     let some : 1 ≤ length left = subst P (sym (entries-at entries i entry within is)) (change-counted entry.line (timed_resolution_of entry.held) rest change) in
     let same : length (front ++ map A left) ≡ length (map A all) = ap length so_far in
     omega (arith, same, length-append front (map A left), length-map old (map assignment_to), length-map left A, length-map all A, some, changes-counted statements, few)
+
+-- one change more
+pub change-pushed :
+    (assigned : List Assigned) (pairs : List (ℕ × Bool)) (old new : ScriptOf) → ArePairs (length old.start) assigned → pairs ≡ filter_map pair_of assigned → new ≡ record old { changes = old.changes ++ pairs ∷ [] } →
+    map (map assignment_to) new.changes ≡ map (map assignment_to) old.changes ++ assigned ∷ []
+change-pushed assigned pairs old new sound are added =
+    ap (λ (script : ScriptOf). map (map assignment_to) script.changes) added
+    ∙ map-append (map assignment_to) old.changes (pairs ∷ [])
+    ∙ ap (λ one. map (map assignment_to) old.changes ++ one ∷ []) (ap (map assignment_to) are ∙ pairs_back (length old.start) assigned sound.pairs)
+
+-- a start that was read is no assumption, and neither is a change
+pub held-start : (before : List ResolvedTimed) (read : TimedHeld) (assigned : _) → read ≡ held.Start assigned → is_stated before (timed_resolution_of read) ≡ false
+held-start before read assigned is = subst (λ (one : TimedHeld). is_stated before (timed_resolution_of one) ≡ false) (sym is) (start-unstated before assigned.items)
+
+pub held-change : (before : List ResolvedTimed) (read : TimedHeld) (assigned : _) → read ≡ held.Change assigned → is_stated before (timed_resolution_of read) ≡ false
+held-change before read assigned is = subst (λ (one : TimedHeld). is_stated before (timed_resolution_of one) ≡ false) (sym is) (change-unstated before assigned.items)

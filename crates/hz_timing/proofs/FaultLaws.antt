@@ -111,7 +111,7 @@ pub text-answer : (netlist : Netlist) (bytes : List ℕ) → Outcome (HasText ne
 text-answer netlist bytes = text-outcome (resolve_timed netlist) timed_statement_of bytes (timed_rules netlist) (HasText netlist bytes) (judged netlist bytes)
 
 -- the faults of all texts come before those of assumptions
-text-first : (fault : TextFault) → fault_number fault < 10
+pub text-first : (fault : TextFault) → fault_number fault < 10
 text-first (text.Form line) = omega arith
 text-first (text.Unknown line) = omega arith
 text-first (text.Twice line) = omega arith

@@ -40,7 +40,7 @@ by_assigned primary bound assigned (Some least) low e =
     }
 
 no_start : (missing : ℕ → Type 0) (bound : ℕ) → ((node : ℕ) → missing node → ⊥) → IsLeastMissing missing bound bound
-no_start missing bound no = record { within = omega arith; none = λ node out. absurd (no node out); here = λ less. absurd (omega (arith, less)) }
+no_start missing bound never = record { within = omega arith; none = λ node out. absurd (never node out); here = λ less. absurd (omega (arith, less)) }
 
 -- what one statement leaves out
 left_out-least : (primary bound : ℕ) (statement : ResolvedTimed) → bound ≤ primary → IsLeastMissing (LeavesOut primary statement) bound (left_out bound statement)
@@ -78,7 +78,7 @@ out-below primary node (Ordered first second number) out = absurd out
 out-below primary node (Ideal wire) out = absurd out
 out-below primary node (Change assigned) out = absurd out
 
-missing-below : (primary node : ℕ) (statements : List (Numbered ResolvedTimed)) → IsMissing primary statements node → node < primary
+pub missing-below : (primary node : ℕ) (statements : List (Numbered ResolvedTimed)) → IsMissing primary statements node → node < primary
 missing-below primary node [] out = absurd out
 missing-below primary node (first ∷ later) (inl here) = out-below primary node first.statement here
 missing-below primary node (first ∷ later) (inr more) = missing-below primary node later more

@@ -1,5 +1,5 @@
 -- What holds of a script with assumptions of time in which no pass finds a fault.
-use Rattle.std.proofs.Common.{◌≡◌, ◌∙◌, ℕ, ◌<◌, ◌≤◌, Bool, true, false, cond, List, [], ◌∷◌, Option, Some, None, length, map, refl, ap, sym, subst, inl, inr, arith}
+use Rattle.std.proofs.Common.{◌≡◌, ◌∙◌, ℕ, ◌<◌, ◌≤◌, Bool, true, false, cond, List, [], ◌∷◌, Option, Some, None, length, get_or, map, refl, ap, sym, subst, inl, inr, arith}
 use Rattle.std.specs.Prelude.{sum_by, filter}
 use Rattle.std.specs.List.{All}
 use Rattle.hz_core.specs.Netlist.{Netlist, IsCircuit, IsWhole, primary_inputs}
@@ -122,7 +122,7 @@ entries-sound netlist nodes entries h below =
     let u = All-unmap U numbered_timed_resolution entries (All-from_first_line (names_unknown netlist) (numbered_timed_resolutions entries) h.unknown) in
     let b = All-unmap B numbered_timed_resolution entries (All-from_first_line lacks_bit (numbered_timed_resolutions entries) h.bit) in
     let t = All-unmap T numbered_timed_resolution entries (All-from_first_line names_node_twice (numbered_timed_resolutions entries) h.twice) in
-    λ k d l. statement-sound netlist nodes _ (u k d l) (b k d l) (t k d l) (below k d l)
+    λ k d l. statement-sound netlist nodes (timed_resolution_of (get_or entries k d).held) (u k d l) (b k d l) (t k d l) (below k d l)
 
 -- where no pass over assumptions has an answer, no order is unpaired
 paired-from : (netlist : Netlist) (statements : List (Numbered ResolvedTimed)) → first_assumption_fault netlist statements ≡ None → first_passing_line (is_unpaired netlist) statements ≡ None

@@ -1,6 +1,7 @@
 -- Orders and wires without delay, by the variables that a line begins with.
-use Rattle.std.proofs.Common.{◌≡◌, ◌∙◌, ℕ, Bool, true, false, cond, List, [], ◌∷◌, Option, Some, None, refl, ap, sym}
+use Rattle.std.proofs.Common.{◌≡◌, ◌∙◌, ℕ, ◌<◌, Bool, true, false, ◌&&◌, nat_le, arith, cond, List, [], ◌∷◌, Option, Some, None, refl, ap, sym}
 use Rattle.std.specs.Option.{option_map}
+use Rattle.std.proofs.lemmas.Bool.Decides.{nat_tests}
 use Rattle.hz_core.specs.Netlist.{Netlist}
 use Rattle.hz_line.specs.Reading.{by_tokens}
 use Rattle.hz_line.specs.Token.{TokenOf, WordOf, PunctuationOf, has_no_token}
@@ -10,7 +11,8 @@ use Rattle.hz_run_text.specs.RunStatement.{Variable, Node, Pin, variables_of_tok
 use Rattle.hz_run_text.specs.RunResolution.{variable_named}
 use Rattle.hz_timing.specs.TimedKeyword as keyword
 use Rattle.hz_timing.specs.TimedStatement.{Ordered, Ideal, number_word}
-use Rattle.hz_timing.specs.TimedResolution.{number_of, resolve_timed, resolve_timed_keyword}
+use Rattle.hz_timing.specs.TimedResolution.{nth_by, number_of, resolve_timed, resolve_timed_keyword}
+use Rattle.hz_timing.specs.Limits.{most_nth}
 use Rattle.hz_timing.specs.VariableRead.{number_by_variables, order_by_variables, ideal_by_variables}
 
 pub order-tokens : (netlist : Netlist) (tokens : Option (List TokenOf)) → by_tokens (resolve_timed_keyword netlist (Some keyword.Order)) tokens ≡ order_by_variables netlist (by_tokens variables_of_tokens tokens)
@@ -64,18 +66,18 @@ pin-some false one more e = cc
 -- tokens that are variables are some
 pub some-variables : (token : TokenOf) (tokens : List TokenOf) → ¬ (variables_of_tokens (token ∷ tokens) ≡ Some [])
 some-variables (PunctuationOf mark) tokens e = cc
-some-variables (WordOf name) [] e = with-first-some (Node name) _ e
-some-variables (WordOf name) (WordOf word ∷ tokens) e = with-first-some (Node name) _ e
-some-variables (WordOf name) (PunctuationOf Close ∷ tokens) e = with-first-some (Node name) _ e
-some-variables (WordOf name) (PunctuationOf Comma ∷ tokens) e = with-first-some (Node name) _ e
-some-variables (WordOf name) (PunctuationOf Equals ∷ tokens) e = with-first-some (Node name) _ e
-some-variables (WordOf name) (PunctuationOf Open ∷ []) e = with-first-some (Node name) _ e
-some-variables (WordOf name) (PunctuationOf Open ∷ PunctuationOf mark ∷ tokens) e = with-first-some (Node name) _ e
-some-variables (WordOf name) (PunctuationOf Open ∷ WordOf number ∷ []) e = with-first-some (Node name) _ e
-some-variables (WordOf name) (PunctuationOf Open ∷ WordOf number ∷ WordOf word ∷ tokens) e = with-first-some (Node name) _ e
-some-variables (WordOf name) (PunctuationOf Open ∷ WordOf number ∷ PunctuationOf Open ∷ tokens) e = with-first-some (Node name) _ e
-some-variables (WordOf name) (PunctuationOf Open ∷ WordOf number ∷ PunctuationOf Comma ∷ tokens) e = with-first-some (Node name) _ e
-some-variables (WordOf name) (PunctuationOf Open ∷ WordOf number ∷ PunctuationOf Equals ∷ tokens) e = with-first-some (Node name) _ e
+some-variables (WordOf name) [] e = with-first-some (Node name) (variables_of_tokens []) e
+some-variables (WordOf name) (WordOf word ∷ tokens) e = with-first-some (Node name) (variables_of_tokens (WordOf word ∷ tokens)) e
+some-variables (WordOf name) (PunctuationOf Close ∷ tokens) e = with-first-some (Node name) (variables_of_tokens (PunctuationOf Close ∷ tokens)) e
+some-variables (WordOf name) (PunctuationOf Comma ∷ tokens) e = with-first-some (Node name) (variables_of_tokens (PunctuationOf Comma ∷ tokens)) e
+some-variables (WordOf name) (PunctuationOf Equals ∷ tokens) e = with-first-some (Node name) (variables_of_tokens (PunctuationOf Equals ∷ tokens)) e
+some-variables (WordOf name) (PunctuationOf Open ∷ []) e = with-first-some (Node name) (variables_of_tokens (PunctuationOf Open ∷ [])) e
+some-variables (WordOf name) (PunctuationOf Open ∷ PunctuationOf mark ∷ tokens) e = with-first-some (Node name) (variables_of_tokens (PunctuationOf Open ∷ PunctuationOf mark ∷ tokens)) e
+some-variables (WordOf name) (PunctuationOf Open ∷ WordOf number ∷ []) e = with-first-some (Node name) (variables_of_tokens (PunctuationOf Open ∷ WordOf number ∷ [])) e
+some-variables (WordOf name) (PunctuationOf Open ∷ WordOf number ∷ WordOf word ∷ tokens) e = with-first-some (Node name) (variables_of_tokens (PunctuationOf Open ∷ WordOf number ∷ WordOf word ∷ tokens)) e
+some-variables (WordOf name) (PunctuationOf Open ∷ WordOf number ∷ PunctuationOf Open ∷ tokens) e = with-first-some (Node name) (variables_of_tokens (PunctuationOf Open ∷ WordOf number ∷ PunctuationOf Open ∷ tokens)) e
+some-variables (WordOf name) (PunctuationOf Open ∷ WordOf number ∷ PunctuationOf Comma ∷ tokens) e = with-first-some (Node name) (variables_of_tokens (PunctuationOf Open ∷ WordOf number ∷ PunctuationOf Comma ∷ tokens)) e
+some-variables (WordOf name) (PunctuationOf Open ∷ WordOf number ∷ PunctuationOf Equals ∷ tokens) e = with-first-some (Node name) (variables_of_tokens (PunctuationOf Open ∷ WordOf number ∷ PunctuationOf Equals ∷ tokens)) e
 some-variables (WordOf name) (PunctuationOf Open ∷ WordOf number ∷ PunctuationOf Close ∷ tokens) e = pin-some (is_decimal number) (Pin name number) (variables_of_tokens tokens) e
 
 -- a list of variables is this one alone
@@ -134,3 +136,11 @@ ideal-none netlist (Some (token ∷ tokens)) two = ideal-not_alone netlist (vari
 -- the wire without delay that a variable is
 pub ideal-some : (netlist : Netlist) (tokens : Option (List TokenOf)) (one : Variable) → by_tokens variables_of_tokens tokens ≡ Some (one ∷ []) → by_tokens (resolve_timed_keyword netlist (Some keyword.Ideal)) tokens ≡ Some (Ideal (variable_named netlist one))
 ideal-some netlist tokens one is = ideal-tokens netlist tokens ∙ ap (ideal_by_variables netlist) is
+
+none-both : (b : Bool) (number : ℕ) → cond (b && false) (Some number) None ≡ None
+none-both true number = refl
+none-both false number = refl
+
+-- a number above the most is none of a change
+pub nth-above : (number : ℕ) → most_nth < number → nth_by number ≡ None
+nth-above number above = let off : nat_le number most_nth ≡ false = grind (arith, nat_tests, above) in rw off (none-both (nat_le 1 number) number)

@@ -18,11 +18,13 @@ use Rattle.hz_timing.specs.TimedKeyword as keyword
 use Rattle.hz_timing.specs.TimedStatement.{TimedStatementOf, Ordered, Ideal, Start, Change, TimedStatement, timed_statement_of, timed_statement_with}
 use Rattle.hz_timing.specs.Limits.{most_nth}
 
+-- a number from 1 to 1000
+abbrev pub nth_by : ℕ → Option ℕ
+nth_by number = if nat_le 1 number && nat_le number most_nth then Some number else None
+
 -- the number of a change that a word is: a decimal one from 1 to 1000
 abbrev pub nth_of : List ℕ → Option ℕ
-nth_of word =
-    if is_decimal word && (nat_le 1 (number_by word) && nat_le (number_by word) most_nth)
-    then Some (number_by word) else None
+nth_of word = if is_decimal word then nth_by (number_by word) else None
 
 -- the number of an order, which is 1 if its word is left out
 abbrev pub number_of : Option (List ℕ) → Option ℕ

@@ -1,6 +1,6 @@
 // The script of statements without a fault.
 
-ghost use Rattle.std.specs.Prelude.{◌≡◌, true, ◌<◌, ◌++◌, [], length, map, All, IfOk, OnOk, option_to_list};
+ghost use Rattle.std.specs.Prelude.{◌≡◌, true, ◌<◌, ◌++◌, ◌∷◌, [], length, map, All, IfOk, OnOk, option_to_list};
 ghost use Rattle.hz_text.specs.Assignment.{assignment_to};
 ghost use Rattle.hz_text.specs.Bits.{ArePairs};
 ghost use Rattle.hz_timing.specs.TimedResolution.{timed_resolution_of, numbered_timed_resolutions};
@@ -179,7 +179,24 @@ fn add_if_change(
     let TimedHeld::Change(assigned) = held else {
         return Ok(());
     };
-    read_pairs(assigned.as_slice(), pairs)?;
+    push_change(script, assigned.as_slice(), pairs)?;
+    Ok(())
+}
+
+// Adds a change that assigns this.
+fn push_change(
+    script: &mut Script,
+    assigned: &[Assigned],
+    pairs: &mut Vec<(u32, bool)>,
+) -> Result<(), Memory>
+    requires few { length script.old.changes < most_changes }
+    requires sound { ArePairs (length script.old.start) assigned.now }
+    ensures start { OnOk result (script.new.start ≡ script.old.start) }
+    ensures changes { OnOk result
+        (map (map assignment_to) script.new.changes
+        ≡ map (map assignment_to) script.old.changes ++ assigned.now ∷ []) }
+{
+    read_pairs(assigned, pairs)?;
     script.add_change(pairs.as_slice())?;
     Ok(())
 }

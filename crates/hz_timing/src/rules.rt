@@ -1,6 +1,6 @@
 // What the passes over the statements return, but for their order.
 
-ghost use Rattle.std.specs.Prelude.{◌≡◌, ◌≤◌, ◌-◌, true, IfOk, if◌then◌else◌};
+ghost use Rattle.std.specs.Prelude.{◌≡◌, ◌≤◌, ◌-◌, true, Some, IfOk, if◌then◌else◌};
 ghost use Rattle.hz_timing.specs.TimedResolution.{timed_keyword_by, timed_resolution_of, numbered_timed_resolutions};
 ghost use Rattle.hz_timing.specs.TimedFault.{assignments_in, gate_into, names_unknown};
 ghost use Rattle.hz_timing.specs.TimedRules.{left_out, left_out_by_any, least_missing, is_of, line_from, first_beyond};
@@ -54,7 +54,16 @@ pub(crate) fn names_unknown(net: &Net, held: &TimedHeld) -> bool
 pub(crate) fn gate_into(net: &Net, variable: Option<u32>) -> Option<u32>
     ensures { result ≡ gate_into net.now variable }
 {
-    let variable = variable?;
+    match variable {
+        None => None,
+        Some(variable) => gate_of(net, variable),
+    }
+}
+
+// The gate into which a variable goes, if it is there and is a wire.
+fn gate_of(net: &Net, variable: u32) -> Option<u32>
+    ensures { result ≡ gate_into net.now (Some variable) }
+{
     if net.len() <= variable {
         return None;
     }

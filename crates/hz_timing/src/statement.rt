@@ -1,6 +1,8 @@
 // The statements of a script with assumptions of time, looked up in a network.
 
-ghost use Rattle.std.specs.Prelude.{◌≡◌, ◌∷◌, [], length, IfOk, MatchResult, Some};
+ghost use Rattle.std.specs.Prelude.{◌≡◌, ◌∷◌, [], length, IfOk, IsTrue, MatchResult, Some};
+ghost use Rattle.std.specs.List.{list_all};
+ghost use Rattle.hz_text.specs.Decimal.{is_digit, number_by};
 ghost use Rattle.std.specs.Option.{option_map};
 ghost use Rattle.hz_line.specs.Reading.{by_tokens, IsUnread};
 ghost use Rattle.hz_line.specs.Token.{tokens_of};
@@ -9,7 +11,7 @@ ghost use Rattle.hz_run_text.specs.RunResolution.{variable_named};
 ghost use Rattle.hz_text.specs.Rules.{AreBelow};
 ghost use Rattle.hz_timing.specs.TimedKeyword.{Order as OrderWord, Ideal as IdealWord};
 ghost use Rattle.hz_timing.specs.TimedStatement.{Ordered, timed_keyword_of, number_word};
-ghost use Rattle.hz_timing.specs.TimedResolution.{resolve_timed_tokens, resolve_timed_keyword, timed_resolution_of, timed_keyword_by, nth_of, number_of};
+ghost use Rattle.hz_timing.specs.TimedResolution.{resolve_timed_tokens, resolve_timed_keyword, timed_resolution_of, timed_keyword_by, nth_by, nth_of, number_of};
 ghost use Rattle.hz_timing.specs.VariableRead.{variable_written, number_by_variables, order_by_variables};
 ghost use Rattle.hz_timing.specs.TimedFault.{assignments_in};
 ghost use Rattle.hz_timing.specs.TimedRules.{timed_rules};
@@ -209,7 +211,7 @@ fn read_number(line: &[u8]) -> Option<Option<u32>>
 
 // The number of an order, by the variable that stands behind its wires.
 fn number_written(written: Written) -> Option<Option<u32>>
-    ensures { result ≡ option_map number_of (number_word (variable_written written.entry ∷ [])) }
+    ensures { result ≡ option_map number_of (number_word (variable_written written ∷ [])) }
 {
     match written {
         Written::Node(word) => Some(nth_of(word)),
@@ -221,11 +223,33 @@ fn number_written(written: Written) -> Option<Option<u32>>
 fn nth_of(word: &[u8]) -> Option<u32>
     ensures { result ≡ nth_of word.now }
 {
-    if !is_decimal(word) {
-        return None;
+    if is_decimal(word) {
+        nth_of_digits(word)
+    } else {
+        None
     }
-    let number = number_within(word, MAX_NTH)?;
-    if 1 <= number { Some(number) } else { None }
+}
+
+// The number of a change that digits are.
+fn nth_of_digits(digits: &[u8]) -> Option<u32>
+    requires { IsTrue (list_all is_digit digits.now) }
+    ensures { result ≡ nth_by (number_by digits.now) }
+{
+    match number_within(digits, MAX_NTH) {
+        None => None,
+        Some(number) => nth_by(number),
+    }
+}
+
+// A number, if it is one of a change.
+fn nth_by(number: u32) -> Option<u32>
+    ensures { result ≡ nth_by number }
+{
+    if 1 <= number && number <= MAX_NTH {
+        Some(number)
+    } else {
+        None
+    }
 }
 
 // The keyword that a word is, in any letter case.

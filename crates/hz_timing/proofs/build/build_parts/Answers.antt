@@ -1,4 +1,4 @@
-use Rattle.std.proofs.Common.{length, drop, sym, subst}
+use Rattle.std.proofs.Common.{◌+◌}
 use Rattle.std.proofs.lemmas.List.Elements.{All-drop}
 use Rattle.hz_timing.specs.TimedResolution.{TimedEntry, timed_resolution_of}
 use Rattle.hz_timing.specs.TimedReading.{IsSoundTimed}
@@ -7,7 +7,7 @@ use Rattle.hz_timing.proofs.build.build_parts.Goals as goal
 
 pub push_part-requires-clause-held : goal.push_part-requires-clause-held
 push_part-requires-clause-held c =
-    entry-sound c.args.nodes c.args.entries.now c.loop-place.place c.loop-place-item.result c.loop-place-test.true c.loop-place-item.is c.requires.sound
+    entry-sound c.args.nodes c.args.entries.now c.loop-place.place c.index-entries-place.result c.loop-place-test.true c.index-entries-place.is c.requires.sound
 
 pub push_part-requires-clause-few : goal.push_part-requires-clause-few
 push_part-requires-clause-few c = few-behind c.args.entries.now (c.loop-place.place + 1) c.requires.few
@@ -18,7 +18,7 @@ push_part-requires-clause-sound c =
 
 pub loop-place-preserved : goal.loop-place-preserved
 loop-place-preserved c =
-    parts-step c.args.nodes c.args.entries.now c.loop-place.place c.loop-place-item.result c.loop-place.parts.items _ c.loop-place-test.true c.loop-place-item.is c.in_ok-push_part.ensures c.loop-place.invariant
+    parts-step c.args.nodes c.args.entries.now c.loop-place.place c.index-entries-place.result c.loop-place.parts.items _ c.loop-place-test.true c.index-entries-place.is c.in_ok-push_part.ensures c.loop-place.invariant
 
 pub returns : goal.returns
 returns c = parts-end c.args.nodes c.args.entries.now c.loop-place.place c.loop-place.parts.items c.loop-place-test.false c.loop-place.invariant
