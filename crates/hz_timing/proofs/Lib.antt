@@ -16,3 +16,5 @@ pub mod StatementLaws
 pub mod TimedLaws
 -- One entry more or less of those that were read
 pub mod EntryLaws
+-- A text has one least fault
+pub mod UniqueLaws

@@ -1,8 +1,8 @@
 //! Reading scripts with assumptions of time.
 
-ghost use Rattle.std.specs.Prelude.{◌≤◌, length, IfOk, IfErr, OnOk, MatchResult};
+ghost use Rattle.std.specs.Prelude.{◌≤◌, ◌⊎◌, length, IfOk, IfErr, OnOk, IsErrOf, MatchResult};
 ghost use Rattle.hz_line.specs.Line.{most_text_bytes};
-ghost use Rattle.hz_timing.specs.TimedFault.{IsTimedFaultless, IsTimedRefusal};
+ghost use Rattle.hz_timing.specs.TimedFault.{IsTimedFaultless, IsLeastTimedFault, IsTimedRefusal};
 ghost use Rattle.hz_timing.specs.TimedText.{IsTimedValue, IsTimedScriptFor};
 ghost use Rattle.hz_timing.specs.TimedReading.{IsAcceptedTimed};
 
@@ -12,7 +12,7 @@ use crate::fault::TimedFault;
 use crate::script::TimedScript;
 use crate::statement::{TimedEntry, TimedStatements};
 use hz_net::Net;
-use hz_text::read_text;
+use hz_text::{TextFault, read_text};
 use std::alloc::Global;
 
 /// Reads a script with assumptions of time, on a network: lines `order`, `ideal` and `start`, and lines `change` behind the
@@ -26,6 +26,8 @@ pub fn read_timed(alloc: Global, net: &Net, text: &[u8]) -> Result<TimedScript, 
     ensures usable { IfOk result (IsTimedScriptFor net.now) }
     ensures faultless { OnOk result (IsTimedFaultless net.now text.now) }
     ensures fault { IfErr result (IsTimedRefusal net.now text.now) }
+    ensures exact { (fault : TimedFault) → IsLeastTimedFault net.now text.now fault
+        → IsErrOf result fault ⊎ IsErrOf result (TimedFault.Text TextFault.Memory) }
 {
     net.keeps_shape();
     let entries = read_accepted(alloc, net, text)?;
