@@ -1,12 +1,12 @@
 -- One entry more or less of those that were read.
-use Rattle.std.proofs.Common.{◌≡◌, ◌∙◌, ℕ, zero, suc, ◌+◌, ◌<◌, ◌≤◌, Bool, true, false, cond, List, [], ◌∷◌, ◌++◌, Option, Some, None, length, get_or, take, drop, map, filter, refl, ap, sym, subst, arith, append_assoc, length-append}
+use Rattle.std.proofs.Common.{◌≡◌, ◌∙◌, ℕ, zero, suc, ◌+◌, ◌-◌, ◌<◌, ◌≤◌, Bool, true, false, cond, List, [], ◌∷◌, ◌++◌, Option, Some, None, length, get_or, take, drop, map, filter, refl, ap, sym, subst, arith, append_assoc, length-append, length-drop}
 use Rattle.std.specs.List.{All, cons_option, filter_map}
 use Rattle.hz_text.specs.Bits.{ArePairs, pair_of}
 use Rattle.hz_text.proofs.BuildLemmas.{pairs_back}
 use Rattle.hz_timing.specs.declared.statement.TimedHeld.{TimedHeld}
 use Rattle.hz_timing.specs.declared.statement.TimedHeld.TheVariants as held
 use Rattle.std.specs.Option.{option_to_list}
-use Rattle.std.proofs.lemmas.List.{length-map, take_more, drop_more, drop_all, map-append, append-nil}
+use Rattle.std.proofs.lemmas.List.{length-map, take_more, drop_more, drop_all, take_all, map-append, append-nil}
 use Rattle.hz_line.specs.Statement.{Numbered}
 use Rattle.hz_text.specs.Assignment.{Assigned, assignment_to}
 use Rattle.hz_text.proofs.PassLaws.{true-false}
@@ -21,6 +21,10 @@ use Rattle.hz_timing.specs.TimedRules.{first_line_behind}
 use Rattle.hz_timing.specs.TimedReading.{IsSoundTimed, AreFewChanges, ArePartsPushed, changes_of}
 use Rattle.hz_timing.specs.TimedText.{assumption_of, assumptions_in, change_before, changes_up_to_start, Part, part_before, parts_in, AreScriptsOf}
 use Rattle.hz_timing.proofs.PartLaws.{changes-counted}
+
+-- what is left behind a place, as a part of a list
+pub rest-whole : {X : Type 0} (xs : List X) (i : ℕ) → i < length xs → take (length xs - (i + 1)) (drop (i + 1) xs) ≡ drop (i + 1) xs
+rest-whole xs i within = take_all (length xs - (i + 1)) (drop (i + 1) xs) (omega (arith, within, length-drop (i + 1) xs))
 
 -- the statements of entries, without their lines
 abbrev pub stated_by : List TimedEntry → List ResolvedTimed

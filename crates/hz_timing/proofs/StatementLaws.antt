@@ -1,5 +1,5 @@
 -- Orders and wires without delay, by the variables that a line begins with.
-use Rattle.std.proofs.Common.{◌≡◌, ◌∙◌, ℕ, ◌<◌, Bool, true, false, ◌&&◌, nat_le, arith, cond, List, [], ◌∷◌, Option, Some, None, refl, ap, sym}
+use Rattle.std.proofs.Common.{◌≡◌, ◌∙◌, ℕ, ◌<◌, Bool, true, false, ◌&&◌, nat_le, arith, cond, List, [], ◌∷◌, Option, Some, None, refl, ap, sym, subst}
 use Rattle.std.specs.Option.{option_map}
 use Rattle.std.proofs.lemmas.Bool.Decides.{nat_tests}
 use Rattle.hz_core.specs.Netlist.{Netlist}
@@ -11,8 +11,13 @@ use Rattle.hz_run_text.specs.RunStatement.{Variable, Node, Pin, variables_of_tok
 use Rattle.hz_run_text.specs.RunResolution.{variable_named}
 use Rattle.hz_timing.specs.TimedKeyword as keyword
 use Rattle.hz_timing.specs.TimedStatement.{Ordered, Ideal, number_word}
-use Rattle.hz_timing.specs.TimedResolution.{nth_by, number_of, resolve_timed, resolve_timed_keyword}
+use Rattle.hz_timing.specs.TimedResolution.{ResolvedTimed, nth_by, number_of, resolve_timed, resolve_timed_keyword}
 use Rattle.hz_timing.specs.Limits.{most_nth}
+use Rattle.hz_timing.specs.TimedFault.{assignments_in}
+use Rattle.hz_text.specs.Rules.{AreBelow}
+use Rattle.std.specs.Option.{IfSome}
+use Rattle.hz_text.specs.Assignment.{Assigned}
+use Rattle.std.proofs.lemmas.List.Elements.{All-nil}
 use Rattle.hz_timing.specs.VariableRead.{number_by_variables, order_by_variables, ideal_by_variables}
 
 pub order-tokens : (netlist : Netlist) (tokens : Option (List TokenOf)) → by_tokens (resolve_timed_keyword netlist (Some keyword.Order)) tokens ≡ order_by_variables netlist (by_tokens variables_of_tokens tokens)
@@ -144,3 +149,7 @@ none-both false number = refl
 -- a number above the most is none of a change
 pub nth-above : (number : ℕ) → most_nth < number → nth_by number ≡ None
 nth-above number above = let off : nat_le number most_nth ≡ false = grind (arith, nat_tests, above) in rw off (none-both (nat_le 1 number) number)
+
+-- a statement that assigns nothing assigns nodes below any bound
+pub below-none : (nodes : ℕ) (statement : ResolvedTimed) → assignments_in statement ≡ [] → AreBelow nodes (assignments_in statement)
+below-none nodes statement is = subst (AreBelow nodes) (sym is) (All-nil (λ (assigned : Assigned). IfSome assigned.node (λ node. node < nodes)))

@@ -1,6 +1,6 @@
 // The statements of a script with assumptions of time, looked up in a network.
 
-ghost use Rattle.std.specs.Prelude.{◌≡◌, ◌∷◌, [], length, IfOk, IsTrue, MatchResult, Some};
+ghost use Rattle.std.specs.Prelude.{◌≡◌, ◌∷◌, [], length, IfOk, IfSome, IsTrue, MatchResult, Some};
 ghost use Rattle.std.specs.List.{list_all};
 ghost use Rattle.hz_text.specs.Decimal.{is_digit, number_by};
 ghost use Rattle.std.specs.Option.{option_map};
@@ -137,8 +137,8 @@ fn read_statement_of(
         (λ held. AreBelow (length net.now.names) (assignments_in (timed_resolution_of held))) }
 {
     match keyword {
-        TimedKeyword::Order => read_order(net, rest).ok_or(StatementFault::Form),
-        TimedKeyword::Ideal => read_ideal(net, rest).ok_or(StatementFault::Form),
+        TimedKeyword::Order => order_statement(net, rest),
+        TimedKeyword::Ideal => ideal_statement(net, rest),
         TimedKeyword::Start => {
             let assigned = read_assignments(alloc, net.circuit(), rest)?;
             Ok(TimedHeld::Start(assigned))
@@ -150,10 +150,43 @@ fn read_statement_of(
     }
 }
 
+// The order that a line after the keyword is, or that it is malformed.
+fn order_statement(net: &Net, line: &[u8]) -> Result<TimedHeld, StatementFault>
+    ensures read { MatchResult result
+        (λ held. by_tokens (resolve_timed_keyword net.now (Some OrderWord)) (tokens_of line.now)
+        ≡ Some (timed_resolution_of held))
+        (λ why. IsUnread
+        (by_tokens (resolve_timed_keyword net.now (Some OrderWord)) (tokens_of line.now)) why) }
+    ensures below { IfOk result
+        (λ held. AreBelow (length net.now.names) (assignments_in (timed_resolution_of held))) }
+{
+    match read_order(net, line) {
+        None => Err(StatementFault::Form),
+        Some(held) => Ok(held),
+    }
+}
+
+// The wire without delay that a line after the keyword is, or that it is malformed.
+fn ideal_statement(net: &Net, line: &[u8]) -> Result<TimedHeld, StatementFault>
+    ensures read { MatchResult result
+        (λ held. by_tokens (resolve_timed_keyword net.now (Some IdealWord)) (tokens_of line.now)
+        ≡ Some (timed_resolution_of held))
+        (λ why. IsUnread
+        (by_tokens (resolve_timed_keyword net.now (Some IdealWord)) (tokens_of line.now)) why) }
+    ensures below { IfOk result
+        (λ held. AreBelow (length net.now.names) (assignments_in (timed_resolution_of held))) }
+{
+    match read_ideal(net, line) {
+        None => Err(StatementFault::Form),
+        Some(held) => Ok(held),
+    }
+}
+
 // The order that a line after the keyword is.
 fn read_order(net: &Net, line: &[u8]) -> Option<TimedHeld>
-    ensures { by_tokens (resolve_timed_keyword net.now (Some OrderWord)) (tokens_of line.now)
+    ensures read { by_tokens (resolve_timed_keyword net.now (Some OrderWord)) (tokens_of line.now)
         ≡ option_map timed_resolution_of result }
+    ensures none { IfSome result (λ held. assignments_in (timed_resolution_of held) ≡ []) }
 {
     match first_written(line) {
         None => None,
@@ -163,9 +196,10 @@ fn read_order(net: &Net, line: &[u8]) -> Option<TimedHeld>
 
 // The order that a line behind its first wire is.
 fn read_second(net: &Net, first: Option<u32>, line: &[u8]) -> Option<TimedHeld>
-    ensures { (one : Variable) → variable_named net.now one ≡ first →
+    ensures read { (one : Variable) → variable_named net.now one ≡ first →
         order_by_variables net.now (with_first one (by_tokens variables_of_tokens (tokens_of line.now)))
         ≡ option_map timed_resolution_of result }
+    ensures none { IfSome result (λ held. assignments_in (timed_resolution_of held) ≡ []) }
 {
     match first_written(line) {
         None => None,
@@ -175,9 +209,10 @@ fn read_second(net: &Net, first: Option<u32>, line: &[u8]) -> Option<TimedHeld>
 
 // The order of two wires, by the line behind them.
 fn read_third(first: Option<u32>, second: Option<u32>, line: &[u8]) -> Option<TimedHeld>
-    ensures { option_map timed_resolution_of result
+    ensures read { option_map timed_resolution_of result
         ≡ option_map (Ordered first second)
         (number_by_variables (by_tokens variables_of_tokens (tokens_of line.now))) }
+    ensures none { IfSome result (λ held. assignments_in (timed_resolution_of held) ≡ []) }
 {
     match read_number(line) {
         None => None,
@@ -187,8 +222,9 @@ fn read_third(first: Option<u32>, second: Option<u32>, line: &[u8]) -> Option<Ti
 
 // The wire without delay that a line after the keyword is.
 fn read_ideal(net: &Net, line: &[u8]) -> Option<TimedHeld>
-    ensures { by_tokens (resolve_timed_keyword net.now (Some IdealWord)) (tokens_of line.now)
+    ensures read { by_tokens (resolve_timed_keyword net.now (Some IdealWord)) (tokens_of line.now)
         ≡ option_map timed_resolution_of result }
+    ensures none { IfSome result (λ held. assignments_in (timed_resolution_of held) ≡ []) }
 {
     match only_written(line) {
         None => None,
@@ -211,7 +247,7 @@ fn read_number(line: &[u8]) -> Option<Option<u32>>
 
 // The number of an order, by the variable that stands behind its wires.
 fn number_written(written: Written) -> Option<Option<u32>>
-    ensures { result ≡ option_map number_of (number_word (variable_written written ∷ [])) }
+    ensures { result ≡ option_map number_of (number_word (variable_written written.entry ∷ [])) }
 {
     match written {
         Written::Node(word) => Some(nth_of(word)),

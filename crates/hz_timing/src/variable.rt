@@ -88,7 +88,7 @@ fn pin_within<'a>(line: &'a [u8]) -> PinAfter<'a>
 /// The variable of a network that is written so, if there is one.
 pub(crate) fn variable_named(net: &Net, written: Written) -> Option<u32>
     requires { HasDigits written }
-    ensures { result ≡ variable_named net.now (variable_written written) }
+    ensures { result ≡ variable_named net.now (variable_written written.entry) }
 {
     match written {
         Written::Node(name) => net.circuit().find(name),

@@ -16,5 +16,5 @@ returns-in_err-entries c =
 
 pub returns-in_err-check_assumptions : goal.returns-in_err-check_assumptions
 returns-in_err-check_assumptions c =
-    let p = err_from_is_err_and c.from_residual-2.result c.from_residual-2.ensures.1 in
+    let p = err_from_is_err_and c.from_residual-in_err-check_assumptions.result c.from_residual-in_err-check_assumptions.ensures.1 in
     rw (p.1, p.2) (assumption-refusal c.args.net.now c.args.text.now c.in_ok-entries.entries.items c.in_err-check_assumptions.field-0.0 c.in_ok-entries.ensures.checked (rw c.as_slice.ensures.value at c.in_err-check_assumptions.ensures))
