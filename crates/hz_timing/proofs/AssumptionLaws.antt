@@ -1,5 +1,5 @@
 -- The assumptions of statements without a fault are assumptions on the network.
-use Rattle.std.proofs.Common.{◌≡◌, ◌∙◌, ℕ, ◌<◌, ◌≤◌, Bool, true, false, not, ◌||◌, ◌&&◌, cond, nat_eq, nat_le, List, [], ◌∷◌, Option, Some, None, length, map, refl, ap, sym, arith, slice_get}
+use Rattle.std.proofs.Common.{◌≡◌, ◌∙◌, ℕ, ◌<◌, ◌≤◌, Bool, true, false, not, ◌&&◌, cond, nat_eq, nat_le, List, [], ◌∷◌, Option, Some, None, length, map, refl, ap, sym, arith, slice_get}
 use Rattle.std.specs.List.{All, cons_option}
 use Rattle.std.specs.Option.{IfSome, is_none}
 use Rattle.std.proofs.lemmas.Bool.Decides.{nat_tests}

@@ -1,5 +1,5 @@
 -- Passes with a test that sees the statements before: they answer the least line on which it passes.
-use Rattle.std.proofs.Common.{◌≡◌, ◌∙◌, ℕ, ◌≤◌, Bool, true, false, ◌||◌, not, cond, List, [], ◌∷◌, ◌++◌, Option, Some, None, suc, refl, ap, sym, inl, inr, arith}
+use Rattle.std.proofs.Common.{◌≡◌, ◌∙◌, ℕ, ◌≤◌, Bool, true, false, ◌||◌, cond, List, [], ◌∷◌, ◌++◌, Option, Some, None, suc, refl, ap, sym, inl, inr, arith}
 use Rattle.std.specs.List.{list_any}
 use Rattle.hz_lists.specs.Least.{IsLeastOf}
 use Rattle.hz_line.specs.Statement.{Numbered}
@@ -19,11 +19,8 @@ PassesBehind-above test before (first ∷ later) low line h (inr q) = omega (ari
 -- the first line on which a test passes is the least
 pub answers_behind : {S : Type 0} (test : List S → S → Bool) (before : List S) (statements : List (Numbered S)) (low : ℕ) → Ascends low statements → IsLeastOf (PassesBehind test before statements) (first_line_behind test before statements)
 answers_behind test before [] low h = λ line p. p
-answers_behind {S} test before (first ∷ later) low h = by_test (test before first.statement) refl (answers_behind test (before ++ first.statement ∷ []) later (suc first.line) h.1)
+answers_behind test before (first ∷ later) low h = by_test (test before first.statement) refl (answers_behind test (before ++ first.statement ∷ []) later (suc first.line) h.1)
   where
-    next : List S
-    next = before ++ first.statement ∷ []
-
     later_only : (answer : Option ℕ) → test before first.statement ≡ false → IsLeastOf (PassesBehind test (before ++ first.statement ∷ []) later) answer → IsLeastOf (PassesBehind test before (first ∷ later)) answer
     later_only None t none = λ line p. elim p [ inl at ↦ true-false (sym at.1 ∙ t) | inr q ↦ none line q ]
     later_only (Some line) t is = record {

@@ -9,7 +9,6 @@ use Rattle.std.specs.Option.{option_to_list}
 use Rattle.std.proofs.lemmas.List.{length-map, take_more, drop_more, drop_all, take_all, map-append, append-nil}
 use Rattle.hz_line.specs.Statement.{Numbered}
 use Rattle.hz_text.specs.Assignment.{Assigned, assignment_to}
-use Rattle.hz_text.proofs.PassLaws.{true-false}
 use Rattle.hz_script.specs.Limits.{most_changes}
 use Rattle.hz_script.specs.Resolution.{ResolvedStatement}
 use Rattle.hz_script.specs.ScriptValue.{ScriptOf}

@@ -6,17 +6,17 @@ use Rattle.hz_core.specs.Netlist.{Netlist, primary_inputs}
 use Rattle.std.proofs.lemmas.Bool.Decides.{nat_tests}
 use Rattle.hz_lists.specs.Least.{IsLeastOf, option_min}
 use Rattle.hz_lists.proofs.LeastLemmas.{IsLeastOf-either}
-use Rattle.hz_line.specs.LeastFault.{ComesFirst, IsLeastOfAll, AreFound, IsAnswer}
+use Rattle.hz_line.specs.LeastFault.{ComesFirst, AreFound, IsAnswer}
 use Rattle.hz_line.specs.Line.{lines_of}
 use Rattle.hz_line.specs.Statement.{Numbered, PassesOn, first_passing_line, numbered_statements, first_malformed}
-use Rattle.hz_line.proofs.LeastLaws.{NoneBelow, found-least}
-use Rattle.hz_line.proofs.StatementLemmas.{Ascends, numbered_from-Ascends, numbered_from-map}
+use Rattle.hz_line.proofs.LeastLaws.{found-least}
+use Rattle.hz_line.proofs.StatementLemmas.{numbered_from-Ascends, numbered_from-map}
 use Rattle.hz_text.specs.Assignment.{Nodes, Inputs}
 use Rattle.hz_text.specs.Fault.{fault_number, IsLeastFaultOf}
 use Rattle.hz_text.specs.Rules.{first_fault_of, IsFaultOrMemory}
 use Rattle.hz_text.specs.declared.fault.TextFault.{TextFault}
 use Rattle.hz_text.specs.declared.fault.TextFault.TheVariants as text
-use Rattle.hz_text.proofs.LeastFault.{Outcome, answers_first, answers_itself, OneMismatch}
+use Rattle.hz_text.proofs.LeastFault.{Outcome, answers_first, answers_itself}
 use Rattle.hz_text.proofs.TextLaws.{Judged, looked-Ascends, answers_malformed, text-outcome, twice-line}
 use Rattle.hz_text.proofs.PassLaws.{twice-names}
 use Rattle.hz_script.specs.Limits.{most_changes}
@@ -24,8 +24,8 @@ use Rattle.hz_timing.specs.declared.fault.TimedFault.{TimedFault}
 use Rattle.hz_timing.specs.declared.fault.TimedFault.TheVariants.{Text, Wires, Number, Again}
 use Rattle.hz_timing.specs.TimedStatement.{Ordered, Ideal, Start, Change, TimedStatement, timed_statement_of, timed_statements_of}
 use Rattle.hz_timing.specs.TimedResolution.{ResolvedTimed, resolve_timed, resolve_timed_tokens}
-use Rattle.hz_timing.specs.TimedFault.{resolved_timed_statements, names_unknown, names_twice, lacks_bit, is_order, is_ideal, is_start, is_change, line_behind, IsBeyond, is_unpaired, lacks_number, is_stated, PassesBehind, HasTimedFault, IsTimedFaultless, IsLeastTimedFault, IsTimedRefusal, timed_fault_number, timed_place_of, timed_faults_that}
-use Rattle.hz_timing.specs.TimedRules.{names_node_twice, least_missing, first_out_of_order, line_from, first_beyond, timed_rules, first_line_behind, assumption_faults, first_assumption_fault}
+use Rattle.hz_timing.specs.TimedFault.{resolved_timed_statements, names_unknown, names_twice, lacks_bit, is_order, is_ideal, is_start, is_change, line_behind, IsBeyond, is_unpaired, lacks_number, is_stated, HasTimedFault, IsLeastTimedFault, IsTimedRefusal, timed_fault_number, timed_place_of, timed_faults_that}
+use Rattle.hz_timing.specs.TimedRules.{names_node_twice, line_from, first_beyond, timed_rules, first_line_behind, assumption_faults, first_assumption_fault}
 use Rattle.hz_timing.specs.Limits.{most_orders, most_ideals, most_starts}
 use Rattle.hz_timing.proofs.BehindLaws.{answers_behind, answers_order}
 use Rattle.hz_timing.proofs.MissingLaws.{answers_missing}

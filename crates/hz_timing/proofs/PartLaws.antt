@@ -172,9 +172,6 @@ pub changes-counted :
 changes-counted [] = refl
 changes-counted (first ∷ later) = step first.statement (changes-counted later)
   where
-    F : Part → ℕ
-    F part = length part.changes
-
     step :
         (statement : ResolvedTimed) → length (changes_up_to_start later) + sum_by (λ part. length part.changes) (parts_in later) ≡ length (filter (λ numbered. is_change numbered.statement) later) →
         length (change_before first.line statement (changes_up_to_start later)) + sum_by (λ part. length part.changes) (part_before statement (changes_up_to_start later) (parts_in later))

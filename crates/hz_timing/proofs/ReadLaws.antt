@@ -1,6 +1,6 @@
 -- What holds of a script with assumptions of time in which no pass finds a fault.
-use Rattle.std.proofs.Common.{◌≡◌, ◌∙◌, ℕ, ◌<◌, ◌≤◌, Bool, true, false, cond, List, [], ◌∷◌, Option, Some, None, length, get_or, map, refl, ap, sym, subst, inl, inr, arith}
-use Rattle.std.specs.Prelude.{sum_by, filter}
+use Rattle.std.proofs.Common.{◌≡◌, ◌∙◌, ℕ, ◌≤◌, Bool, true, false, cond, List, [], ◌∷◌, Option, Some, None, length, get_or, refl, sym, subst, inl, inr, arith}
+use Rattle.std.specs.Prelude.{filter}
 use Rattle.std.specs.List.{All}
 use Rattle.hz_core.specs.Netlist.{Netlist, IsCircuit, IsWhole, primary_inputs}
 use Rattle.hz_lists.specs.Least.{IsLeastOf}
@@ -9,9 +9,7 @@ use Rattle.hz_line.specs.LeastFault.{IsAnswer, first_found}
 use Rattle.std.specs.Option.{option_map}
 use Rattle.hz_line.specs.Statement.{Numbered, first_passing_line}
 use Rattle.hz_text.specs.Assignment.{Nodes, Inputs}
-use Rattle.hz_text.specs.Bits.{ArePairs}
 use Rattle.hz_text.specs.Rules.{AreBelow, IsChecked, first_fault_in}
-use Rattle.hz_text.specs.declared.fault.TextFault.{TextFault}
 use Rattle.hz_text.specs.declared.fault.TextFault.TheVariants.{Unknown, Twice, Missing, Bit, Order, TooMany}
 use Rattle.hz_text.proofs.LeastFault.{unanswered, checked-none}
 use Rattle.hz_text.proofs.PassLaws.{none_parts, All-from_first_line, All-unmap, pairs-sound}
@@ -22,8 +20,8 @@ use Rattle.hz_timing.specs.TimedStatement.{Ordered, Ideal, Start, Change, timed_
 use Rattle.hz_timing.specs.TimedResolution.{ResolvedTimed, TimedEntry, resolve_timed_tokens, timed_resolution_of, numbered_timed_resolution, numbered_timed_resolutions}
 use Rattle.hz_timing.specs.TimedFault.{resolved_timed_statements, assignments_in, names_unknown, lacks_bit, is_order, is_ideal, is_start, is_change, has_start, IsMissing, LeavesOut, line_behind, is_unpaired, lacks_number, is_stated, HasTimedFault, IsTimedRefusal, timed_faults_that}
 use Rattle.hz_timing.specs.TimedRules.{names_node_twice, least_missing, misplaced_from, first_out_of_order, first_beyond, timed_rules, first_assumption_fault, first_line_behind}
-use Rattle.hz_timing.specs.TimedReading.{IsSoundTimed, AreFewChanges, IsAcceptedTimed}
-use Rattle.hz_timing.specs.TimedText.{parts_in, changes_up_to_start, Part, IsTimedScriptBy, IsTimedScriptFor}
+use Rattle.hz_timing.specs.TimedReading.{IsSoundTimed, IsAcceptedTimed}
+use Rattle.hz_timing.specs.TimedText.{parts_in, IsTimedScriptBy, IsTimedScriptFor}
 use Rattle.hz_timing.specs.TimedValue.{TimedScriptOf}
 use Rattle.hz_timing.specs.Limits.{most_orders, most_ideals, most_starts}
 use Rattle.hz_script.specs.Limits.{most_changes}

@@ -1,6 +1,5 @@
 -- What a refusal of a script with assumptions of time says.
-use Rattle.std.proofs.Common.{◌≡◌, ◌≢◌, ◌∙◌, ℕ, ◌<◌, List, length, refl, ap, sym, subst, inl, inr, arith, codes}
-use Rattle.std.specs.Prelude.{None}
+use Rattle.std.proofs.Common.{◌≡◌, ◌≢◌, ◌∙◌, ℕ, List, ap, sym, subst, inl, inr, arith, codes}
 use Rattle.hz_core.specs.Netlist.{Netlist, IsCircuit, primary_inputs}
 use Rattle.hz_line.specs.OrThat.{OrThat}
 use Rattle.hz_text.specs.declared.fault.TextFault.{TextFault}
@@ -11,7 +10,7 @@ use Rattle.hz_refusal.specs.Answer.{Prints}
 use Rattle.hz_refusal.specs.Refused.{TextPrints}
 use Rattle.hz_timing.specs.declared.fault.TimedFault.{TimedFault}
 use Rattle.hz_timing.specs.declared.fault.TimedFault.TheVariants.{Text, Wires, Number, Again}
-use Rattle.hz_timing.specs.TimedFault.{resolved_timed_statements, HasTimedFault, IsLeastTimedFaultOf, IsLeastTimedFault, IsTimedRefusal, timed_named_line}
+use Rattle.hz_timing.specs.TimedFault.{resolved_timed_statements, IsLeastTimedFaultOf, IsLeastTimedFault, IsTimedRefusal, timed_named_line}
 use Rattle.hz_timing.specs.Timed.{timed_fault_line, TimedPrints, NamesTimedNode, IsToldTimedLine}
 use Rattle.hz_timing.proofs.MissingLaws.{missing-below}
 

@@ -1,5 +1,5 @@
 -- A text has one least fault.
-use Rattle.std.proofs.Common.{◌≡◌, ℕ, List, refl, ap, inl, inr, arith}
+use Rattle.std.proofs.Common.{◌≡◌, ℕ, List, ap, inl, inr, arith}
 use Rattle.std.specs.Prelude.{◌⊎◌}
 use Rattle.hz_core.specs.Netlist.{Netlist}
 use Rattle.hz_line.proofs.LeastLaws.{both-first}

@@ -9,9 +9,8 @@ use Rattle.hz_net.specs.declared.variable.VarKind.TheVariants.{Input, Gate as Ga
 use Rattle.hz_line.specs.LeastFault.{Faults, IsLeastOfAll}
 use Rattle.hz_line.specs.OrThat.{OrThat}
 use Rattle.hz_line.specs.Statement.{Numbered, PassesOn, Malformed, meaning_at}
-use Rattle.hz_text.specs.declared.fault.TextFault.{TextFault}
 use Rattle.hz_text.specs.declared.fault.TextFault.TheVariants as text
-use Rattle.hz_text.specs.Assignment.{Assigned, Nodes, Inputs, any_unknown, any_twice, any_bitless, assigns}
+use Rattle.hz_text.specs.Assignment.{Nodes, Inputs, any_unknown, any_twice, any_bitless, assigns}
 use Rattle.hz_text.specs.Fault.{fault_number, place_of, named_line}
 use Rattle.hz_script.specs.Limits.{most_changes}
 use Rattle.hz_timing.specs.declared.fault.TimedFault.{TimedFault}

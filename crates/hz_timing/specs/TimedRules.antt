@@ -5,8 +5,7 @@ use Rattle.hz_lists.specs.Least.{option_min}
 use Rattle.hz_core.specs.Netlist.{Netlist, primary_inputs}
 use Rattle.hz_line.specs.LeastFault.{first_found}
 use Rattle.hz_line.specs.Statement.{Numbered, first_passing_line}
-use Rattle.hz_text.specs.declared.fault.TextFault.{TextFault}
-use Rattle.hz_text.specs.Rules.{repeats_node, least_unassigned, Rules, first_fault_in}
+use Rattle.hz_text.specs.Rules.{repeats_node, least_unassigned, Rules}
 use Rattle.hz_script.specs.Limits.{most_changes}
 use Rattle.hz_timing.specs.declared.fault.TimedFault.{TimedFault}
 use Rattle.hz_timing.specs.declared.fault.TimedFault.TheVariants.{Wires, Number, Again}

@@ -1,6 +1,4 @@
-use Rattle.std.proofs.Common.{◌≡◌, ◌∙◌, sym, length, subst}
-use Rattle.hz_timing.specs.TimedReading.{IsSoundTimed}
-use Rattle.hz_timing.specs.TimedResolution.{timed_resolution_of}
+use Rattle.std.proofs.Common.{◌∙◌, sym, length}
 use Rattle.hz_timing.proofs.EntryLaws.{entry-sound, changes-step, changes-here, changes-end, changes-few}
 use Rattle.hz_timing.proofs.build.add_changes.Goals as goal
 

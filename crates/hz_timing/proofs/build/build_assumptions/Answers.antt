@@ -1,4 +1,4 @@
-use Rattle.std.proofs.Common.{◌∙◌, sym}
+use Rattle.std.proofs.Common.{◌∙◌}
 use Rattle.hz_timing.proofs.EntryLaws.{assumptions-step, assumptions-end}
 use Rattle.hz_timing.proofs.build.build_assumptions.Goals as goal
 
