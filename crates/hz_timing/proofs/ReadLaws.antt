@@ -1,0 +1,162 @@
+-- What holds of a script with assumptions of time in which no pass finds a fault.
+use Rattle.std.proofs.Common.{◌≡◌, ◌∙◌, ℕ, ◌≤◌, Bool, true, false, cond, List, [], ◌∷◌, Option, Some, None, length, get_or, refl, sym, subst, inl, inr, arith}
+use Rattle.std.specs.Prelude.{filter}
+use Rattle.std.specs.List.{All}
+use Rattle.hz_core.specs.Netlist.{Netlist, IsCircuit, IsWhole, primary_inputs}
+use Rattle.hz_lists.specs.Least.{IsLeastOf}
+use Rattle.hz_lists.proofs.LeastLemmas.{option_min-none}
+use Rattle.hz_line.specs.LeastFault.{IsAnswer, first_found}
+use Rattle.std.specs.Option.{option_map}
+use Rattle.hz_line.specs.Statement.{Numbered, first_passing_line}
+use Rattle.hz_text.specs.Assignment.{Nodes, Inputs}
+use Rattle.hz_text.specs.Rules.{AreBelow, IsChecked, first_fault_in}
+use Rattle.hz_text.specs.declared.fault.TextFault.TheVariants.{Unknown, Twice, Missing, Bit, Order, TooMany}
+use Rattle.hz_text.proofs.LeastFault.{unanswered, checked-none}
+use Rattle.hz_text.proofs.PassLaws.{none_parts, All-from_first_line, All-unmap, pairs-sound}
+use Rattle.std.proofs.lemmas.List.Elements.{All-nil, All-cons}
+use Rattle.hz_timing.specs.declared.fault.TimedFault.{TimedFault}
+use Rattle.hz_timing.specs.declared.fault.TimedFault.TheVariants.{Wires, Number, Again}
+use Rattle.hz_timing.specs.TimedStatement.{Ordered, Ideal, Start, Change, timed_statements_of}
+use Rattle.hz_timing.specs.TimedResolution.{ResolvedTimed, TimedEntry, resolve_timed_tokens, timed_resolution_of, numbered_timed_resolution, numbered_timed_resolutions}
+use Rattle.hz_timing.specs.TimedFault.{resolved_timed_statements, assignments_in, names_unknown, lacks_bit, is_order, is_ideal, is_start, is_change, has_start, IsMissing, LeavesOut, line_behind, is_unpaired, lacks_number, is_stated, HasTimedFault, IsTimedRefusal, timed_faults_that}
+use Rattle.hz_timing.specs.TimedRules.{names_node_twice, least_missing, misplaced_from, first_out_of_order, first_beyond, timed_rules, first_assumption_fault, first_line_behind}
+use Rattle.hz_timing.specs.TimedReading.{IsSoundTimed, IsAcceptedTimed}
+use Rattle.hz_timing.specs.TimedText.{parts_in, IsTimedScriptBy, IsTimedScriptFor}
+use Rattle.hz_timing.specs.TimedValue.{TimedScriptOf}
+use Rattle.hz_timing.specs.Limits.{most_orders, most_ideals, most_starts}
+use Rattle.hz_script.specs.Limits.{most_changes}
+use Rattle.hz_timing.proofs.MissingLaws.{answers_missing}
+use Rattle.hz_timing.proofs.FaultLaws.{first_beyond-is, resolved_statements-read, HasText, text-answer, assumption-answer}
+use Rattle.hz_timing.proofs.AssumptionLaws.{assumptions-fit}
+use Rattle.hz_timing.proofs.PartLaws.{IsClearStatement, scripts-fit, parts-good, parts-counted, changes-counted, parts-some, few-kind}
+
+-- no pass has an answer
+pub record IsClearTimed (netlist : Netlist) (statements : List (Numbered ResolvedTimed)) : Type 0 where
+  pub unknown : first_passing_line (names_unknown netlist) statements ≡ None
+  pub twice : first_passing_line names_node_twice statements ≡ None
+  pub missing : least_missing (primary_inputs netlist) statements ≡ None
+  pub bit : first_passing_line lacks_bit statements ≡ None
+  pub order : first_out_of_order statements ≡ None
+  pub beyond : first_beyond statements ≡ None
+
+clear-from : (netlist : Netlist) (statements : List (Numbered ResolvedTimed)) → first_fault_in (timed_rules netlist) statements ≡ None → IsClearTimed netlist statements
+clear-from netlist statements h =
+    let a = none_parts Unknown (first_passing_line (names_unknown netlist) statements) _ h in
+    let b = none_parts Twice (first_passing_line names_node_twice statements) _ a.1 in
+    let c = none_parts Missing (least_missing (primary_inputs netlist) statements) _ b.1 in
+    let d = none_parts Bit (first_passing_line lacks_bit statements) _ c.1 in
+    let e = none_parts Order (first_out_of_order statements) _ d.1 in
+    record { unknown = a.0; twice = b.0; missing = c.0; bit = d.0; order = e.0; beyond = (none_parts TooMany (first_beyond statements) _ e.1).0 }
+
+-- the limits are kept
+record AreFew (statements : List (Numbered ResolvedTimed)) : Type 0 where
+  starts : length (filter (λ numbered. is_start numbered.statement) statements) ≤ most_starts
+  changes : length (filter (λ numbered. is_change numbered.statement) statements) ≤ most_changes
+
+few-from : (statements : List (Numbered ResolvedTimed)) → first_beyond statements ≡ None → AreFew statements
+few-from statements h =
+    let a = option_min-none (line_behind is_order most_orders statements) _ (sym (first_beyond-is statements) ∙ h) in
+    let b = option_min-none (line_behind is_ideal most_ideals statements) _ a.1 in
+    let c = option_min-none (line_behind is_start most_starts statements) (line_behind is_change most_changes statements) b.1 in
+    record { starts = few-kind is_start most_starts statements c.0; changes = few-kind is_change most_changes statements c.1 }
+
+-- no start leaves an input out
+none-missing : (primary : ℕ) (statements : List (Numbered ResolvedTimed)) → least_missing primary statements ≡ None → (node : ℕ) → IsMissing primary statements node → ⊥
+none-missing primary statements e = let P : Option ℕ → Type 0 = IsLeastOf (IsMissing primary statements) in subst P e (answers_missing primary statements)
+
+all-whole : (primary : ℕ) (statements : List (Numbered ResolvedTimed)) → ((node : ℕ) → IsMissing primary statements node → ⊥) → All (λ numbered. (node : ℕ) → LeavesOut primary numbered.statement node → ⊥) statements
+all-whole primary [] none = All-nil (λ (numbered : Numbered ResolvedTimed). (node : ℕ) → LeavesOut primary numbered.statement node → ⊥)
+all-whole primary (first ∷ later) none =
+    All-cons (λ (numbered : Numbered ResolvedTimed). (node : ℕ) → LeavesOut primary numbered.statement node → ⊥) first later (λ node out. none node (inl out))
+    (all-whole primary later (λ node out. none node (inr out)))
+
+all-clear : (netlist : Netlist) (statements : List (Numbered ResolvedTimed)) → IsClearTimed netlist statements → All (λ numbered. IsClearStatement netlist numbered.statement) statements
+all-clear netlist statements h =
+    let known = All-from_first_line (names_unknown netlist) statements h.unknown in
+    let once = All-from_first_line names_node_twice statements h.twice in
+    let bits = All-from_first_line lacks_bit statements h.bit in
+    let whole = all-whole (primary_inputs netlist) statements (none-missing (primary_inputs netlist) statements h.missing) in
+    λ k d l. record { known = known k d l; once = once k d l; bits = bits k d l; whole = whole k d l }
+
+-- statements in order have a start
+start-some : (statements : List (Numbered ResolvedTimed)) (b : Bool) → has_start statements ≡ b → cond b (misplaced_from false false statements) (Some 0) ≡ None → has_start statements ≡ true
+start-some statements true s e = s
+start-some statements false s e = cc
+
+-- a script of accepted statements can be used
+usable : (netlist : Netlist) (bytes : List ℕ) (script : TimedScriptOf) → IsCircuit netlist → IsWhole netlist → IsClearTimed netlist (resolved_timed_statements netlist bytes) → first_passing_line (is_unpaired netlist) (resolved_timed_statements netlist bytes) ≡ None
+    → IsTimedScriptBy (length netlist.names) (resolved_timed_statements netlist bytes) script → IsTimedScriptFor netlist script
+usable netlist bytes script circuit whole h paired is =
+    let statements = resolved_timed_statements netlist bytes in
+    let few = few-from statements h.beyond in
+    let known = All-from_first_line (names_unknown netlist) statements h.unknown in
+    let two = All-from_first_line (is_unpaired netlist) statements paired in
+    let counted = changes-counted statements in
+    let good = parts-good netlist statements (all-clear netlist statements h) in
+    let fit = scripts-fit netlist (parts_in statements) script.parts circuit good (omega (arith, counted, few.changes)) is.parts in
+    let some = parts-some statements (start-some statements (has_start statements) refl h.order) in
+    record {
+      assumptions = rw is.assumptions (assumptions-fit netlist (timed_statements_of bytes) circuit whole known two);
+      parts = fit.fit;
+      some = omega (arith, some, fit.many);
+      starts = omega (arith, fit.many, parts-counted statements, few.starts);
+      few = omega (arith, fit.changes, counted, few.changes);
+    }
+
+-- the assignments of a statement without a fault
+statement-sound : (netlist : Netlist) (nodes : ℕ) (statement : ResolvedTimed) → names_unknown netlist statement ≡ false → lacks_bit statement ≡ false → names_node_twice statement ≡ false → AreBelow nodes (assignments_in statement) → IsSoundTimed nodes statement
+statement-sound netlist nodes (Ordered first second number) known bits once below = record { pairs = All-nil _; fresh = refl }
+statement-sound netlist nodes (Ideal wire) known bits once below = record { pairs = All-nil _; fresh = refl }
+statement-sound netlist nodes (Start assigned) known bits once below = record { pairs = pairs-sound netlist.inputs nodes Nodes assigned known bits below; fresh = once }
+statement-sound netlist nodes (Change assigned) known bits once below = record { pairs = pairs-sound netlist.inputs nodes Inputs assigned known bits below; fresh = once }
+
+entries-sound :
+    (netlist : Netlist) (nodes : ℕ) (entries : List TimedEntry) → IsClearTimed netlist (numbered_timed_resolutions entries) → All (λ entry. AreBelow nodes (assignments_in (timed_resolution_of entry.held))) entries →
+    All (λ entry. IsSoundTimed nodes (timed_resolution_of entry.held)) entries
+entries-sound netlist nodes entries h below =
+    let U : Numbered ResolvedTimed → Type 0 = λ numbered. names_unknown netlist numbered.statement ≡ false in
+    let B : Numbered ResolvedTimed → Type 0 = λ numbered. lacks_bit numbered.statement ≡ false in
+    let T : Numbered ResolvedTimed → Type 0 = λ numbered. names_node_twice numbered.statement ≡ false in
+    let u = All-unmap U numbered_timed_resolution entries (All-from_first_line (names_unknown netlist) (numbered_timed_resolutions entries) h.unknown) in
+    let b = All-unmap B numbered_timed_resolution entries (All-from_first_line lacks_bit (numbered_timed_resolutions entries) h.bit) in
+    let t = All-unmap T numbered_timed_resolution entries (All-from_first_line names_node_twice (numbered_timed_resolutions entries) h.twice) in
+    λ k d l. statement-sound netlist nodes (timed_resolution_of (get_or entries k d).held) (u k d l) (b k d l) (t k d l) (below k d l)
+
+-- where no pass over assumptions has an answer, no order is unpaired
+paired-from : (netlist : Netlist) (statements : List (Numbered ResolvedTimed)) → first_assumption_fault netlist statements ≡ None → first_passing_line (is_unpaired netlist) statements ≡ None
+paired-from netlist statements h = by_answer (first_passing_line (is_unpaired netlist) statements) refl h
+  where
+    by_answer : (answer : Option ℕ) → first_passing_line (is_unpaired netlist) statements ≡ answer → first_found (option_map Wires answer ∷ (option_map Number (first_passing_line lacks_number statements) ∷ option_map Again (first_line_behind is_stated [] statements) ∷ [])) ≡ None → first_passing_line (is_unpaired netlist) statements ≡ None
+    by_answer None e n = e
+    by_answer (Some line) e n = cc
+
+-- what a text is in which the passes find nothing
+pub accepted :
+    (netlist : Netlist) (bytes : List ℕ) (entries : List TimedEntry) → IsChecked (resolve_timed_tokens netlist) (timed_rules netlist) bytes (numbered_timed_resolutions entries) →
+    All (λ entry. AreBelow (length netlist.names) (assignments_in (timed_resolution_of entry.held))) entries → first_assumption_fault netlist (numbered_timed_resolutions entries) ≡ None → IsAcceptedTimed netlist bytes entries
+accepted netlist bytes entries h below none =
+    let clear = clear-from netlist (numbered_timed_resolutions entries) h.clear in
+    let looked : numbered_timed_resolutions entries ≡ resolved_timed_statements netlist bytes = sym h.read.statements ∙ resolved_statements-read netlist bytes in
+    let no_text = unanswered (HasText netlist bytes) _ (text-answer netlist bytes) (checked-none (resolve_timed_tokens netlist) (timed_rules netlist) bytes (numbered_timed_resolutions entries) h) in
+    let F : Option TimedFault → Type 0 = IsAnswer (timed_faults_that (HasTimedFault netlist bytes)) in
+    let C : List (Numbered ResolvedTimed) → Type 0 = IsClearTimed netlist in
+    let P : List (Numbered ResolvedTimed) → Type 0 = λ statements. first_assumption_fault netlist statements ≡ None in
+    let here = subst P looked none in
+    record {
+      statements = looked;
+      few = (few-from (numbered_timed_resolutions entries) clear.beyond).changes;
+      sound = entries-sound netlist (length netlist.names) entries clear below;
+      faultless = subst F here (assumption-answer netlist bytes no_text);
+      usable = λ circuit whole script is. usable netlist bytes script circuit whole (subst C looked clear) (paired-from netlist (resolved_timed_statements netlist bytes) here) is;
+    }
+
+-- what the passes over assumptions answer, as a refusal
+pub assumption-refusal :
+    (netlist : Netlist) (bytes : List ℕ) (entries : List TimedEntry) (fault : TimedFault) → IsChecked (resolve_timed_tokens netlist) (timed_rules netlist) bytes (numbered_timed_resolutions entries) →
+    first_assumption_fault netlist (numbered_timed_resolutions entries) ≡ Some fault → IsTimedRefusal netlist bytes fault
+assumption-refusal netlist bytes entries fault h found =
+    let looked : numbered_timed_resolutions entries ≡ resolved_timed_statements netlist bytes = sym h.read.statements ∙ resolved_statements-read netlist bytes in
+    let no_text = unanswered (HasText netlist bytes) _ (text-answer netlist bytes) (checked-none (resolve_timed_tokens netlist) (timed_rules netlist) bytes (numbered_timed_resolutions entries) h) in
+    let F : Option TimedFault → Type 0 = IsAnswer (timed_faults_that (HasTimedFault netlist bytes)) in
+    let P : List (Numbered ResolvedTimed) → Type 0 = λ statements. first_assumption_fault netlist statements ≡ Some fault in
+    inr (subst F (subst P looked found) (assumption-answer netlist bytes no_text))

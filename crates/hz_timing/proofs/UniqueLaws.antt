@@ -1,0 +1,47 @@
+-- A text has one least fault.
+use Rattle.std.proofs.Common.{◌≡◌, ℕ, List, ap, inl, inr, arith}
+use Rattle.std.specs.Prelude.{◌⊎◌}
+use Rattle.hz_core.specs.Netlist.{Netlist}
+use Rattle.hz_line.proofs.LeastLaws.{both-first}
+use Rattle.hz_text.specs.Fault.{IsLeastFaultOf}
+use Rattle.hz_text.specs.declared.fault.TextFault.{TextFault}
+use Rattle.hz_text.specs.declared.fault.TextFault.TheVariants.{Memory}
+use Rattle.hz_text.proofs.LeastFault.{OneMismatch, least-unique}
+use Rattle.hz_timing.specs.declared.fault.TimedFault.{TimedFault}
+use Rattle.hz_timing.specs.declared.fault.TimedFault.TheVariants.{Text, Wires, Number, Again}
+use Rattle.hz_timing.specs.TimedFault.{HasTimedFault, IsLeastTimedFault, IsTimedRefusal, timed_fault_number, timed_place_of, timed_faults_that}
+use Rattle.hz_timing.proofs.FaultLaws.{HasText, text-first}
+
+-- of the faults of all texts, it is the least
+text-part : (netlist : Netlist) (bytes : List ℕ) (fault : TextFault) → IsLeastTimedFault netlist bytes (Text fault) → IsLeastFaultOf (HasText netlist bytes) fault
+text-part netlist bytes fault is = record { stands = is.stands; least = λ other s. is.least (Text other) s }
+
+no_counts : (netlist : Netlist) (bytes : List ℕ) → OneMismatch (HasText netlist bytes)
+no_counts netlist bytes = λ line told real other_line other_told other_real s t. absurd s
+
+-- the least fault is one
+pub timed-unique : (netlist : Netlist) (bytes : List ℕ) (fault other : TimedFault) → IsLeastTimedFault netlist bytes fault → IsLeastTimedFault netlist bytes other → fault ≡ other
+timed-unique netlist bytes fault other a b = by_kind fault other a b (both-first (timed_faults_that (HasTimedFault netlist bytes)) fault other (a.least other b.stands) (b.least fault a.stands))
+  where
+    by_kind : (fault other : TimedFault) → IsLeastTimedFault netlist bytes fault → IsLeastTimedFault netlist bytes other → (timed_fault_number fault ≡ timed_fault_number other) × (timed_place_of fault ≡ timed_place_of other) → fault ≡ other
+    by_kind (Text one) (Text two) a b same = ap Text (least-unique (HasText netlist bytes) one two (no_counts netlist bytes) (text-part netlist bytes one a) (text-part netlist bytes two b))
+    by_kind (Text one) (Wires line) a b same = absurd (omega (arith, text-first one, same.0))
+    by_kind (Text one) (Number line) a b same = absurd (omega (arith, text-first one, same.0))
+    by_kind (Text one) (Again line) a b same = absurd (omega (arith, text-first one, same.0))
+    by_kind (Wires line) (Text two) a b same = absurd (omega (arith, text-first two, same.0))
+    by_kind (Number line) (Text two) a b same = absurd (omega (arith, text-first two, same.0))
+    by_kind (Again line) (Text two) a b same = absurd (omega (arith, text-first two, same.0))
+    by_kind (Wires line) (Wires next) a b same = ap Wires same.1
+    by_kind (Number line) (Number next) a b same = ap Number same.1
+    by_kind (Again line) (Again next) a b same = ap Again same.1
+    by_kind (Wires line) (Number next) a b same = absurd (omega (arith, same.0))
+    by_kind (Wires line) (Again next) a b same = absurd (omega (arith, same.0))
+    by_kind (Number line) (Wires next) a b same = absurd (omega (arith, same.0))
+    by_kind (Number line) (Again next) a b same = absurd (omega (arith, same.0))
+    by_kind (Again line) (Wires next) a b same = absurd (omega (arith, same.0))
+    by_kind (Again line) (Number next) a b same = absurd (omega (arith, same.0))
+
+-- the answer is the least fault, or memory ran out
+pub timed-exact : (netlist : Netlist) (bytes : List ℕ) (fault other : TimedFault) → IsTimedRefusal netlist bytes fault → IsLeastTimedFault netlist bytes other → (fault ≡ other) ⊎ (fault ≡ Text Memory)
+timed-exact netlist bytes fault other (inl memory) least = inr memory
+timed-exact netlist bytes fault other (inr h) least = inl (timed-unique netlist bytes fault other h least)

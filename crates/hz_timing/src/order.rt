@@ -1,0 +1,73 @@
+// The order of the statements: a start before the first change, assumptions before the first change.
+
+ghost use Rattle.std.specs.Prelude.{◌≡◌, false};
+ghost use Rattle.hz_timing.specs.TimedResolution.{timed_resolution_of, numbered_timed_resolutions};
+ghost use Rattle.hz_timing.specs.TimedFault.{is_start, is_change, has_start};
+ghost use Rattle.hz_timing.specs.TimedRules.{misplaced_behind, misplaced_from, first_out_of_order};
+
+use crate::statement::{TimedEntry, TimedHeld};
+
+// The line that breaks the order.
+pub(crate) fn first_out_of_order(entries: &[TimedEntry]) -> Option<u32>
+    ensures { result ≡ first_out_of_order (numbered_timed_resolutions entries.now) }
+{
+    if has_start(entries) {
+        first_misplaced(entries)
+    } else {
+        Some(0)
+    }
+}
+
+// Whether some statement is a start.
+fn has_start(entries: &[TimedEntry]) -> bool
+    ensures { result ≡ has_start (numbered_timed_resolutions entries.now) }
+{
+    for entry in entries {
+        if is_start(&entry.held) {
+            return true;
+        }
+    }
+    false
+}
+
+// The first line of a statement that is out of order.
+fn first_misplaced(entries: &[TimedEntry]) -> Option<u32>
+    ensures { result ≡ misplaced_from false false (numbered_timed_resolutions entries.now) }
+{
+    let mut started = false;
+    let mut changed = false;
+    for entry in entries {
+        if is_misplaced(&entry.held, started, changed) {
+            return Some(entry.line);
+        }
+        started |= is_start(&entry.held);
+        changed |= is_change(&entry.held);
+    }
+    None
+}
+
+// Whether a statement is out of order, where a start stands before it or not, and a change stands before it or not.
+fn is_misplaced(held: &TimedHeld, started: bool, changed: bool) -> bool
+    ensures { result ≡ misplaced_behind started changed (timed_resolution_of held.now) }
+{
+    match held {
+        TimedHeld::Order(_, _, _) => changed,
+        TimedHeld::Ideal(_) => changed,
+        TimedHeld::Start(_) => false,
+        TimedHeld::Change(_) => !started,
+    }
+}
+
+// Whether the statement is a start.
+pub(crate) fn is_start(held: &TimedHeld) -> bool
+    ensures { result ≡ is_start (timed_resolution_of held.now) }
+{
+    matches!(held, TimedHeld::Start(_))
+}
+
+// Whether the statement is a change.
+pub(crate) fn is_change(held: &TimedHeld) -> bool
+    ensures { result ≡ is_change (timed_resolution_of held.now) }
+{
+    matches!(held, TimedHeld::Change(_))
+}
