@@ -7,7 +7,7 @@ use Rattle.hz_line.proofs.StatementLemmas.{Ascends}
 use Rattle.hz_text.proofs.PassLaws.{true-false}
 use Rattle.hz_timing.specs.TimedStatement.{Ordered, Ideal, Start, Change}
 use Rattle.hz_timing.specs.TimedResolution.{ResolvedTimed}
-use Rattle.hz_timing.specs.TimedFault.{PassesBehind, is_start, is_change, is_misplaced, has_start, BreaksOrder}
+use Rattle.hz_timing.specs.TimedFault.{PassesBehind, is_start, is_change, is_misplaced, has_begun, BreaksOrder}
 use Rattle.hz_timing.specs.TimedRules.{first_line_behind, misplaced_behind, misplaced_from, first_out_of_order}
 
 -- where a test passes, the line is none before the first
@@ -74,15 +74,15 @@ misplaced-first before (first ∷ later) =
 
 -- the pass over the order answers the least line that breaks it
 pub answers_order : (statements : List (Numbered ResolvedTimed)) → Ascends 1 statements → IsLeastOf (BreaksOrder statements) (first_out_of_order statements)
-answers_order statements up = by_start (has_start statements) refl
+answers_order statements up = by_start (has_begun statements) refl
   where
-    started : (answer : Option ℕ) → has_start statements ≡ true → IsLeastOf (PassesBehind is_misplaced [] statements) answer → IsLeastOf (BreaksOrder statements) answer
+    started : (answer : Option ℕ) → has_begun statements ≡ true → IsLeastOf (PassesBehind is_misplaced [] statements) answer → IsLeastOf (BreaksOrder statements) answer
     started None s none = λ line p. elim p [ inl at ↦ true-false (sym s ∙ at.0) | inr q ↦ none line q ]
     started (Some line) s is = record {
       here = inr is.here;
       least = λ other p. elim p [ inl at ↦ absurd (true-false (sym s ∙ at.0)) | inr q ↦ is.least other q ];
     }
 
-    by_start : (b : Bool) → has_start statements ≡ b → IsLeastOf (BreaksOrder statements) (cond b (misplaced_from false false statements) (Some 0))
+    by_start : (b : Bool) → has_begun statements ≡ b → IsLeastOf (BreaksOrder statements) (cond b (misplaced_from false false statements) (Some 0))
     by_start true s = started (misplaced_from false false statements) s (rw (misplaced-first [] statements) (answers_behind is_misplaced [] statements 1 up))
     by_start false s = record { here = inl (s, refl); least = λ other p. omega arith }

@@ -1,6 +1,6 @@
 -- What holds of a script with assumptions of time in which no pass finds a fault.
 use Rattle.std.proofs.Common.{◌≡◌, ◌∙◌, ℕ, ◌≤◌, Bool, true, false, cond, List, [], ◌∷◌, Option, Some, None, length, get_or, refl, sym, subst, inl, inr, arith}
-use Rattle.std.specs.Prelude.{filter}
+use Rattle.std.specs.Prelude.{◌||◌, filter}
 use Rattle.std.specs.List.{All}
 use Rattle.hz_core.specs.Netlist.{Netlist, IsCircuit, IsWhole, primary_inputs}
 use Rattle.hz_lists.specs.Least.{IsLeastOf}
@@ -12,14 +12,14 @@ use Rattle.hz_text.specs.Assignment.{Nodes, Inputs}
 use Rattle.hz_text.specs.Rules.{AreBelow, IsChecked, first_fault_in}
 use Rattle.hz_text.specs.declared.fault.TextFault.TheVariants.{Unknown, Twice, Missing, Bit, Order, TooMany}
 use Rattle.hz_text.proofs.LeastFault.{unanswered, checked-none}
-use Rattle.hz_text.proofs.PassLaws.{none_parts, All-from_first_line, All-unmap, pairs-sound}
+use Rattle.hz_text.proofs.PassLaws.{none_parts, All-from_first_line, All-unmap, pairs-sound, true-false}
 use Rattle.std.proofs.lemmas.List.Elements.{All-nil, All-cons}
 use Rattle.hz_timing.specs.declared.fault.TimedFault.{TimedFault}
 use Rattle.hz_timing.specs.declared.fault.TimedFault.TheVariants.{Wires, Number, Again}
 use Rattle.hz_timing.specs.TimedStatement.{Ordered, Ideal, Start, Change, timed_statements_of}
 use Rattle.hz_timing.specs.TimedResolution.{ResolvedTimed, TimedEntry, resolve_timed_tokens, timed_resolution_of, numbered_timed_resolution, numbered_timed_resolutions}
-use Rattle.hz_timing.specs.TimedFault.{resolved_timed_statements, assignments_in, names_unknown, lacks_bit, is_order, is_ideal, is_start, is_change, has_start, IsMissing, LeavesOut, line_behind, is_unpaired, lacks_number, is_stated, HasTimedFault, IsTimedRefusal, timed_faults_that}
-use Rattle.hz_timing.specs.TimedRules.{names_node_twice, least_missing, misplaced_from, first_out_of_order, first_beyond, timed_rules, first_assumption_fault, first_line_behind}
+use Rattle.hz_timing.specs.TimedFault.{resolved_timed_statements, assignments_in, names_unknown, lacks_bit, is_order, is_ideal, is_start, is_change, has_start, has_begun, IsMissing, LeavesOut, line_behind, is_unpaired, lacks_number, is_stated, HasTimedFault, IsTimedRefusal, timed_faults_that}
+use Rattle.hz_timing.specs.TimedRules.{names_node_twice, least_missing, misplaced_behind, misplaced_from, first_out_of_order, first_beyond, timed_rules, first_assumption_fault, first_line_behind}
 use Rattle.hz_timing.specs.TimedReading.{IsSoundTimed, IsAcceptedTimed}
 use Rattle.hz_timing.specs.TimedText.{parts_in, IsTimedScriptBy, IsTimedScriptFor}
 use Rattle.hz_timing.specs.TimedValue.{TimedScriptOf}
@@ -78,9 +78,27 @@ all-clear netlist statements h =
     let whole = all-whole (primary_inputs netlist) statements (none-missing (primary_inputs netlist) statements h.missing) in
     λ k d l. record { known = known k d l; once = once k d l; bits = bits k d l; whole = whole k d l }
 
+-- behind no start no change is in order
+ordered-start : (statements : List (Numbered ResolvedTimed)) (changed : Bool) → has_begun statements ≡ true → misplaced_from false changed statements ≡ None → has_start statements ≡ true
+ordered-start [] changed s e = absurd (true-false (sym s))
+ordered-start (first ∷ later) changed s e = step first.statement s e (ordered-start later)
+  where
+    behind : (b : Bool) (rest : Option ℕ) → cond b (Some first.line) rest ≡ None → rest ≡ None
+    behind true rest e = cc
+    behind false rest e = e
+
+    step :
+        (statement : ResolvedTimed) → ((is_start statement || is_change statement) || has_begun later) ≡ true
+        → cond (misplaced_behind false changed statement) (Some first.line) (misplaced_from (false || is_start statement) (changed || is_change statement) later) ≡ None
+        → ((changed : Bool) → has_begun later ≡ true → misplaced_from false changed later ≡ None → has_start later ≡ true) → (is_start statement || has_start later) ≡ true
+    step (Ordered one other number) s e ih = ih (changed || false) s (behind changed (misplaced_from false (changed || false) later) e)
+    step (Ideal wire) s e ih = ih (changed || false) s (behind changed (misplaced_from false (changed || false) later) e)
+    step (Start assigned) s e ih = refl
+    step (Change assigned) s e ih = cc
+
 -- statements in order have a start
-start-some : (statements : List (Numbered ResolvedTimed)) (b : Bool) → has_start statements ≡ b → cond b (misplaced_from false false statements) (Some 0) ≡ None → has_start statements ≡ true
-start-some statements true s e = s
+start-some : (statements : List (Numbered ResolvedTimed)) (b : Bool) → has_begun statements ≡ b → cond b (misplaced_from false false statements) (Some 0) ≡ None → has_start statements ≡ true
+start-some statements true s e = ordered-start statements false s e
 start-some statements false s e = cc
 
 -- a script of accepted statements can be used
@@ -94,7 +112,7 @@ usable netlist bytes script circuit whole h paired is =
     let counted = changes-counted statements in
     let good = parts-good netlist statements (all-clear netlist statements h) in
     let fit = scripts-fit netlist (parts_in statements) script.parts circuit good (omega (arith, counted, few.changes)) is.parts in
-    let some = parts-some statements (start-some statements (has_start statements) refl h.order) in
+    let some = parts-some statements (start-some statements (has_begun statements) refl h.order) in
     record {
       assumptions = rw is.assumptions (assumptions-fit netlist (timed_statements_of bytes) circuit whole known two);
       parts = fit.fit;

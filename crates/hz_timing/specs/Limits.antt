@@ -11,7 +11,7 @@ most_ideals = 256
 
 -- the most starts
 abbrev pub most_starts : ℕ
-most_starts = 1000
+most_starts = 256
 
 -- the greatest number of a change in an order
 abbrev pub most_nth : ℕ

@@ -108,10 +108,15 @@ is_misplaced before (Change assigned) = not (list_any is_start before)
 abbrev pub has_start : List (Numbered ResolvedTimed) → Bool
 has_start statements = list_any (λ numbered. is_start numbered.statement) statements
 
--- the statement on this line is out of order; line 0 if there is no start
+-- some statement is a start or a change
+abbrev pub has_begun : List (Numbered ResolvedTimed) → Bool
+has_begun statements =
+    list_any (λ numbered. is_start numbered.statement || is_change numbered.statement) statements
+
+-- the statement on this line is out of order; line 0 if there is neither a start nor a change
 abbrev pub BreaksOrder : List (Numbered ResolvedTimed) → ℕ → Type 0
 BreaksOrder statements line =
-    ((has_start statements ≡ false) × (line ≡ 0)) ⊎ PassesBehind is_misplaced [] statements line
+    ((has_begun statements ≡ false) × (line ≡ 0)) ⊎ PassesBehind is_misplaced [] statements line
 
 -- the line of the first statement of a kind behind so many of it, if there is one
 abbrev pub line_behind : (ResolvedTimed → Bool) → ℕ → List (Numbered ResolvedTimed) → Option ℕ
@@ -119,7 +124,7 @@ line_behind kind most statements =
     option_map (λ numbered. numbered.line)
     (slice_get (filter (λ numbered. kind numbered.statement) statements) most)
 
--- the line of the order 1,001, of the wire without delay 257, of the start 1,001, or of the change 10,001
+-- the line of the order 1,001, of the wire without delay 257, of the start 257, or of the change 10,001
 abbrev pub IsBeyond : List (Numbered ResolvedTimed) → ℕ → Type 0
 IsBeyond statements line =
     (line_behind is_order most_orders statements ≡ Some line)

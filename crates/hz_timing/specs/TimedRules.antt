@@ -13,7 +13,7 @@ use Rattle.hz_timing.specs.TimedKeyword.{TimedKeyword}
 use Rattle.hz_timing.specs.TimedKeyword as keyword
 use Rattle.hz_timing.specs.TimedStatement.{Ordered, Ideal, Start, Change}
 use Rattle.hz_timing.specs.TimedResolution.{ResolvedTimed}
-use Rattle.hz_timing.specs.TimedFault.{assignments_in, names_unknown, lacks_bit, is_order, is_ideal, is_start, is_change, has_start, is_unpaired, lacks_number, is_stated}
+use Rattle.hz_timing.specs.TimedFault.{assignments_in, names_unknown, lacks_bit, is_order, is_ideal, is_start, is_change, has_begun, is_unpaired, lacks_number, is_stated}
 use Rattle.hz_timing.specs.Limits.{most_orders, most_ideals, most_starts}
 
 -- the statement assigns a node twice
@@ -61,7 +61,7 @@ misplaced_from started changed (first ∷ later) =
 -- the line that breaks the order
 abbrev pub first_out_of_order : List (Numbered ResolvedTimed) → Option ℕ
 first_out_of_order statements =
-    if has_start statements then misplaced_from false false statements else Some 0
+    if has_begun statements then misplaced_from false false statements else Some 0
 
 -- the statement begins with this keyword
 abbrev pub is_of : TimedKeyword → ResolvedTimed → Bool

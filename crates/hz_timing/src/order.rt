@@ -2,7 +2,7 @@
 
 ghost use Rattle.std.specs.Prelude.{◌≡◌, false};
 ghost use Rattle.hz_timing.specs.TimedResolution.{timed_resolution_of, numbered_timed_resolutions};
-ghost use Rattle.hz_timing.specs.TimedFault.{is_start, is_change, has_start};
+ghost use Rattle.hz_timing.specs.TimedFault.{is_start, is_change, has_begun};
 ghost use Rattle.hz_timing.specs.TimedRules.{misplaced_behind, misplaced_from, first_out_of_order};
 
 use crate::statement::{TimedEntry, TimedHeld};
@@ -11,19 +11,19 @@ use crate::statement::{TimedEntry, TimedHeld};
 pub(crate) fn first_out_of_order(entries: &[TimedEntry]) -> Option<u32>
     ensures { result ≡ first_out_of_order (numbered_timed_resolutions entries.now) }
 {
-    if has_start(entries) {
+    if has_begun(entries) {
         first_misplaced(entries)
     } else {
         Some(0)
     }
 }
 
-// Whether some statement is a start.
-fn has_start(entries: &[TimedEntry]) -> bool
-    ensures { result ≡ has_start (numbered_timed_resolutions entries.now) }
+// Whether some statement is a start or a change.
+fn has_begun(entries: &[TimedEntry]) -> bool
+    ensures { result ≡ has_begun (numbered_timed_resolutions entries.now) }
 {
     for entry in entries {
-        if is_start(&entry.held) {
+        if is_start(&entry.held) | is_change(&entry.held) {
             return true;
         }
     }

@@ -22,7 +22,7 @@ const MAX_ORDERS: usize = 1000;
 const MAX_IDEALS: usize = 256;
 
 /// The most starts.
-const MAX_STARTS: usize = 1000;
+const MAX_STARTS: usize = 256;
 
 // What a statement assigns.
 pub(crate) fn assignments_in<'h>(held: &'h TimedHeld) -> &'h [Assigned]
