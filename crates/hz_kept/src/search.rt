@@ -11,8 +11,8 @@ use hz_gmw::Run;
 use hz_orders::OrderedChange;
 use std::alloc::Global;
 
-/// A search: the state so far, how often each variable has changed, what is due to be looked at from a place on, and what waits for the
-/// first wire of an order. No variable is marked but while a step of several is made.
+/// A search: the state so far, how often each variable has changed, what is due to be looked at from a place on, once each, and what waits
+/// for the first wire of an order. No variable is marked but while a step of several is made.
 #[derive(Drop)]
 pub(crate) struct Search<'a> {
     pub(crate) change: &'a OrderedChange<'a>,
@@ -23,6 +23,7 @@ pub(crate) struct Search<'a> {
     pub(crate) waits: Vec<u32>,
     way: Way,
     due: Vec<u32>,
+    listed: Vec<bool>,
     oldest: usize,
 }
 
@@ -70,6 +71,7 @@ fn search_by(
         waits: Vec::new(alloc),
         way,
         due: Vec::new(alloc),
+        listed: vec![in alloc; false; variables as usize]?,
         oldest: 0,
     };
     search.begin()?;
@@ -110,6 +112,7 @@ impl Search<'_> {
             let Some(var) = self.take() else {
                 return self.make_jointly(alloc, run);
             };
+            set_mark(self.listed.as_mut_slice(), var, false);
             if !self.is_unstable(var) {
                 continue;
             }
@@ -195,7 +198,16 @@ impl Search<'_> {
                 Way::NewestLast => place,
                 Way::Oldest => place,
             };
-            self.due.push(readers[at])?;
+            self.add(readers[at])?;
+        }
+        Ok(())
+    }
+
+    // A variable is due, once as long as it is not looked at. So what swings for ever takes no more room each time.
+    fn add(&mut self, var: u32) -> Result<(), Memory> {
+        if !is_marked(self.listed.as_slice(), var) {
+            set_mark(self.listed.as_mut_slice(), var, true);
+            self.due.push(var)?;
         }
         Ok(())
     }
