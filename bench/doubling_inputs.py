@@ -430,6 +430,129 @@ def script_feedback_open(n):
     return "INPUT(a)\n" + lines(n, lambda k: f"g{k}=BUFF(a)\n") + "y=OR(a,y)\n", START
 
 
+# ---- assumptions of time
+
+def ordered_chain(n, stated="order h(1) h(2)"):
+    """A gate that reads both ends of a chain, with one assumption."""
+    netlist, script = chain(n)
+    return netlist + f"h=XOR(g0,g{n})\n", stated + "\n" + script
+
+
+def waiting_for_chain(n):
+    return ordered_chain(n, "order h(2) h(1)")
+
+
+def ideal_at_chain(n):
+    return ordered_chain(n, "ideal h(1)")
+
+
+def never_kept(n):
+    """The order holds a chain of which its first wire is the end."""
+    return "INPUT(a)\ng0=OR(a,g%d)\n" % n + chain(n)[0].partition("\n")[2], "order g0(2) g0(1)\nstart a=0" + lines(n + 1, lambda k: f" g{k - 1}=0") + "\nchange a=1\n"
+
+
+def ordered_flip_flops(n):
+    """Flip-flops of one clock, each with an order, through a whole round of the clock."""
+    made = lines(n, lambda k: f"a{k}=NAND(b{k},s{k})\ns{k}=NAND(a{k},c)\nr{k}=NAND(s{k},c,b{k})\nb{k}=NAND(r{k},d)\nq{k}=NAND(s{k},p{k})\np{k}=NAND(q{k},r{k})\n")
+    stated = lines(n, lambda k: f"order r{k}(2) r{k}(1)\n")
+    return "INPUT(c)\nINPUT(d)\n" + made, stated + "start c=0 d=0" + lines(n, lambda k: f" q{k}=0 p{k}=1") + "\nchange d=1\nchange c=1\nchange d=0\nchange c=0\n"
+
+
+NINE = "".join(f"INPUT(i{k})\n" for k in range(9))
+NINE_MOVE = "start" + "".join(f" i{k}=0" for k in range(9)) + "\nchange" + "".join(f" i{k}=1" for k in range(9)) + "\n"
+PAIRS = [(one, other) for one in range(1, 10) for other in range(1, 10) if one != other]
+
+
+def orders_of_one_gate(n):
+    """A gate of nine pins, which all move: an order of each two of them, then of the next change of the second."""
+    stated = "".join(f"order g({PAIRS[k % 72][0]}) g({PAIRS[k % 72][1]}) {k // 72 + 1}\n" for k in range(n))
+    return NINE + f"g=XOR({','.join(f'i{k}' for k in range(9))})\n", stated + NINE_MOVE
+
+
+def ordered_gates(n, still=0):
+    """Gates of nine pins that move, behind some that don't, each gate with an order."""
+    pins = ",".join(["z"] * still + [f"i{k}" for k in range(9)])
+    stated = lines(n, lambda k: f"order g{k}({still + 1}) g{k}({still + 2})\n")
+    return "INPUT(z)\n" + NINE + lines(n, lambda k: f"g{k}=XOR({pins})\n"), stated + NINE_MOVE.replace("start", "start z=0")
+
+
+def ordered_wide_gates(n):
+    return ordered_gates(n, 247)
+
+
+def ideals_at_chain(n, count=256):
+    """Ideal wires from points of a chain into gates that read its other end too."""
+    gates = lines(count, lambda k: f"h{k}=XOR(g{k},g{n + count - k})\n")
+    return chain(n + count)[0] + gates, lines(count, lambda k: f"ideal h{k}(1)\n") + chain(n)[1]
+
+
+def more_ideals(n):
+    return ideals_at_chain(3_000, n)
+
+
+def ideals_of_wide(n):
+    """An ideal wire into each gate of 256 pins: 255 orders follow from it."""
+    netlist, script = wide(n)
+    return netlist, lines(n, lambda k: f"ideal g{k}(1)\n") + script
+
+
+def ideals_in_ring(n):
+    """Ideal wires into gates of a ring, which never settles."""
+    netlist, script = ring(n)
+    return netlist + lines(64, lambda k: f"h{k}=XOR(g{k},g{n + 1 - k})\n"), lines(64, lambda k: f"ideal h{k}(1)\n") + script
+
+
+def ordered_changes(n):
+    netlist, script = ordered_flip_flops(10)
+    stated = script.partition("\nchange")[0] + "\n"
+    return netlist, stated + "change d=1\nchange c=1\nchange d=0\nchange c=0\n" * n
+
+
+FORK = "INPUT(a)\ng=XOR(a,a)\n"
+
+
+def starts_of_chain(n):
+    netlist, script = chain(100)
+    return netlist, script * n
+
+
+def orders_stated(n):
+    """The last of them is stated twice."""
+    return FORK, lines(n, lambda k: f"order g(1) g(2) {k}\n") + f"order g(1) g(2) {n}\n" + CHANGE
+
+
+def orders_too_many(n):
+    return FORK, lines(n, lambda k: f"order g(1) g(2) {k}\n") + CHANGE
+
+
+def ideals_too_many(n):
+    return FORK, "ideal g(1)\n" * n + CHANGE
+
+
+def starts_too_many(n):
+    return FORK, START * n
+
+
+def order_number(n):
+    return FORK, "order g(1) g(2) " + "1" * n + "\n" + CHANGE
+
+
+def order_of_words(n):
+    return FORK, "order " + "g(1) " * n + "\n" + CHANGE
+
+
+def order_pin(n):
+    return FORK, "order g(1) g(" + "1" * n + ")\n" + CHANGE
+
+
+def orders_unknown(n):
+    return FORK, lines(n, lambda k: f"order u{k}(1) u{k}(2)\n") + CHANGE
+
+
+def orders_last_form(n):
+    return FORK, lines(n, lambda k: f"order g(1) g(2) {k}\n") + CHANGE + "order g(1)"
+
+
 # ---- run texts
 
 RING = "INPUT(e)\ny = NAND(e, y)\n"
@@ -745,6 +868,35 @@ def edge_cases():
     yield Case("edges", "script: changes of a hundred latches", changes_of_many, 250)
 
 
+def order_cases():
+    """Scripts with assumptions of time, by `edges`."""
+    for name, make, least, status in (
+            ("one gate behind a chain", ordered_chain, 12_000, 0),
+            ("one gate that waits for a chain", waiting_for_chain, 12_000, 0),
+            ("an order that no run keeps", never_kept, 12_000, 0),
+            ("flip-flops, one each", ordered_flip_flops, 125, 0),
+            ("one gate of nine pins", orders_of_one_gate, 125, 0),
+            ("gates of nine pins, one each", ordered_gates, 15, 0),
+            ("gates of 256 pins, nine move", ordered_wide_gates, 1, 0),
+            ("an ideal wire on a long chain", ideal_at_chain, 12_000, 0),
+            ("256 ideal wires on a long chain", ideals_at_chain, 1_000, 0),
+            ("more ideal wires on one chain", more_ideals, 32, 0),
+            ("ideal wires into gates of 256 pins", ideals_of_wide, 4, 0),
+            ("64 ideal wires at a ring", ideals_in_ring, 500, 0),
+            ("changes of ten flip-flops", ordered_changes, 60, 0),
+            ("starts of a chain", starts_of_chain, 125, 0),
+            ("the last is stated twice", orders_stated, 124, 4),
+            ("too many", orders_too_many, 60_000, 4),
+            ("too many ideal wires", ideals_too_many, 100_000, 4),
+            ("too many starts", starts_too_many, 100_000, 4),
+            ("a long number", order_number, 1_000_000, 4),
+            ("a line of wires", order_of_words, 300_000, 4),
+            ("a long pin", order_pin, 1_000_000, 4),
+            ("unknown wires", orders_unknown, 50_000, 4),
+            ("last line: form", orders_last_form, 60_000, 4)):
+        yield Case("edges", "orders: " + name, make, least, status)
+
+
 def explorations():
     """Circuits by `explore`, with one change each, which leads to one state or to none."""
     for name, make, least in (
@@ -846,5 +998,6 @@ def cases():
     yield from pattern_cases()
     yield from splits()
     yield from edge_cases()
+    yield from order_cases()
     yield from explorations()
     yield Case("demo", "NUMBER", None, 2_000)

@@ -3,9 +3,10 @@
 An order is (first, second, nth): the second wire does not make its nth change before the first has changed. What a run has done with
 an order is a mark: how often the second wire has changed, or DONE once the first has.
 """
+import math
 import random
 import re
-from itertools import combinations
+from itertools import combinations, product
 
 import model
 from calls import call, write
@@ -17,6 +18,9 @@ MOST_SETS = 6
 MOST_PLACES = 3000
 # the most changes that are counted
 MOST_CHANGES = 5
+# the most variables of circuits whose runs are looked for, and the most positions of a gate's wires of which the program has a table
+MOST_VARIABLES = 11
+MOST_POSITIONS = 512
 SCRIPTS = 400
 
 
@@ -233,6 +237,7 @@ class Script:
 
     def __init__(self, assumptions, parts, options=()):
         self.assumptions, self.parts, self.options = assumptions, parts, ["--show", "all", *options]
+        self.cap = int(options[1]) if options else math.inf
 
     def text(self, circuit, assumptions=None):
         """The text, some of whose assumptions stand before the first start."""
@@ -280,8 +285,31 @@ def random_circuit(chance):
             kind = chance.choice(list(model.GATES))
             pins = 1 if kind in ("NOT", "BUFF") else chance.choice((2, 2, 3))
             gates.append((name, kind, "".join(chance.choice(names) for _ in range(pins))))
-        if len(names) + sum(len(sources) for _, _, sources in gates) <= 11:
+        if len(names) + sum(len(sources) for _, _, sources in gates) <= MOST_VARIABLES:
             return model.Circuit(inputs, gates, "0" * len(names), "0" * len(inputs))
+
+
+def busy_scripts(count, seed):
+    """Circuits without feedback in which most gates are parities, so that there are many changes, and scripts with orders of later ones."""
+    chance = random.Random(seed)
+    for number in range(count):
+        names, gates = "ab", []
+        for name in "pqrsuvw"[:chance.randint(3, 7)]:
+            kind = chance.choice(("XOR", "XOR", "XNOR", "BUFF", "NOT", "AND", "OR"))
+            gates.append((name, kind, "".join(chance.choice(names[-4:]) for _ in range(1 if kind in ("BUFF", "NOT") else chance.choice((2, 2, 3))))))
+            names += name
+        circuit = model.Circuit("ab", gates, "0" * len(names), "00")
+        nodes = circuit.forced({"a": "0", "b": chance.choice("01")})
+        circuit.start = circuit.expanded("".join(nodes[name] for name in names))
+        pairs = [pair for wires in circuit.reads()[2:len(names)] for pair in combinations(wires, 2)]
+        if pairs:
+            yield circuit, Script(busy_orders(chance, circuit, pairs), [(circuit.start, [[(0, "1")], [(0, "0"), (1, "1")]])], ("--cap", "9") if number % 4 == 0 else ())
+
+
+def busy_orders(chance, circuit, pairs):
+    names = circuit.variables()
+    found = [["order", *(names[wire] for wire in chance.sample(chance.choice(pairs), 2)), str(chance.randint(1, 9))] for _ in range(chance.randint(1, 5))]
+    return [words for place, words in enumerate(found) if words not in found[:place]]
 
 
 def random_burst(chance, circuit):
@@ -322,6 +350,20 @@ def split_used(assumptions, used, b, start, names):
         return rest and (rest[0], rest[1] + 1)
     given = (wire, more[0], int(more[1]) if more[1:] else 1)
     return split_used(later, used[1:], b, start, names) if used[:1] == [given] else None
+
+
+def most_of_walks(kind, letters, counts, orders):
+    """How often a gate changes at most while its wires advance through their changes, several at once or one, and keep the orders of its pins.
+    The wires begin with these letters, and change so often at most."""
+    value = lambda at: model.GATES[kind]("".join(model.other(letter) if place % 2 else letter for letter, place in zip(letters, at)))
+    moves = [move for move in product((0, 1), repeat=len(counts)) if any(move)]
+    best = {(0,) * len(counts): 0}
+    for at in product(*(range(count + 1) for count in counts)):
+        if all(at[second] < nth or at[first] for first, second, nth in orders):
+            before = [tuple(place - moved for place, moved in zip(at, move)) for move in moves]
+            walks = [best[was] + (value(was) != value(at)) for was in before if was in best]
+            best.update({at: max(walks)} if walks else {})
+    return max(best.values())
 
 
 def narrowed(circuit, most):
@@ -402,6 +444,20 @@ def enumerated(name, circuit, orders, change, tally):
         tally.least += sum(change.rows[i][2] == model.join(values[i]) for i in moving if ends)
 
 
+def walk_checks(name, circuit, orders, most, cap):
+    """The bound of each gate under orders against the walks through what its wires are told. Behind feedback it may be greater."""
+    reads, free = circuit.reads(), circuit.feedback_free()
+    for gate, (node, kind, _) in enumerate(circuit.gates, len(circuit.inputs)):
+        wires = reads[gate]
+        counts = [most[wire] for wire in wires]
+        if None in counts or math.prod(count + 1 for count in counts) > MOST_POSITIONS:
+            continue
+        own = [(wires.index(first), wires.index(second), nth) for first, second, nth in orders if first in wires]
+        walks = most_of_walks(kind, [circuit.start[wire] for wire in wires], counts, own)
+        best = walks if walks <= cap else None
+        yield f"walks of {node} in {name}", best if most[gate] is None or gate not in free and most[gate] >= walks else most[gate], best
+
+
 def change_checks(name, circuit, script, change, tally):
     """All that is said of a change that is made."""
     names, b = circuit.variables(), circuit.algorithm_b()[-1]
@@ -414,9 +470,12 @@ def change_checks(name, circuit, script, change, tally):
         yield f"no order is kept of {name}", (change.kept, change.column(2)), (None, list(b))
         return
     orders = [(names.index(first), names.index(second), nth) for first, second, nth in change.used]
+    yield from walk_checks(name, circuit, orders, change.column(4), script.cap)
     yield f"narrow ends of {name}", "".join(change.column(2)), narrowed(circuit, change.column(4))
     if change.kept == "yes":
         yield f"kept run of {name}", is_kept_run(circuit, orders, circuit.runs_of(change.run)[0][0]), True
+    if len(names) > MOST_VARIABLES:
+        return
     tally.ordered += 1
     yield from enumerated(name, circuit, orders, change, tally)
     for wire, (first, second, nth) in following:
@@ -471,7 +530,7 @@ def call_checks(number, program, folder, circuit, text, script):
 def orders(program, folder):
     """Assumptions of time in small circuits, against all runs that keep them."""
     tally = Tally()
-    for number, (circuit, script) in enumerate(random_scripts(SCRIPTS, 7)):
+    for number, (circuit, script) in enumerate([*random_scripts(SCRIPTS, 7), *busy_scripts(SCRIPTS // 4, 8)]):
         files = [write(folder, "o.bench", circuit.netlist()), write(folder, "o.txt", script.text(circuit))]
         status, text = run(program, ["edges"] + script.options + files, folder)
         yield f"status of script {number}", status, 0
