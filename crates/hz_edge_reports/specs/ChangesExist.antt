@@ -3,8 +3,8 @@ use Rattle.std.specs.Prelude.{◌≡◌, ℕ, ◌≤◌, Bool, List, length, All
 use Rattle.hz_core.specs.Netlist.{Netlist, IsCircuit, IsWhole}
 use Rattle.hz_net.specs.Starts.{IsStableStart}
 use Rattle.hz_word.specs.Capped.{greatest_cap}
-use Rattle.hz_timing.specs.declared.assumption.Assumption.{Assumption}
-use Rattle.hz_timing.specs.TimedValue.{IsAssumptionOf}
+use Rattle.hz_timing.specs.declared.script.Assumption.{Assumption}
+use Rattle.hz_timing.specs.TimedText.{IsAssumptionOf}
 use Rattle.hz_edge_reports.specs.EdgeChanges.{ChangeOf, IsRightChange}
 
 -- under any assumptions, from every stable start and under every input

@@ -1,14 +1,16 @@
 -- What is found of a change, and what changes that follow one another come to.
-use Rattle.std.specs.Prelude.{◌≡◌, ℕ, ◌<◌, ◌≤◌, ◌⊎◌, Bool, List, [], ◌∷◌, length, map, take}
+use Rattle.std.specs.Prelude.{◌≡◌, ℕ, ◌<◌, ◌≤◌, ◌⊎◌, Bool, None, List, [], ◌∷◌, length, map, take}
 use Rattle.hz_core.specs.declared.tri.Tri.{Tri}
 use Rattle.hz_core.specs.Netlist.{Netlist}
 use Rattle.hz_lists.specs.Least.{IsLeast}
-use Rattle.hz_net.specs.Network.{Driver, network_of, IsUnstable}
+use Rattle.hz_net.specs.Network.{Driver, network_of, value_at, IsUnstable}
 use Rattle.hz_net.specs.Passes.{algorithm_a, algorithm_b, IsResult}
 use Rattle.hz_net.specs.Starts.{IsStableStart}
+use Rattle.hz_gmw.specs.Runs.{IsReachable, JoinsTo}
+use Rattle.hz_gmw.specs.Cycles.{IsOutcome}
 use Rattle.hz_gmw.specs.RunRecord.{flip_count}
 use Rattle.hz_orders.specs.declared.order.Order.{Order}
-use Rattle.hz_timing.specs.declared.assumption.Assumption.{Assumption}
+use Rattle.hz_timing.specs.declared.script.Assumption.{Assumption}
 use Rattle.hz_seq.specs.Sequence.{changed_input, IsFirstUnknown, IsSettledAt}
 use Rattle.hz_run_text.specs.Limits.{most_steps}
 use Rattle.hz_run_text.specs.RunPrinted.{run_text_printed}
@@ -49,11 +51,16 @@ run_of_change netlist found =
       runs = record { lead = found.edges.steps; cycle = None } ∷ [];
     }
 
--- What is found of a change is right. Printed, its run replays, if it is not too long for a run text.
+-- What is found of a change is right. A and B are the results of both algorithms, which are the joins over all states that runs reach and
+-- over all outcome states. Printed, its run replays, if it is not too long for a run text.
 pub record IsRightChange (netlist : Netlist) (cap : ℕ) (assumptions : List Assumption)
     (found : ChangeOf) : Type 0 where
   pub a : IsResult (algorithm_a (network_of netlist) found.input found.start) found.a
   pub b : IsResult (algorithm_b (network_of netlist) found.input found.a) found.b
+  pub a_exact : (i : ℕ) → i < length (network_of netlist) →
+      JoinsTo (IsReachable (network_of netlist) found.input found.start) i (value_at found.a i)
+  pub b_exact : (i : ℕ) → i < length (network_of netlist) →
+      JoinsTo (IsOutcome (network_of netlist) found.input found.start) i (value_at found.b i)
   pub used :
       AreUsed (network_of netlist) found.input found.start assumptions found.used found.idle
   pub edges : AreRightUnder found.used (network_of netlist) cap found
@@ -90,8 +97,8 @@ all_stopped var changes = map (λ change. Stopped var) changes
 -- a change from a start: it begins there, under the input with its assignments
 pub record IsChangeFrom (netlist : Netlist) (start : List Bool) (change : List (ℕ × Bool))
     (found : ChangeOf) : Type 0 where
-  pub start : found.start ≡ start
-  pub input : found.input ≡ changed_input (take netlist.inputs start) change
+  pub begins : found.start ≡ start
+  pub given : found.input ≡ changed_input (take netlist.inputs start) change
 
 -- The analyses of changes from a start, one after the other. The first change starts there, and what is found of it is right. The next
 -- one starts where it comes to, or a variable stops all later changes.

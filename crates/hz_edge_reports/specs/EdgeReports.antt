@@ -6,7 +6,7 @@ use Rattle.hz_net.specs.Network.{network_of}
 use Rattle.hz_free.specs.Feedback.{AreFeedbackCycles}
 use Rattle.hz_options.specs.declared.options.Options.{Options}
 use Rattle.hz_script.specs.ScriptValue.{ScriptOf}
-use Rattle.hz_timing.specs.declared.assumption.Assumption.{Assumption}
+use Rattle.hz_timing.specs.declared.script.Assumption.{Assumption}
 use Rattle.hz_timing.specs.TimedValue.{TimedScriptOf}
 use Rattle.hz_refusal.specs.declared.status.Status.{Status}
 use Rattle.hz_refusal.specs.declared.status.Status.TheVariants as status

@@ -14,7 +14,7 @@ use Rattle.hz_bounds.specs.declared.range.EdgeClass.TheVariants.{Steady, Single,
 use Rattle.hz_bounds.specs.Ranges.{edge_class_of}
 use Rattle.hz_options.specs.declared.show.Show.{Show}
 use Rattle.hz_orders.specs.declared.order.Order.{Order}
-use Rattle.hz_timing.specs.declared.assumption.Assumption.{Assumption}
+use Rattle.hz_timing.specs.declared.script.Assumption.{Assumption}
 use Rattle.hz_script.specs.ScriptValue.{ScriptOf}
 use Rattle.hz_report.specs.Report.{change_line, shown_count, start_line, stopped_text}
 use Rattle.hz_edges.specs.Edges.{EdgesOf, range_at}
@@ -82,7 +82,7 @@ orders_line used idle =
 -- that, if the script assumes something
 abbrev pub orders_text : List Assumption → ChangeOf → List ℕ
 orders_text [] found = []
-orders_text (assumption ∷ assumptions) found = orders_line (length found.used) found.idle
+orders_text (one ∷ assumptions) found = orders_line (length found.used) found.idle
 
 -- whether a run is shown, if orders are used
 abbrev pub kept_text : List Order → Bool → List ℕ

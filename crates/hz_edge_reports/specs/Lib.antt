@@ -18,6 +18,7 @@ pub mod EdgeText
 pub mod EdgeReports
 pub mod ChangesExist
 pub mod Room
+pub mod Passed
 pub mod Using
 pub mod Going
 pub mod StartFaults

@@ -33,7 +33,7 @@ pub record AreEdgesUnder (orders : List Order) (net : List Driver) (input start 
   pub bound : (i : ℕ) → i < length net →
       IfSome (range_at edges i).most (ChangesAtMostUnder orders net input start i)
   pub long : length ends ≡ length net
-  pub ends : (state : List Bool) → IsKeptOutcome orders net input start state → Refines state ends
+  pub outcomes : (state : List Bool) → IsKeptOutcome orders net input start state → Refines state ends
   pub shown : IsTrue kept → IsKeptRun orders net input start edges.steps
   pub not_shown : kept ≡ false → edges.steps ≡ []
   pub counted : AreCounts net edges.steps edges.counts

@@ -1,11 +1,10 @@
 -- The memory in which changes are made, and what it holds. Words about the inside of hz_edge_reports.
-use Rattle.std.specs.Prelude.{◌≡◌, ℕ, ◌<◌, ◌≤◌, ◌⊎◌, Option, None, Some, All}
+use Rattle.std.specs.Prelude.{◌≡◌, ℕ, ◌⊎◌, None, Some, All}
 use Rattle.hz_core.specs.Netlist.{Netlist, IsCircuit, IsWhole}
 use Rattle.hz_net.specs.Network.{AreByVariable, IsState, IsInput}
-use Rattle.hz_net.specs.Starts.{IsStableStart}
 use Rattle.hz_free.specs.FreePart.{IsFreePart}
 use Rattle.hz_options.specs.Numbers.{IsCap}
-use Rattle.hz_timing.specs.TimedValue.{IsAssumptionOf}
+use Rattle.hz_timing.specs.TimedText.{IsAssumptionOf}
 use Rattle.hz_edges.specs.Room.{IsEdgeRoom, edges_of}
 use Rattle.hz_edge_reports.specs.declared.room.ChangeRoom.{ChangeRoom}
 use Rattle.hz_edge_reports.specs.declared.finding.Making.{Making}

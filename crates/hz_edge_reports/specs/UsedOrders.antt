@@ -5,8 +5,8 @@ use Rattle.hz_gmw.specs.Runs.{IsRun}
 use Rattle.hz_orders.specs.declared.order.Order.{Order}
 use Rattle.hz_orders.specs.Orders.{IsOrderOf, IsUsed, KeepsOrder}
 use Rattle.hz_orders.specs.Ideal.{IsIdeal}
-use Rattle.hz_timing.specs.declared.assumption.Assumption.{Assumption}
-use Rattle.hz_timing.specs.declared.assumption.Assumption.TheVariants as assumed
+use Rattle.hz_timing.specs.declared.script.Assumption.{Assumption}
+use Rattle.hz_timing.specs.declared.script.Assumption.TheVariants as assumed
 
 -- An order follows from a wire without delay: the wire is its first one, and every run along which the wire is ideal keeps the order.
 pub record FollowsFrom (net : List Driver) (input start : List Bool) (wire : ℕ) (order : Order)

@@ -1,19 +1,27 @@
 //! What is found of a change.
-ghost use Rattle.std.specs.Prelude.{◌≡◌, OnOk};
+ghost use Rattle.std.specs.Prelude.{◌≡◌, Bool, List, [], OnOk, length};
+ghost use Rattle.hz_core.specs.Ternary.{Refines};
+ghost use Rattle.hz_net.specs.Network.{network_of};
 ghost use Rattle.hz_net.specs.Starts.{IsStableStart};
-ghost use Rattle.hz_edge_reports.specs.EdgeChanges.{IsRightChange};
+ghost use Rattle.hz_edges.specs.Room.{edges_of};
+ghost use Rattle.hz_edge_reports.specs.UsedOrders.{AreUsed};
+ghost use Rattle.hz_edge_reports.specs.OrderedEdges.{AreEdgesUnder};
+ghost use Rattle.hz_edge_reports.specs.EdgeChanges.{AreRightUnder, IsRightChange};
 ghost use Rattle.hz_edge_reports.specs.Room.{CanBeMade, IsChangeRoom, change_of};
+ghost use Rattle.hz_edge_reports.specs.Passed.{AreToldFree, AreToldIfUsed, HavePassed, PassesRest, RestsFor};
 
 use crate::room::ChangeRoom;
 use crate::using::{Known, find_used};
 use hz_bounds::tell;
-use hz_core::Memory;
+use hz_core::{Memory, Tri};
+use hz_cycle::b_is_exact;
 use hz_free::Free;
 use hz_kept::kept_run;
 use hz_net::Net;
 use hz_options::Options;
-use hz_orders::{OrderedChange, ends_under, tell_under};
-use hz_reach::Change;
+use hz_orders::{OrderedChange, ends_under, ordered_covers, tell_under};
+use hz_reach::{Change, a_is_exact};
+use hz_run_text::printed_runs_are_read;
 use hz_timing::Assumption;
 use std::alloc::Global;
 
@@ -40,6 +48,10 @@ impl ChangeRoom {
         ensures input { self.new.input ≡ self.old.input }
         ensures room { IsChangeRoom making.now.net.now self.new }
     {
+        // The laws say that both results are exact, and that the run is printed as a text that replays.
+        a_is_exact();
+        b_is_exact();
+        printed_runs_are_read();
         let change = Change {
             net: making.net,
             start: self.start.as_slice(),
@@ -47,19 +59,56 @@ impl ChangeRoom {
         };
         self.edges.make_passes(&change);
         self.use_orders(making)?;
+        self.find_edges(making)
+    }
+
+    // Finds the edges of a change under the orders that it uses.
+    fn find_edges(&mut self, making: &Making) -> Result<(), Memory>
+        requires making { CanBeMade making.now }
+        requires room { IsChangeRoom making.now.net.now self.old }
+        requires passed { HavePassed making.now.net.now self.old }
+        requires told { AreToldIfUsed making.now.net.now making.now.options.cap self.old }
+        ensures right { OnOk result (AreRightUnder self.old.used.items
+            (network_of making.now.net.now) making.now.options.cap (change_of self.new)) }
+        ensures rests { RestsFor self.old self.new }
+        ensures room { IsChangeRoom making.now.net.now self.new }
+    {
         if self.used.is_empty() {
             return self.find_free(making);
         }
         self.find_ordered(making)
     }
 
-    // Finds the orders that the change uses. What is told without orders is left in the room.
-    fn use_orders(&mut self, making: &Making) -> Result<(), Memory> {
-        self.used.clear();
-        self.idle = 0;
+    // Finds the orders that the change uses. If there is one, what is told without orders is left in the room.
+    fn use_orders(&mut self, making: &Making) -> Result<(), Memory>
+        requires making { CanBeMade making.now }
+        requires room { IsChangeRoom making.now.net.now self.old }
+        requires passed { HavePassed making.now.net.now self.old }
+        ensures used { OnOk result (AreUsed (network_of making.now.net.now) self.old.input.items
+            self.old.start.items making.now.assumptions.now self.new.used.items self.new.idle) }
+        ensures told { OnOk result
+            (AreToldIfUsed making.now.net.now making.now.options.cap self.new) }
+        ensures passes { PassesRest self.old self.new }
+        ensures room { IsChangeRoom making.now.net.now self.new }
+    {
         if making.assumptions.is_empty() {
+            self.used.clear();
+            self.idle = 0;
             return Ok(());
         }
+        self.tell_free(making)?;
+        self.use_assumptions(making)
+    }
+
+    // Tells words without orders.
+    fn tell_free(&mut self, making: &Making) -> Result<(), Memory>
+        requires making { CanBeMade making.now }
+        requires room { IsChangeRoom making.now.net.now self.old }
+        requires passed { HavePassed making.now.net.now self.old }
+        ensures told { OnOk result (AreToldFree making.now.net.now making.now.options.cap self.new) }
+        ensures passes { PassesRest self.old self.new }
+        ensures room { IsChangeRoom making.now.net.now self.new }
+    {
         tell(
             making.alloc,
             making.net,
@@ -69,7 +118,22 @@ impl ChangeRoom {
             self.edges.a.as_slice(),
             making.options.cap,
             self.edges.told.as_mut_slice(),
-        )?;
+        )
+    }
+
+    // Finds the orders that the change uses, by what is told without orders.
+    fn use_assumptions(&mut self, making: &Making) -> Result<(), Memory>
+        requires making { CanBeMade making.now }
+        requires room { IsChangeRoom making.now.net.now self.old }
+        requires passed { HavePassed making.now.net.now self.old }
+        requires told { AreToldFree making.now.net.now making.now.options.cap self.old }
+        ensures used { OnOk result (AreUsed (network_of making.now.net.now) self.old.input.items
+            self.old.start.items making.now.assumptions.now self.new.used.items self.new.idle) }
+        ensures edges { self.new.edges ≡ self.old.edges }
+        ensures start { self.new.start ≡ self.old.start }
+        ensures input { self.new.input ≡ self.old.input }
+        ensures ends { self.new.ends ≡ self.old.ends }
+    {
         let known = Known {
             net: making.net,
             start: self.start.as_slice(),
@@ -83,7 +147,15 @@ impl ChangeRoom {
     }
 
     // Finds the edges of a change that uses no order. Each variable comes to what Algorithm B says.
-    fn find_free(&mut self, making: &Making) -> Result<(), Memory> {
+    fn find_free(&mut self, making: &Making) -> Result<(), Memory>
+        requires making { CanBeMade making.now }
+        requires room { IsChangeRoom making.now.net.now self.old }
+        requires passed { HavePassed making.now.net.now self.old }
+        ensures right { OnOk result (AreRightUnder [] (network_of making.now.net.now)
+            making.now.options.cap (change_of self.new)) }
+        ensures rests { RestsFor self.old self.new }
+        ensures room { IsChangeRoom making.now.net.now self.new }
+    {
         let change = Change {
             net: making.net,
             start: self.start.as_slice(),
@@ -96,8 +168,20 @@ impl ChangeRoom {
         Ok(())
     }
 
-    // Finds the edges of a change under the orders that it uses.
-    fn find_ordered(&mut self, making: &Making) -> Result<(), Memory> {
+    // Finds the edges of a change under its orders, by what is told without orders.
+    fn find_ordered(&mut self, making: &Making) -> Result<(), Memory>
+        requires making { CanBeMade making.now }
+        requires room { IsChangeRoom making.now.net.now self.old }
+        requires passed { HavePassed making.now.net.now self.old }
+        requires told { AreToldFree making.now.net.now making.now.options.cap self.old }
+        ensures right { OnOk result (AreEdgesUnder self.old.used.items
+            (network_of making.now.net.now) self.new.input.items self.new.start.items
+            self.new.ends.items self.new.kept (edges_of self.new.edges)) }
+        ensures rests { RestsFor self.old self.new }
+        ensures room { IsChangeRoom making.now.net.now self.new }
+    {
+        // The law says what words that are inductive under orders bound.
+        ordered_covers();
         let change = OrderedChange {
             net: making.net,
             start: self.start.as_slice(),
@@ -108,7 +192,7 @@ impl ChangeRoom {
         };
         tell_under(making.alloc, &change, self.edges.told.as_mut_slice())?;
         let ends = ends_under(making.alloc, &change, self.edges.told.as_slice())?;
-        self.ends.copy_from_slice(ends.as_slice());
+        write_ends(ends.as_slice(), self.ends.as_mut_slice());
         self.kept = kept_run(
             making.alloc,
             &change,
@@ -117,4 +201,15 @@ impl ChangeRoom {
         )?;
         Ok(())
     }
+}
+
+// Writes what variables come to. Only if there is a value for each variable, some state refines the values.
+fn write_ends(found: &[Tri], ends: &mut [Tri])
+    ensures { (state : List Bool) → length state ≡ length ends.old → Refines state found.now →
+        Refines state ends.new }
+{
+    if found.len() != ends.len() {
+        return;
+    }
+    ends.copy_from_slice(found);
 }

@@ -2,7 +2,7 @@
 ghost use Rattle.std.specs.Prelude.{ℕ, Bool, List, MatchResult};
 ghost use Rattle.hz_core.specs.Netlist.{IsCircuit};
 ghost use Rattle.hz_options.specs.Numbers.{IsCap};
-ghost use Rattle.hz_timing.specs.TimedValue.{IsTimedScriptFor};
+ghost use Rattle.hz_timing.specs.TimedText.{IsTimedScriptFor};
 ghost use Rattle.hz_timing.specs.Timed.{AreAcceptedStarts};
 ghost use Rattle.hz_edge_reports.specs.StartFaults.{IsFirstStartFault};
 

@@ -23,10 +23,9 @@ use hz_orders::Order;
 use hz_outside::Sink;
 use hz_report::{shown_count, write_assigned};
 use hz_run_text::{write_end, write_run, write_states};
-use hz_text::write_variable_after;
-use hz_text::write_variable;
+use hz_text::{write_variable, write_variable_after};
 use hz_timing::Assumption;
-use hz_write::Piece::{Long, Number, Text};
+use hz_write::Piece::{Count, Long, Number, Text};
 use hz_write::Writer;
 
 /// The values of a variable at the start of a change, and what it comes to.
@@ -207,7 +206,7 @@ fn write_kept<K: Sink>(writer: &mut Writer<'_, K>, room: &ChangeRoom)
         writer.new }
     ensures none_waits { NoneWaits writer.new }
 {
-    if room.used.is_empty() {
+    if room.used.as_slice().is_empty() {
         return;
     }
     write_kept_line(writer, room.kept);
@@ -236,20 +235,20 @@ fn write_orders<K: Sink>(writer: &mut Writer<'_, K>, assumptions: &[Assumption],
     if assumptions.is_empty() {
         return;
     }
-    write_orders_line(writer, room.used.len(), room.idle);
+    write_orders_line(writer, room.used.as_slice().len(), room.idle);
 }
 
 // Gives how many orders are used and how many are idle.
 #[tactic(auto, using(hz_write::proofs::Writers::writes_then), unfolding(crate::specs::EdgeText::orders_line))]
-fn write_orders_line<K: Sink>(writer: &mut Writer<'_, K>, used: usize, idle: u32)
+fn write_orders_line<K: Sink>(writer: &mut Writer<'_, K>, used: usize, idle: usize)
     ensures gave { Writes K.output K.faults (orders_line used idle) writer.old writer.new }
     ensures none_waits { NoneWaits writer.new }
 {
     writer.line(&[
         Text(b"orders used "),
-        Long(used as u64),
+        Count(used),
         Text(b" idle "),
-        Number(idle),
+        Count(idle),
     ]);
 }
 
@@ -264,7 +263,7 @@ fn write_shown_run<K: Sink>(writer: &mut Writer<'_, K>, net: &Net, room: &Change
         writer.old writer.new }
     ensures none_waits { NoneWaits writer.new }
 {
-    if room.used.is_empty() || room.kept {
+    if room.used.as_slice().is_empty() || room.kept {
         write_run_text(writer, net, room);
     }
 }

@@ -1,19 +1,20 @@
 //! The report of a script's parts and changes.
-ghost use Rattle.std.specs.Prelude.{◌≡◌, ◌<◌, ◌≤◌, ◌+◌, ℕ, Bool, List, None, All, IfSome, length};
+ghost use Rattle.std.specs.Prelude.{◌≡◌, ◌<◌, ◌+◌, ◌++◌, ℕ, Bool, false, List, None, All, IfSome, length};
 ghost use Rattle.hz_core.specs.Netlist.{IsCircuit};
 ghost use Rattle.hz_net.specs.Network.{IsVariable};
-ghost use Rattle.hz_net.specs.Starts.{IsStableStart};
+ghost use Rattle.hz_net.specs.Starts.{IsAcceptedStart, IsStableStart};
 ghost use Rattle.hz_script.specs.ScriptText.{IsScriptFor};
 ghost use Rattle.hz_write.specs.Writer.{Writes, NoneWaits, has_failed};
 ghost use Rattle.hz_write.specs.Writes.{Wrote};
 ghost use Rattle.hz_options.specs.Numbers.{IsCap};
 ghost use Rattle.hz_refusal.specs.Ends.{Ends};
-ghost use Rattle.hz_timing.specs.TimedValue.{IsTimedScriptFor};
+ghost use Rattle.hz_timing.specs.TimedText.{IsTimedScriptFor};
 ghost use Rattle.hz_timing.specs.Timed.{AreAcceptedStarts};
-ghost use Rattle.hz_edge_reports.specs.EdgeChanges.{AreEdgeAnalyses, EdgeAnalysis};
+ghost use Rattle.hz_report.specs.Report.{start_line};
+ghost use Rattle.hz_edge_reports.specs.EdgeChanges.{AreEdgeAnalyses, ChangeOf, EdgeAnalysis, IsChangeFrom, IsRightChange};
 ghost use Rattle.hz_edge_reports.specs.EdgeReports.{ArePartAnalyses, IsEdgeReport, ReportsEdges};
-ghost use Rattle.hz_edge_reports.specs.EdgeText.{analyses_text, analysis_text, parts_text};
-ghost use Rattle.hz_edge_reports.specs.Room.{CanBeMade, IsChangeRoom};
+ghost use Rattle.hz_edge_reports.specs.EdgeText.{analyses_text, analysis_text, found_text, parts_text};
+ghost use Rattle.hz_edge_reports.specs.Room.{CanBeMade, IsChangeRoom, Leads};
 ghost use Rattle.hz_edge_reports.specs.Going.{GoesOn};
 
 use crate::existence::changes_exist;
@@ -116,7 +117,6 @@ fn write_parts<K: Sink>(
     ensures none_waits { NoneWaits writer.new }
 {
     // The law says that the changes which are left out come to something.
-    making.net.keeps_shape();
     changes_exist();
     let mut number = 1;
     for place in 0..script.parts() {
@@ -137,8 +137,26 @@ fn write_part<K: Sink>(
     number: u32,
     room: &mut ChangeRoom,
 )
+    requires making { CanBeMade making.now }
+    requires part { IsScriptFor making.now.net.now part.now }
+    requires start { (start : List Bool) × IsAcceptedStart making.now.net.now part.now.start start }
+    requires room { IsChangeRoom making.now.net.now room.old }
+    requires number { number + length part.now.changes < 4294967296 }
+    requires none_waits { NoneWaits writer.old }
+    ensures gave { (start : List Bool) × (analyses : List EdgeAnalysis)
+        × IsAcceptedStart making.now.net.now part.now.start start
+        × AreEdgeAnalyses making.now.net.now making.now.options.cap making.now.assumptions.now
+        start part.now.changes analyses
+        × Writes K.output K.faults
+        (start_line making.now.net.now start
+        ++ analyses_text making.now.net.now making.now.options.show making.now.assumptions.now
+        number part.now.changes analyses)
+        writer.old writer.new }
+    ensures none_waits { NoneWaits writer.new }
+    ensures room { IsChangeRoom making.now.net.now room.new }
 {
-    // All starts were completed before, so memory is all that can be missing.
+    // All starts were completed before, so memory is all that can be missing. The law says that the changes come to something then, too.
+    changes_exist();
     match complete(making.alloc, making.net, part.start()) {
         Ok(start) => {
             room.begin(making.net, start.as_slice());
@@ -227,6 +245,20 @@ fn write_made<K: Sink>(
     change: &[(u32, bool)],
     room: &mut ChangeRoom,
 )
+    requires making { CanBeMade making.now }
+    requires change { All (λ pair. pair.0 < making.now.net.now.inputs) change.now }
+    requires room { IsChangeRoom making.now.net.now room.old }
+    requires stable { IsStableStart making.now.net.now room.old.start.items }
+    ensures gave { (found : ChangeOf)
+        × IsChangeFrom making.now.net.now room.old.start.items change.now found
+        × IsRightChange making.now.net.now making.now.options.cap making.now.assumptions.now found
+        × (has_failed writer.new ≡ false → Leads making.now.net.now found room.new)
+        × Writes K.output K.faults
+        (found_text making.now.net.now making.now.options.show making.now.assumptions.now number
+        change.now found)
+        writer.old writer.new }
+    ensures none_waits { NoneWaits writer.new }
+    ensures room { IsChangeRoom making.now.net.now room.new }
 {
     changes_exist();
     room.take_input(making.net, change);

@@ -21,7 +21,7 @@ pub(crate) struct ChangeRoom {
     /// The orders that the change uses.
     pub used: Vec<Order>,
     /// How many orders are idle.
-    pub idle: u32,
+    pub idle: usize,
     /// What each variable comes to.
     pub ends: Vec<Tri>,
     /// Whether a run that keeps the orders is shown.

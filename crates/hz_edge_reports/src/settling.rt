@@ -4,7 +4,7 @@ ghost use Rattle.hz_core.specs.Limits.{most_variables};
 ghost use Rattle.hz_net.specs.Network.{IsInput, IsState};
 ghost use Rattle.hz_lists.specs.Least.{IsLeastOf};
 ghost use Rattle.hz_seq.specs.Sequence.{IsFirstUnknown, IsSettledAt, changed_input};
-ghost use Rattle.hz_edge_reports.specs.EdgeChanges.{IsUnstableVariable};
+ghost use Rattle.hz_edge_reports.specs.EdgeChanges.{IsNextStart, IsStopper, IsUnstableVariable};
 ghost use Rattle.hz_edge_reports.specs.Room.{IsChangeRoom, Leads, change_of};
 
 use crate::room::ChangeRoom;
@@ -22,6 +22,7 @@ impl ChangeRoom {
         ensures stopped { self.new.stopped ≡ self.old.stopped }
         ensures room { IsChangeRoom net.now self.new }
     {
+        net.keeps_shape();
         let inputs = self.input.len();
         self.input.copy_from_slice(&self.start.as_slice()[..inputs]);
         assign(self.input.as_mut_slice(), change);
@@ -33,11 +34,26 @@ impl ChangeRoom {
         ensures leads { Leads net.now (change_of self.old) self.new }
         ensures room { IsChangeRoom net.now self.new }
     {
-        self.stopped = match settle(self.ends.as_slice(), self.start.as_mut_slice()) {
-            Some(var) => Some(var),
-            None => first_unstable(net, self.input.as_slice(), self.start.as_slice()),
-        };
+        let input = self.input.as_slice();
+        let ends = self.ends.as_slice();
+        self.stopped = next_start(net, input, ends, self.start.as_mut_slice());
     }
+}
+
+// Writes where the next change starts, if each variable comes to this value under the input. If a variable stops it, this returns the
+// variable, and the start has no meaning.
+fn next_start(net: &Net, input: &[bool], ends: &[Tri], start: &mut [bool]) -> Option<u32>
+    requires input { IsInput net.now input.now }
+    requires ends { IsState net.now ends.now }
+    requires start { IsState net.now start.old }
+    ensures { MatchOption result (IsNextStart net.now ends.now start.new)
+        (IsStopper net.now input.now ends.now) }
+{
+    net.keeps_shape();
+    if let Some(var) = settle(ends, start) {
+        return Some(var);
+    }
+    first_unstable(net, input, start)
 }
 
 // Writes the bits of a change over those of the inputs.

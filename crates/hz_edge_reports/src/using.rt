@@ -1,17 +1,21 @@
 //! The orders that a change uses, by the assumptions of its script.
-ghost use Rattle.std.specs.Prelude.{◌≡◌, ◌++◌, List, All, IfOk, OnOk};
-ghost use Rattle.hz_net.specs.Network.{network_of};
-ghost use Rattle.hz_orders.specs.declared.order.Order.{Order};
-ghost use Rattle.hz_timing.specs.TimedValue.{IsAssumptionOf};
-ghost use Rattle.hz_edge_reports.specs.UsedOrders.{AreUsed, FollowsFrom};
-ghost use Rattle.hz_edge_reports.specs.Using.{IsKnown};
+ghost use Rattle.std.specs.Prelude.{◌≤◌, All, IfOk, length};
+ghost use Rattle.hz_net.specs.Network.{network_of, IsVariable};
+ghost use Rattle.hz_orders.specs.Orders.{IsOrderOf};
+ghost use Rattle.hz_timing.specs.declared.script.Assumption.TheVariants.{Ideal, Order as Assumed};
+ghost use Rattle.hz_timing.specs.TimedText.{IsAssumptionOf};
+ghost use Rattle.hz_edge_reports.specs.UsedOrders.{AreUsed};
+ghost use Rattle.hz_edge_reports.specs.Using.{AddsUsed, IsKnown};
 
 use hz_core::{Memory, Tri};
 use hz_net::Net;
-use hz_orders::{Order, OrderedChange, add_following, is_used};
+use hz_orders::{Order, OrderedChange, add_following, ideal_wires_keep, is_used, used_by_b};
 use hz_timing::Assumption;
 use hz_word::Word;
 use std::alloc::Global;
+
+// From so many orders on no more are found to follow: the time of tables and of a kept run grows with them.
+const MOST_USED: usize = 2000;
 
 /// A change with what is known of it without orders: the result of Algorithm B, and inductive words.
 #[derive(Clone, Copy)]
@@ -30,7 +34,7 @@ pub(crate) fn find_used(
     known: &Known,
     assumptions: &[Assumption],
     used: &mut Vec<Order>,
-) -> Result<u32, Memory>
+) -> Result<usize, Memory>
     requires known { IsKnown known.now }
     requires assumptions { All (IsAssumptionOf known.now.net.now) assumptions.now }
     ensures { IfOk result (λ idle. AreUsed (network_of known.now.net.now) known.now.input.now
@@ -39,28 +43,58 @@ pub(crate) fn find_used(
     used.clear();
     let mut idle = 0;
     for assumption in assumptions {
-        match *assumption {
-            Assumption::Order(order) if is_used(order, known.start, known.b) => used.push(order)?,
-            Assumption::Order(_) => idle += 1,
-            Assumption::Ideal(wire) => add_orders(alloc, known, wire, used)?,
-        }
+        idle += add_used(alloc, known, *assumption, used)?;
     }
     Ok(idle)
 }
 
-// Adds the orders that follow from a wire without delay.
+// Adds the orders that a change uses by one assumption. Returns how many are idle: one or none.
+fn add_used(
+    alloc: Global,
+    known: &Known,
+    given: Assumption,
+    used: &mut Vec<Order>,
+) -> Result<usize, Memory>
+    requires known { IsKnown known.now }
+    requires given { IsAssumptionOf known.now.net.now given }
+    ensures { IfOk result (AddsUsed known.now given used.old.items used.new.items) }
+{
+    match given {
+        Assumption::Order(order) => add_order(known, order, used),
+        Assumption::Ideal(wire) => add_orders(alloc, known, wire, used),
+    }
+}
+
+// Adds an order if the change uses it. Else it is idle.
+fn add_order(known: &Known, order: Order, used: &mut Vec<Order>) -> Result<usize, Memory>
+    requires known { IsKnown known.now }
+    requires order { IsOrderOf (network_of known.now.net.now) order }
+    ensures { IfOk result (AddsUsed known.now (Assumed order) used.old.items used.new.items) }
+{
+    used_by_b();
+    if !is_used(order, known.start, known.b) {
+        return Ok(1);
+    }
+    used.push(order)?;
+    Ok(0)
+}
+
+// Adds the orders that follow from a wire without delay, unless many are used already. None is idle.
 fn add_orders(
     alloc: Global,
     known: &Known,
     wire: u32,
     used: &mut Vec<Order>,
-) -> Result<(), Memory>
+) -> Result<usize, Memory>
     requires known { IsKnown known.now }
-    requires wire { IsAssumptionOf known.now.net.now (Assumption.Ideal wire) }
-    ensures { OnOk result ((own : List Order) × (used.new.items ≡ used.old.items ++ own)
-        × All (FollowsFrom (network_of known.now.net.now) known.now.input.now known.now.start.now
-        wire) own) }
+    requires above { length known.now.net.now.names ≤ wire }
+    requires below { IsVariable known.now.net.now wire }
+    ensures { IfOk result (AddsUsed known.now (Ideal wire) used.old.items used.new.items) }
 {
+    ideal_wires_keep();
+    if used.len() >= MOST_USED {
+        return Ok(0);
+    }
     let change = OrderedChange {
         net: known.net,
         start: known.start,
@@ -69,5 +103,6 @@ fn add_orders(
         held: &[],
         cap: known.cap,
     };
-    add_following(alloc, &change, known.told, wire, used)
+    add_following(alloc, &change, known.told, wire, used)?;
+    Ok(0)
 }

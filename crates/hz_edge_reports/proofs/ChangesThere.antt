@@ -1,0 +1,130 @@
+-- Every change comes to something.
+use Rattle.std.proofs.Common.{◌≡◌, ◌∙◌, refl, subst, ℕ, suc, ◌<◌, ◌≤◌, Bool, true, false, not, List, [], ◌∷◌, length, replicate, ◌↔◌, ◌⊎◌, inl, inr}
+use Rattle.std.proofs.lemmas.List.{length-replicate}
+use Rattle.hz_core.specs.declared.tri.Tri.{Tri}
+use Rattle.hz_core.specs.declared.tri.Tri.TheVariants.{Zero, One, Unknown}
+use Rattle.hz_core.specs.Ternary.{tri_of, Refines}
+use Rattle.hz_core.specs.Netlist.{Netlist, IsCircuit, IsWhole}
+use Rattle.hz_net.specs.Network.{Driver, network_of, bit_at, value_at}
+use Rattle.hz_net.specs.Passes.{algorithm_a, algorithm_b, IsResult}
+use Rattle.hz_net.specs.PassEnds.{ResultOfAExists, ResultOfBExists}
+use Rattle.hz_net.specs.Starts.{IsStableStart}
+use Rattle.hz_gmw.specs.Runs.{IsRun}
+use Rattle.hz_word.specs.declared.word.Word.{Word}
+use Rattle.hz_word.specs.Capped.{greatest_cap}
+use Rattle.hz_word.specs.Covers.{Covers}
+use Rattle.hz_free.specs.VariableWords.{variable_history}
+use Rattle.hz_free.specs.Inductive.{IsInductive, told_at}
+use Rattle.hz_bounds.specs.Existence.{WordsAreTold}
+use Rattle.hz_orders.specs.declared.order.Order.{Order}
+use Rattle.hz_orders.specs.Orders.{IsUsed, Keeps}
+use Rattle.hz_orders.specs.Inductive.{IsInductiveUnder}
+use Rattle.hz_timing.specs.declared.script.Assumption.{Assumption}
+use Rattle.hz_timing.specs.declared.script.Assumption.TheVariants as assumed
+use Rattle.hz_edges.specs.Edges.{EdgesOf}
+use Rattle.hz_edges.specs.EdgesExist.{EdgesExist}
+use Rattle.hz_edge_reports.specs.UsedOrders.{AreUsed, FollowsFrom}
+use Rattle.hz_edge_reports.specs.EdgeChanges.{ChangeOf, IsRightChange}
+use Rattle.hz_edge_reports.specs.OrderedEdges.{AreEdgesUnder}
+use Rattle.hz_edge_reports.specs.ChangesExist.{ChangesExist}
+use Rattle.hz_edge_reports.proofs.OrderedRight.{edges-under, long-outcome}
+use Rattle.hz_edge_reports.proofs.ChangesReplay.{ChangeLaws, right-change}
+use Rattle.std.proofs.lemmas.List.Elements.{All-nil}
+
+-- what the laws of hz_orders say
+abbrev pub UsedByB : Type 0
+UsedByB =
+    (netlist : Netlist) (input start : List Bool) (a b : List Tri) (order : Order) → IsCircuit netlist → IsStableStart netlist start → IsResult (algorithm_a (network_of netlist) input start) a →
+    IsResult (algorithm_b (network_of netlist) input a) b → (value_at b order.first ≡ tri_of (not (bit_at start order.first))) ↔ IsUsed (network_of netlist) input start order
+
+abbrev pub InductiveUnderAny : Type 0
+InductiveUnderAny =
+    (orders : List Order) (netlist : Netlist) (input start : List Bool) (cap : ℕ) (told : List Word) → IsCircuit netlist → IsWhole netlist → IsInductive (network_of netlist) input start cap told →
+    IsInductiveUnder orders (network_of netlist) input start cap told
+
+abbrev pub OrderedCovers : Type 0
+OrderedCovers =
+    (orders : List Order) (netlist : Netlist) (input start : List Bool) (cap : ℕ) (told : List Word) (i : ℕ) (steps : List (List ℕ)) → IsCircuit netlist → IsWhole netlist → IsStableStart netlist start →
+    IsInductiveUnder orders (network_of netlist) input start cap told → i < length (network_of netlist) → IsRun (network_of netlist) input start steps → Keeps orders start steps → Covers (told_at told i) (variable_history start steps i)
+
+-- two values are the same, or not
+same-or-not : (one other : Tri) → (one ≡ other) ⊎ (one ≡ other → ⊥)
+same-or-not Zero Zero = inl refl
+same-or-not Zero One = inr (λ e. cc)
+same-or-not Zero Unknown = inr (λ e. cc)
+same-or-not One Zero = inr (λ e. cc)
+same-or-not One One = inl refl
+same-or-not One Unknown = inr (λ e. cc)
+same-or-not Unknown Zero = inr (λ e. cc)
+same-or-not Unknown One = inr (λ e. cc)
+same-or-not Unknown Unknown = inl refl
+
+-- all bits refine X
+all-unknown : (state : List Bool) → Refines state (replicate (length state) Unknown)
+all-unknown [] = tt
+all-unknown (false ∷ state) = (refl, all-unknown state)
+all-unknown (true ∷ state) = (refl, all-unknown state)
+
+-- which orders are used can be told
+used-exist : (net : List Driver) (input start : List Bool) → ((order : Order) → IsUsed net input start order ⊎ (IsUsed net input start order → ⊥)) → (assumptions : List Assumption) →
+    (used : List Order) × (idle : ℕ) × AreUsed net input start assumptions used idle
+used-exist net input start tells [] = ([], 0, (refl, refl))
+used-exist net input start tells (assumed.Order order ∷ later) =
+    let rest = used-exist net input start tells later in
+    elim (tells order) [
+      | inl is ↦ (order ∷ rest.0, rest.1, inl (is, (rest.0, refl, rest.2)))
+      | inr not_so ↦ (rest.0, suc rest.1, inr (not_so, (rest.1, refl, rest.2)))
+    ]
+used-exist net input start tells (assumed.Ideal wire ∷ later) =
+    let rest = used-exist net input start tells later in
+    (rest.0, rest.1, ([], rest.0, refl, All-nil (FollowsFrom net input start wire), rest.2))
+
+module _ (netlist : Netlist) (input start : List Bool) (cap : ℕ) (circuit : IsCircuit netlist) (whole : IsWhole netlist) (begins : IsStableStart netlist start) where
+  abbrev net : List Driver
+  net = network_of netlist
+
+  tells-used : UsedByB → (a b : List Tri) → IsResult (algorithm_a net input start) a → IsResult (algorithm_b net input a) b → (order : Order) → IsUsed net input start order ⊎ (IsUsed net input start order → ⊥)
+  tells-used by_b a b of_a of_b order =
+      let law = by_b netlist input start a b order circuit begins of_a of_b in
+      elim (same-or-not (value_at b order.first) (tri_of (not (bit_at start order.first)))) [
+        | inl same ↦ inl (law.0 same)
+        | inr differs ↦ inr (λ is. differs (law.1 is))
+      ]
+
+  -- words that are inductive without orders are right edges under any, beside no run
+  edges-of-words : InductiveUnderAny → OrderedCovers → (told : List Word) → IsInductive net input start cap told → (orders : List Order) →
+      AreEdgesUnder orders net input start (replicate (length start) Unknown) false (record { told = told; steps = []; counts = [] })
+  edges-of-words under covers told inductive orders =
+      let all : IsInductiveUnder orders net input start cap told = under orders netlist input start cap told circuit whole inductive in
+      edges-under orders net input start (replicate (length start) Unknown) false (record { told = told; steps = []; counts = [] })
+      (λ i few steps run keeps. covers orders netlist input start cap told i steps circuit whole begins all few run keeps)
+      (length-replicate (length start) Unknown ∙ begins.long)
+      (λ state outcome. subst (λ (n : ℕ). Refines state (replicate n Unknown)) (long-outcome orders net input start state outcome) (all-unknown state))
+      (λ shown. absurd cc)
+      (λ e. refl)
+      (λ i few. refl)
+
+  change-exists : ChangeLaws → EdgesExist → WordsAreTold → InductiveUnderAny → OrderedCovers → (assumptions : List Assumption) → length input ≡ netlist.inputs → 1 ≤ cap → cap ≤ greatest_cap →
+      (a b : List Tri) → IsResult (algorithm_a net input start) a → IsResult (algorithm_b net input a) b → (used : List Order) (idle : ℕ) → AreUsed net input start assumptions used idle →
+      (found : ChangeOf) × (found.start ≡ start) × (found.input ≡ input) × IsRightChange netlist cap assumptions found
+  change-exists laws exist words under covers assumptions given low high a b of_a of_b [] idle are =
+      let edges = exist netlist input start cap a b circuit whole begins low high of_a of_b in
+      let found : ChangeOf = record { input = input; start = start; a = a; b = b; used = []; idle = idle; ends = b; kept = false; edges = edges.0 } in
+      (found, refl, refl, right-change laws netlist cap assumptions found circuit begins given of_a of_b are (refl, edges.1))
+  change-exists laws exist words under covers assumptions given low high a b of_a of_b (order ∷ orders) idle are =
+      let told = words netlist input start a cap circuit whole begins of_a in
+      let edges : EdgesOf = record { told = told.0; steps = []; counts = [] } in
+      let found : ChangeOf = record { input = input; start = start; a = a; b = b; used = order ∷ orders; idle = idle; ends = replicate (length start) Unknown; kept = false; edges = edges } in
+      (found, refl, refl, right-change laws netlist cap assumptions found circuit begins given of_a of_b are (edges-of-words under covers told.0 told.1 (order ∷ orders)))
+
+  pub change-there : ChangeLaws → ResultOfAExists → ResultOfBExists → EdgesExist → WordsAreTold → UsedByB → InductiveUnderAny → OrderedCovers → (assumptions : List Assumption) → length input ≡ netlist.inputs → 1 ≤ cap → cap ≤ greatest_cap →
+      (found : ChangeOf) × (found.start ≡ start) × (found.input ≡ input) × IsRightChange netlist cap assumptions found
+  change-there laws a_exists b_exists exist words by_b under covers assumptions given low high =
+      let a = a_exists net input start begins.long in
+      let b = b_exists net input start a.0 begins.long a.1 in
+      let used = used-exist net input start (tells-used by_b a.0 b.0 a.1 b.1) assumptions in
+      change-exists laws exist words under covers assumptions given low high a.0 b.0 a.1 b.1 used.0 used.1 used.2
+
+pub changes_exist : ChangeLaws → ResultOfAExists → ResultOfBExists → EdgesExist → WordsAreTold → UsedByB → InductiveUnderAny → OrderedCovers → ChangesExist
+changes_exist laws a_exists b_exists exist words by_b under covers netlist assumptions input start cap circuit whole are begins given low high =
+    change-there netlist input start cap circuit whole begins laws a_exists b_exists exist words by_b under covers assumptions given low high
