@@ -83,7 +83,7 @@ def _jobs(folder, run, write, example):
     for name, kept_lines, status in (("with", lines, 0), ("without", lines[::2], 1)):
         yield f"a state {name} an order that bars it", run(["expect", gate, write(folder, "never.txt", "".join(kept_lines))], folder)[0], status
     stuck = write(folder, "stuck.txt", "start r=0 s=1\norder q(2) q(1)\nchange r=1 s=0  #expect q steady\n")
-    yield "no run that keeps an order", run(["expect", bench, stuck], folder), (0, f"{stuck}:3: change 1 r=1 s=0: q steady: {summary_of.NOT_KEPT}\n1 expectation, 0 failed\n", "")
+    yield "no run that keeps an order", run(["expect", bench, stuck], folder), (0, f"{stuck}:3: change 1 r=1 s=0: q steady: {summary_of.NOT_KEPT} ({bench}:7)\n1 expectation, 0 failed\n", "")
     yield "no run to show", run(["why", bench, stuck, "s"], folder)[1].splitlines()[1:], [
         "  under order q(2) q(1)", f"  {summary_of.NOT_KEPT}", "  no run that keeps the orders was found in which s moves so, which is no proof that there is none"]
     yield "a finding without a run", run(["summary", "--fail", bench, stuck], folder)[:2], (1, f"{stuck}:3: change 1 r=1 s=0: {summary_of.NOT_KEPT}\n")
