@@ -60,7 +60,7 @@ def candidates(circuit, ranks, names, is_ideal=False):
             later = [wire for wire in wires if ranks.round[first] < ranks.round[wire]]
             if later and ranks.must_leave(first) != is_ideal:
                 for second in [min(later, key=ranks.round.get)] if is_ideal else later:
-                    likeness = (circuit.gates[gate - network.inputs].kind, len(network.wires(gate)), first - wires[0], second - wires[0], ranks.start[first], ranks.start[second], ranks.start[gate])
+                    likeness = (circuit.gates[gate - network.inputs].kind, len(network.wires(gate)), first - wires[0], second - wires[0], *map(ranks.start.__getitem__, (first, second, gate)))
                     yield Assumption(network.names[first], None if is_ideal else network.names[second], ranks, (first, second), likeness)
 
 

@@ -43,7 +43,8 @@ def _proposed(folder, run, write, example):
     cases = {"flipflop": example("flipflop") + [["order r(2) r(1)"]], "clockgate": example("clockgate") + [["order hold(2) hold(1)", "order gated(1) gated(2)"]],
              "latch of NANDs": [write(folder, "d.bench", LATCH), write(folder, "d.txt", "start d=1 clk=0 q=0 dn=0\nchange clk=1\n"), ["order n5(2) n5(1)"]],
              "latch with a preset": [write(folder, "p.bench", PRESET), write(folder, "p.txt", "start d=1 en=1 clr=0 pre=0 q=1\nchange pre=1\n"), ["order n16(2) n16(1)"]],
-             "pipeline": [write(folder, "m.bench", muller[0]), write(folder, "m.txt", muller[1]), ["order c1.ab(1) c1.ab(2)", "ideal c1.bc(2)", "ideal c2.ab(1)", "ideal c2.bc(2)", "ideal c3.ab(1)", "ideal c3.bc(2)"]]}
+             "pipeline": [write(folder, "m.bench", muller[0]), write(folder, "m.txt", muller[1]),
+                          ["order c1.ab(1) c1.ab(2)", "ideal c1.bc(2)", "ideal c2.ab(1)", "ideal c2.bc(2)", "ideal c3.ab(1)", "ideal c3.bc(2)"]]}
     for name, (bench, script, lines) in cases.items():
         status, text, _ = run(["orders", "--json", bench, script], folder)
         told = json.loads(text)
@@ -73,9 +74,10 @@ def _jobs(folder, run, write, example):
         "1 r=0 s=0: 2 hazards: q unsettled, qb unsettled", "  under order q(1) q(2)", "3 s=1: clean", "4 r=0 s=0: 2 hazards: q unsettled, qb unsettled", "  under order q(1) q(2)",
         "2: not analysed, q did not settle in change 1", "5: not analysed, q did not settle in change 4"]
     data = json.loads(run(["summary", "--json", bench, script], folder)[1])
-    yield "summary as data", ([change.get("under") for change in data["changes"]], data["not analysed"]["more"]), ([["q(1) q(2)"], None, ["q(1) q(2)"]], [{"first": 5, "last": 5, "node": "q"}])
+    yield "summary as data", ([change.get("under") for change in data["changes"]], data["not analysed"]["more"]), (
+        [["q(1) q(2)"], None, ["q(1) q(2)"]], [{"first": 5, "last": 5, "node": "q"}])
     status, text, _ = run(["expect", bench, script], folder)
-    yield "expect", (status, text.splitlines()[-2:]), (1, [f"{script}:4: change 2 is not analysed, q did not settle in change 1: 0 expectations not checked"][1:] + [
+    yield "expect", (status, text.splitlines()[-2:]), (1, [
         f"{script}:8: change 5 is not analysed, q did not settle in change 4: 1 expectation not checked", "2 expectations, 0 failed, 1 not checked"])
     page = json.loads(re.search(r"^const DATA = (.*);$", run(["page", bench, script], folder)[1], re.M)[1])
     yield "page", [change.get("under") for change in page["changes"]], [["under order q(1) q(2)"], None, None, ["under order q(1) q(2)"], None]
@@ -113,7 +115,8 @@ def _kept(folder, run, write, hazard, circuits, model):
     for name, one in circuits.random_circuits(model, 120, seed=61):
         bench = write(folder, "k.bench", one.netlist())
         gates = [gate for gate in circuit.load(bench).gates if len(gate.sources) > 1]
-        orders = {report.Order(*(f"{gate.name}({pin})" for pin in chance.sample(range(1, len(gate.sources) + 1), 2)), chance.choice((1, 1, 2))) for gate in chance.sample(gates, min(len(gates), 3))}
+        pins = lambda gate: (f"{gate.name}({pin})" for pin in chance.sample(range(1, len(gate.sources) + 1), 2))
+        orders = {report.Order(*pins(gate), chance.choice((1, 1, 2))) for gate in chance.sample(gates, min(len(gates), 3))}
         lines = "".join(f"order {order.spelt()}\n" for order in sorted(orders))
         script = write(folder, "k.txt", lines + one.script())
         change = next(hazard.edges(bench, script).changes)
