@@ -174,6 +174,8 @@ def _hint(line, words):
         return "; that is a line of a script, and the netlist comes before the script"
     if words[0] == "explore" and text and text[1] == "script" and _is_line(words[2], int(text[2]), r"\s*(order|ideal)\s"):
         return "; a table is of all runs: it takes no orders and no wires without delay"
+    if words[0] == "explore" and text and refusal.rstrip().endswith(": order") and _is_line(words[2], int(text[2]), r"\s*start\s"):
+        return "; a table begins at one start"
     if refusal.startswith("netlist ") and netlist.lower().endswith((".v", ".sv")):
         return "; Verilog goes by way of Yosys: `hazard-look from-verilog` makes a netlist of it"
     if re.match(r"netlist line \d+: form", refusal) and not netlist.lower().endswith((".blif", ".json")):

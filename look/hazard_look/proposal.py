@@ -12,6 +12,8 @@ from .summary import roots
 # The reports of a search: those that look for more, and all of them; and those that it makes of a large circuit too, if all reports together
 # have more rows than so many.
 MOST_ROUNDS, MOST_CALLS, FEW_CALLS, MOST_ROWS = 40, 160, 20, 20_000_000
+# In a circuit of more nodes no single order is looked for.
+MOST_MENDED = 20_000
 # A script states no more orders and no more wires without delay.
 MOST_ORDERS, MOST_IDEALS = 1000, 256
 
@@ -58,7 +60,7 @@ def candidates(circuit, ranks, names, is_ideal=False):
             later = [wire for wire in wires if ranks.round[first] < ranks.round[wire]]
             if later and ranks.must_leave(first) != is_ideal:
                 for second in [min(later, key=ranks.round.get)] if is_ideal else later:
-                    likeness = (circuit.gates[gate - network.inputs].kind, len(network.wires(gate)), first - wires[0], second - wires[0], ranks.start[first], ranks.start[second], ranks.start[gate])
+                    likeness = (circuit.gates[gate - network.inputs].kind, len(network.wires(gate)), first - wires[0], second - wires[0], *map(ranks.start.__getitem__, (first, second, gate)))
                     yield Assumption(network.names[first], None if is_ideal else network.names[second], ranks, (first, second), likeness)
 
 
@@ -72,6 +74,8 @@ def _hazards(circuit, change, at_roots):
 def mending(words, circuit, network, change, node):
     """An order that makes an unsettled node clean in a change, without any other one; None if none is found. `hazard edges` is asked about
     all that may help, then about halves of what does."""
+    if len(circuit.nodes) > MOST_MENDED:
+        return None
     ranks, cone = Ranks(network, change.rows), network.cone(network.number[node])
     names = [name for at_roots in (True, False) for name in _hazards(circuit, change, at_roots) if network.number[name] in cone]
     given = [statement for statement in script.read(words.script) if statement.keyword in script.ASSUMING]

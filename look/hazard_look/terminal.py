@@ -7,7 +7,7 @@ import time
 # After so many seconds a job says how far it is, and then so often.
 _QUIET, _EVERY = 2.0, 0.2
 _COLOURS = ((re.compile(r"\b((maybe-)?static-[01]|(maybe-)?dynamic [01]-[01]|pulses? across the edge|not checked|not analysed)"), "33"),
-            (re.compile(r"\b(unsettled|[1-9][0-9]* failed)\b"), "31"), (re.compile(r"(?<=: )(clean)(?=$|;)|\b(0 failed)$", re.M), "32"))
+            (re.compile(r"\b(unsettled|[1-9][0-9]* failed)\b"), "31"), (re.compile(r"(?<=: )(clean)(?=$|;)|(?<=left: )(none)$|\b(0 failed)$", re.M), "32"))
 
 
 def painted(out):

@@ -29,70 +29,73 @@ def pipeline(stages):
     return "\n".join(lines) + "\n", f"start req=1 ack=0{nodes}\nchange ack=1\nchange req=0\n"
 
 
-def rows(folder, run, write, hazard, example, circuits, model):
+def rows(folder, run, call, write, hazard, example, circuits, model):
     """Rows of name, found, wanted."""
-    yield from _proposed(folder, run, write, example)
-    yield from _jobs(folder, run, write, example)
+    yield from _proposed(folder, call, write, example)
+    yield from _jobs(folder, run, call, write, example)
     yield from _rounds(folder, write, hazard, circuits, model)
-    yield from _kept(folder, run, write, hazard, circuits, model)
+    yield from _kept(folder, call, write, hazard, circuits, model)
 
 
-def _proposed(folder, run, write, example):
+def _proposed(folder, call, write, example):
     """What is proposed, and what is left under it."""
     muller = pipeline(4)
     cases = {"flipflop": example("flipflop") + [["order r(2) r(1)"]], "clockgate": example("clockgate") + [["order hold(2) hold(1)", "order gated(1) gated(2)"]],
              "latch of NANDs": [write(folder, "d.bench", LATCH), write(folder, "d.txt", "start d=1 clk=0 q=0 dn=0\nchange clk=1\n"), ["order n5(2) n5(1)"]],
              "latch with a preset": [write(folder, "p.bench", PRESET), write(folder, "p.txt", "start d=1 en=1 clr=0 pre=0 q=1\nchange pre=1\n"), ["order n16(2) n16(1)"]],
-             "pipeline": [write(folder, "m.bench", muller[0]), write(folder, "m.txt", muller[1]), ["order c1.ab(1) c1.ab(2)", "ideal c1.bc(2)", "ideal c2.ab(1)", "ideal c2.bc(2)", "ideal c3.ab(1)", "ideal c3.bc(2)"]]}
+             "pipeline": [write(folder, "m.bench", muller[0]), write(folder, "m.txt", muller[1]),
+                          ["order c1.ab(1) c1.ab(2)", "ideal c1.bc(2)", "ideal c2.ab(1)", "ideal c2.bc(2)", "ideal c3.ab(1)", "ideal c3.bc(2)"]]}
     for name, (bench, script, lines) in cases.items():
-        status, text, _ = run(["orders", "--json", bench, script], folder)
+        status, text = call(["orders", "--json", bench, script])
         told = json.loads(text)
         yield f"orders for {name}", (status, [one["line"] for one in told["orders"]], told["after"]["hazards"], told["kept not shown"]), (0, lines, 0, [])
         yield f"calls for {name}", told["calls"] <= 30, True
         saved = os.path.join(folder, "saved.txt")
-        yield f"lines for {name}", [line for line in run(["orders", bench, script, "--write", saved], folder)[1].splitlines() if line.startswith(("order ", "ideal "))], lines
-        yield f"nothing to add for {name}", run(["orders", bench, saved], folder)[1], "no hazard, so no order is needed\n"
+        yield f"lines for {name}", [line for line in call(["orders", bench, script, "--write", saved])[1].splitlines() if line.startswith(("order ", "ideal "))], lines
+        yield f"nothing to add for {name}", call(["orders", bench, saved])[1], "no hazard, so no order is needed\n"
         for line in lines:
             with open(saved, encoding="utf-8") as file:
                 less = write(folder, "less.txt", "".join(row for row in file if not row.startswith(line)))
-            yield f"{line} is needed for {name}", run(["summary", "--fail", bench, less], folder)[0], 1
+            yield f"{line} is needed for {name}", call(["summary", "--fail", bench, less])[0], 1
     for name, said in STAY.items():
-        status, text, _ = run(["orders"] + example(name), folder)
+        status, text = call(["orders"] + example(name))
         yield f"orders for {name}", (status, text[:len(said)]), (0, said)
-        yield f"orders for {name} that are to fail", run(["orders", "--fail"] + example(name), folder)[0], int("left" in said)
+        yield f"orders for {name} that are to fail", call(["orders", "--fail"] + example(name))[0], int("left" in said)
     sentence = "wire r(2) no later than s(2), s, r(1): 1 wire against 1 gate and 2 wires"
-    yield "the sentence", run(["orders"] + example("flipflop"), folder), (0, f"{sentence}; in changes 3, 5\norder r(2) r(1)\nbefore: 3 hazards; left: none\n", "")
-    yield "an order that mends", run(["why"] + example("flipflop") + ["q"], folder)[1].splitlines()[-1], f"order r(2) r(1) alone makes q clean: {sentence}"
+    yield "the sentence", call(["orders"] + example("flipflop")), (0, f"{sentence}; in changes 3, 5\norder r(2) r(1)\nbefore: 3 hazards; left: none\n")
+    yield "an order that mends", call(["why"] + example("flipflop") + ["q"])[1].splitlines()[-1], f"order r(2) r(1) alone makes q clean: {sentence}"
 
 
-def _jobs(folder, run, write, example):
+def _jobs(folder, run, call, write, example):
     """Jobs on a script with orders and two starts."""
     bench, script = example("latch")[0], write(folder, "two.txt", STARTS)
-    summary = run(["summary", bench, script], folder)[1].splitlines()
+    summary = call(["summary", bench, script])[1].splitlines()
     yield "summary", [line for line in summary if line[:1].isdigit() or "under" in line], [
         "1 r=0 s=0: 2 hazards: q unsettled, qb unsettled", "  under order q(1) q(2)", "3 s=1: clean", "4 r=0 s=0: 2 hazards: q unsettled, qb unsettled", "  under order q(1) q(2)",
         "2: not analysed, q did not settle in change 1", "5: not analysed, q did not settle in change 4"]
-    data = json.loads(run(["summary", "--json", bench, script], folder)[1])
-    yield "summary as data", ([change.get("under") for change in data["changes"]], data["not analysed"]["more"]), ([["q(1) q(2)"], None, ["q(1) q(2)"]], [{"first": 5, "last": 5, "node": "q"}])
-    status, text, _ = run(["expect", bench, script], folder)
-    yield "expect", (status, text.splitlines()[-2:]), (1, [f"{script}:4: change 2 is not analysed, q did not settle in change 1: 0 expectations not checked"][1:] + [
+    data = json.loads(call(["summary", "--json", bench, script])[1])
+    yield "summary as data", ([change.get("under") for change in data["changes"]], data["not analysed"]["more"]), (
+        [["q(1) q(2)"], None, ["q(1) q(2)"]], [{"first": 5, "last": 5, "node": "q"}])
+    status, text = call(["expect", bench, script])
+    yield "expect", (status, text.splitlines()[-2:]), (1, [
         f"{script}:8: change 5 is not analysed, q did not settle in change 4: 1 expectation not checked", "2 expectations, 0 failed, 1 not checked"])
-    page = json.loads(re.search(r"^const DATA = (.*);$", run(["page", bench, script], folder)[1], re.M)[1])
+    page = json.loads(re.search(r"^const DATA = (.*);$", call(["page", bench, script])[1], re.M)[1])
     yield "page", [change.get("under") for change in page["changes"]], [["under order q(1) q(2)"], None, None, ["under order q(1) q(2)"], None]
     gate, lines = write(folder, "or.bench", "INPUT(a)\nINPUT(b)\ng = OR(a, b)\n"), ["start a=0 b=0\n", "order g(1) g(2)\n", "change a=1 b=1  #expect never g=1 a=0\n"]
     for name, kept_lines, status in (("with", lines, 0), ("without", lines[::2], 1)):
-        yield f"a state {name} an order that bars it", run(["expect", gate, write(folder, "never.txt", "".join(kept_lines))], folder)[0], status
+        yield f"a state {name} an order that bars it", call(["expect", gate, write(folder, "never.txt", "".join(kept_lines))])[0], status
     stuck = write(folder, "stuck.txt", "start r=0 s=1\norder q(2) q(1)\nchange r=1 s=0  #expect q steady\n")
-    yield "no run that keeps an order", run(["expect", bench, stuck], folder), (0, f"{stuck}:3: change 1 r=1 s=0: q steady: {summary_of.NOT_KEPT}\n1 expectation, 0 failed\n", "")
-    yield "no run to show", run(["why", bench, stuck, "s"], folder)[1].splitlines()[1:], [
+    yield "no run that keeps an order", call(["expect", bench, stuck]), (0, f"{stuck}:3: change 1 r=1 s=0: q steady: {summary_of.NOT_KEPT} ({bench}:7)\n1 expectation, 0 failed\n")
+    yield "no run to show", call(["why", bench, stuck, "s"])[1].splitlines()[1:], [
         "  under order q(2) q(1)", f"  {summary_of.NOT_KEPT}", "  no run that keeps the orders was found in which s moves so, which is no proof that there is none"]
-    yield "a finding without a run", run(["summary", "--fail", bench, stuck], folder)[:2], (1, f"{stuck}:3: change 1 r=1 s=0: {summary_of.NOT_KEPT}\n")
+    yield "a finding without a run", call(["summary", "--fail", bench, stuck])[:2], (1, f"{stuck}:3: change 1 r=1 s=0: {summary_of.NOT_KEPT}\n")
     both = write(folder, "both.txt", "start r=1 s=1\nchange r=0\nstart r=1 s=1\nchange s=0 #expect q steady in 1..2\n")
     yield "a range over a start", run(["expect", bench, both], folder), (2, "", f"hazard-look: {both}:4: `q steady in 1..2`: a start stands between these changes\n")
     yield "no table under orders", "a table is of all runs" in run(["table", bench, script], folder)[2], True
+    yield "no table of two starts", "a table begins at one start" in run(["table", bench, both], folder)[2], True
     clocked = write(folder, "ck.bench", "INPUT(ck)\nn = NOT(q)\nq = DFF(n)  # clock ck rising\nz = AND(ck, q)\n")
     edges = write(folder, "ck.txt", "start ck=0 q=0\norder z(1) z(2)\n#clock ck\nstart ck=0 q=1\n#clock ck\n")
-    yield "clock", run(["clock", clocked, edges], folder)[1].splitlines(), [
+    yield "clock", call(["clock", clocked, edges])[1].splitlines(), [
         "start ck=0 q=0", "order z(1) z(2)", "change ck=1  #edge ck=1", "change q=1  #edge goes on", "start ck=0 q=1", "change ck=1  #edge ck=1", "change q=0  #edge goes on"]
 
 
@@ -106,13 +109,14 @@ def _rounds(folder, write, hazard, circuits, model):
         yield f"B of {name}", ["X" if bit is None else str(bit) for bit in found.end[:len(change.rows)]], [row.end for row in change.rows.values()]
 
 
-def _kept(folder, run, write, hazard, circuits, model):
+def _kept(folder, call, write, hazard, circuits, model):
     """The runs that `why` shows under orders by chance: each keeps them, by a plain count."""
     chance, shown = random.Random(6), 0
     for name, one in circuits.random_circuits(model, 120, seed=61):
         bench = write(folder, "k.bench", one.netlist())
         gates = [gate for gate in circuit.load(bench).gates if len(gate.sources) > 1]
-        orders = {report.Order(*(f"{gate.name}({pin})" for pin in chance.sample(range(1, len(gate.sources) + 1), 2)), chance.choice((1, 1, 2))) for gate in chance.sample(gates, min(len(gates), 3))}
+        pins = lambda gate: (f"{gate.name}({pin})" for pin in chance.sample(range(1, len(gate.sources) + 1), 2))
+        orders = {report.Order(*pins(gate), chance.choice((1, 1, 2))) for gate in chance.sample(gates, min(len(gates), 3))}
         lines = "".join(f"order {order.spelt()}\n" for order in sorted(orders))
         script = write(folder, "k.txt", lines + one.script())
         change = next(hazard.edges(bench, script).changes)
@@ -120,8 +124,7 @@ def _kept(folder, run, write, hazard, circuits, model):
             continue
         row = max(change.rows.values(), key=lambda row: report.CLASSES.index(row.kind))
         saved = os.path.join(folder, "k.runs")
-        status, text, errors = run(["why", bench, script, row.name, "--save", saved], folder)
-        yield f"why of {name}", (status, errors), (0, "")
+        yield f"why of {name}", call(["why", bench, script, row.name, "--save", saved])[0], 0
         if os.path.exists(saved):
             with open(saved, encoding="utf-8") as file:
                 runs = runtext.read(file.read().splitlines()).runs
