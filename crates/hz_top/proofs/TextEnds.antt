@@ -51,9 +51,9 @@ script-ends judge done netlist value wanted own said good (inr (start, accepted,
 -- no start of these scripts is refused, if all can be completed
 none-refused : (netlist : Netlist) (parts : List ScriptOf) (said : List ℕ) → All (λ part. IsCompletable netlist part.start) parts → FirstStartRefused netlist parts said → ⊥
 none-refused netlist [] said good refused = refused
-none-refused netlist (part ∷ parts) said good (inl (inl (gate, opened, line))) = (All-head good).closed gate opened
-none-refused netlist (part ∷ parts) said good (inl (inr (gate, unstable, line))) = (All-head good).stable gate unstable
-none-refused netlist (part ∷ parts) said good (inr (start, accepted, later)) = none-refused netlist parts said (All-tail good) later
+none-refused netlist (part ∷ parts) said good (inl (inl (gate, opened, line))) = (All-head (λ (part : ScriptOf). IsCompletable netlist part.start) part parts good).closed gate opened
+none-refused netlist (part ∷ parts) said good (inl (inr (gate, unstable, line))) = (All-head (λ (part : ScriptOf). IsCompletable netlist part.start) part parts good).stable gate unstable
+none-refused netlist (part ∷ parts) said good (inr (start, accepted, later)) = none-refused netlist parts said (All-tail (λ (part : ScriptOf). IsCompletable netlist part.start) part parts good) later
 
 -- a script with assumptions of time comes to what the judge says, which has no other status
 timed-ends : (judge : Netlist → List (List Bool) → TimedScriptOf → Status → List ℕ → Type 0)
