@@ -55,8 +55,8 @@ def _beside_iverilog(folder, name, written, bench, hazard):
     circuit = netlist.read(open(bench, encoding="utf-8").read())
     path = _write(folder, name + ".written", written)
     changes = [one for one in script.read(path) if one.keyword == "change"]
-    start, reports = hazard.edges(bench, path)
-    reports = list(reports)
+    report = hazard.edges(bench, path)
+    start, reports = report.start, list(report.changes)
     values = [start] + [{row.name: int(row.end) for row in change.rows.values()} for change in reports]
     ports = json.load(open(os.path.join(ROOM, name + ".json"), encoding="utf-8"))["modules"][name]["ports"]
     cuts = {cut.name for cut in circuit.cuts}
