@@ -1,9 +1,11 @@
--- What the job `explore` reports of a start and of bursts.
-use Rattle.std.specs.Prelude.{◌≡◌, ℕ, ◌++◌, Bool, List}
+-- What the job `explore` reports of a script with assumptions of time.
+use Rattle.std.specs.Prelude.{◌≡◌, ℕ, ◌++◌, Bool, List, [], ◌∷◌}
 use Rattle.hz_core.specs.Netlist.{Netlist}
 use Rattle.hz_net.specs.Network.{network_of}
 use Rattle.hz_free.specs.Feedback.{AreFeedbackCycles}
 use Rattle.hz_options.specs.declared.options.Options.{Options}
+use Rattle.hz_script.specs.ScriptValue.{ScriptOf}
+use Rattle.hz_timing.specs.TimedValue.{TimedScriptOf}
 use Rattle.hz_report.specs.Report.{head_text}
 use Rattle.hz_refusal.specs.declared.status.Status.{Status}
 use Rattle.hz_refusal.specs.declared.status.Status.TheVariants as status
@@ -11,19 +13,26 @@ use Rattle.hz_explore.specs.Bursts.{bursts_of}
 use Rattle.hz_explore.specs.Exploration.{Explored, IsExploration}
 use Rattle.hz_explore.specs.ExploreText.{exploration_text}
 
--- The report of an exploration: the size of the network, its feedback cycles and the start, and all that the bursts of a script lead
--- to from it.
-pub record IsExploreReport (options : Options) (netlist : Netlist) (start : List Bool)
-    (changes : List (List (ℕ × Bool))) (text : List ℕ) : Type 0 where
+-- The report of an exploration: the size of the network, its feedback cycles and the only start, and all that the bursts of the script
+-- lead to from it under the script's assumptions.
+pub record IsExploreReport (options : Options) (netlist : Netlist) (starts : List (List Bool))
+    (script : TimedScriptOf) (text : List ℕ) : Type 0 where
+  pub start : List Bool
+  pub only_start : starts ≡ start ∷ []
+  pub part : ScriptOf
+  pub only_part : script.parts ≡ part ∷ []
   pub cycles : List (List ℕ)
   pub are_cycles : AreFeedbackCycles (network_of netlist) cycles
   pub explored : List Explored
   pub is_exploration :
-      IsExploration netlist options.cap (bursts_of netlist.inputs changes) start explored
-  pub lines : text ≡ head_text netlist cycles start ++ exploration_text netlist explored
+      IsExploration netlist options.cap script.assumptions
+      (bursts_of netlist.inputs part.changes) start explored
+  pub lines : text
+      ≡ head_text netlist cycles start
+      ++ exploration_text netlist script.assumptions explored
 
 -- the job is done with this text
-abbrev pub ReportsExploring : Options → Netlist → List Bool → List (List (ℕ × Bool)) → Status →
+abbrev pub ReportsExploring : Options → Netlist → List (List Bool) → TimedScriptOf → Status →
     List ℕ → Type 0
-ReportsExploring options netlist start changes own text =
-    (own ≡ status.Done) × IsExploreReport options netlist start changes text
+ReportsExploring options netlist starts script own text =
+    (own ≡ status.Done) × IsExploreReport options netlist starts script text

@@ -5,9 +5,10 @@ use Rattle.hz_core.specs.Netlist.{Netlist}
 use Rattle.hz_net.specs.Starts.{IsStableStart}
 use Rattle.hz_net.specs.Variables.{expansion_of}
 use Rattle.hz_states.specs.States.{same_state}
+use Rattle.hz_timing.specs.declared.script.Assumption.{Assumption}
 use Rattle.hz_explore.specs.declared.counting.Totals.{Totals}
 use Rattle.hz_explore.specs.Limits.{most_states}
-use Rattle.hz_explore.specs.Reached.{nodes_of, IsReached}
+use Rattle.hz_explore.specs.Reached.{nodes_of, IsReached, SettlesUnder}
 use Rattle.hz_explore.specs.Transitions.{AreTransitions, ends_of}
 use Rattle.hz_explore.specs.Counts.{Count, Clean, Hazard, NotSettled}
 use Rattle.hz_explore.specs.Exploration.{Explored, all_nodes, all_transitions, found_by, state_of}
@@ -19,21 +20,24 @@ pub record Extends (found all : List (List Bool)) : Type 0 where
   pub full : most_states ≤ length found → later ≡ []
 
 -- A state that was found: it is stable, and bursts lead to it.
-pub record IsFound (netlist : Netlist) (bursts : List (List (ℕ × Bool))) (start : List Bool)
-    (nodes : List Bool) : Type 0 where
+pub record IsFound (netlist : Netlist) (cap : ℕ) (assumptions : List Assumption)
+    (bursts : List (List (ℕ × Bool))) (start : List Bool) (nodes : List Bool) : Type 0 where
   pub long : length nodes ≡ length netlist.names
   pub stable : IsStableStart netlist (expansion_of netlist nodes)
-  pub reached : IsReached netlist bursts start (expansion_of netlist nodes)
+  pub led : IsReached (SettlesUnder netlist cap assumptions) bursts start
+      (expansion_of netlist nodes)
 
 -- The first states of an exploration have their transitions, and these states were found by them.
-pub record IsSoFar (netlist : Netlist) (cap : ℕ) (bursts : List (List (ℕ × Bool)))
-    (start : List Bool) (done : List Explored) (found : List (List Bool)) : Type 0 where
+pub record IsSoFar (netlist : Netlist) (cap : ℕ) (assumptions : List Assumption)
+    (bursts : List (List (ℕ × Bool))) (start : List Bool) (done : List Explored)
+    (found : List (List Bool)) : Type 0 where
   pub transitions :
-      All (λ one. AreTransitions netlist cap bursts (state_of netlist one) one.transitions) done
+      All (λ one. AreTransitions netlist cap assumptions bursts (state_of netlist one)
+      one.transitions) done
   pub order : found
       ≡ found_by [] (nodes_of netlist start ∷ ends_of netlist (all_transitions done))
   pub front : (later : List (List Bool)) × (found ≡ all_nodes done ++ later)
-  pub right : All (IsFound netlist bursts start) found
+  pub right : All (IsFound netlist cap assumptions bursts start) found
   pub once : IsDistinct same_state found
   pub few : length found ≤ most_states
 

@@ -5,6 +5,8 @@ use Rattle.hz_core.specs.Netlist.{Netlist}
 use Rattle.hz_net.specs.Network.{network_of}
 use Rattle.hz_net.specs.Passes.{algorithm_a, algorithm_b, IsResult}
 use Rattle.hz_seq.specs.Sequence.{changed_input, IsSettledAt}
+use Rattle.hz_timing.specs.declared.script.Assumption.{Assumption}
+use Rattle.hz_edge_reports.specs.EdgeChanges.{ChangeOf, IsChangeFrom, IsNextStart, IsRightChange}
 use Rattle.hz_explore.specs.Bursts.{applies}
 
 -- the values of the nodes in a state; at rest each wire has the value of its source
@@ -14,6 +16,10 @@ nodes_of netlist state = take (length netlist.names) state
 -- the input after a burst
 abbrev pub input_after : Netlist → List Bool → List (ℕ × Bool) → List Bool
 input_after netlist state burst = changed_input (take netlist.inputs state) burst
+
+-- when a burst from a state settles in another state
+abbrev pub Settling : Type 1
+Settling = List Bool → List (ℕ × Bool) → List Bool → Type 0
 
 -- these are the results of Algorithms A and B for a burst from a state
 pub record AreResults (netlist : Netlist) (state : List Bool) (burst : List (ℕ × Bool))
@@ -29,22 +35,31 @@ pub record Settles (netlist : Netlist) (state : List Bool) (burst : List (ℕ ×
   pub results : AreResults netlist state burst a b
   pub settled : IsSettledAt b next
 
+-- a burst from a state settles in another state under assumptions of time: what is found of its change is right under them, and the next
+-- change starts there
+pub record SettlesUnder (netlist : Netlist) (cap : ℕ) (assumptions : List Assumption)
+    (state : List Bool) (burst : List (ℕ × Bool)) (next : List Bool) : Type 0 where
+  pub found : ChangeOf
+  pub from : IsChangeFrom netlist state burst found
+  pub right : IsRightChange netlist cap assumptions found
+  pub settled : IsNextStart netlist found.ends next
+
 -- one of the bursts leads from a state to the next: it applies, and settles there
-pub record Leads (netlist : Netlist) (bursts : List (List (ℕ × Bool))) (state : List Bool)
+pub record Leads (settles : Settling) (bursts : List (List (ℕ × Bool))) (state : List Bool)
     (burst : List (ℕ × Bool)) (next : List Bool) : Type 0 where
   pub listed : Contains bursts burst
   pub applies : applies state burst ≡ true
-  pub settles : Settles netlist state burst next
+  pub settled : settles state burst next
 
 -- bursts, one after the other, lead from a state to another
-abbrev pub LeadTo : Netlist → List (List (ℕ × Bool)) → List Bool → List (List (ℕ × Bool)) →
+abbrev pub LeadTo : Settling → List (List (ℕ × Bool)) → List Bool → List (List (ℕ × Bool)) →
     List Bool → Type 0
-LeadTo netlist bursts state [] last = state ≡ last
-LeadTo netlist bursts state (burst ∷ later) last =
-    (next : List Bool) × Leads netlist bursts state burst next
-    × LeadTo netlist bursts next later last
+LeadTo settles bursts state [] last = state ≡ last
+LeadTo settles bursts state (burst ∷ later) last =
+    (next : List Bool) × Leads settles bursts state burst next
+    × LeadTo settles bursts next later last
 
 -- some bursts do
-abbrev pub IsReached : Netlist → List (List (ℕ × Bool)) → List Bool → List Bool → Type 0
-IsReached netlist bursts start state =
-    (path : List (List (ℕ × Bool))) × LeadTo netlist bursts start path state
+abbrev pub IsReached : Settling → List (List (ℕ × Bool)) → List Bool → List Bool → Type 0
+IsReached settles bursts start state =
+    (path : List (List (ℕ × Bool))) × LeadTo settles bursts start path state

@@ -2,23 +2,22 @@
 ghost use Rattle.std.specs.Prelude.{◌≡◌, ◌<◌, ◌≤◌, Bool, List, [], ◌∷◌, ◌++◌, length, map};
 ghost use Rattle.std.specs.List.{range_with_len};
 ghost use Rattle.hz_core.specs.Limits.{most_variables};
-ghost use Rattle.hz_net.specs.Network.{bit_at, value_at};
 ghost use Rattle.hz_bounds.specs.declared.range.EdgeClass.{EdgeClass};
-ghost use Rattle.hz_bounds.specs.Ranges.{edge_class_of};
-ghost use Rattle.hz_edges.specs.Edges.{range_at};
-ghost use Rattle.hz_edges.specs.Room.{edges_of};
+ghost use Rattle.hz_edge_reports.specs.Room.{change_of};
 ghost use Rattle.hz_explore.specs.Inside.{changes_in, most_changes};
 ghost use Rattle.hz_explore.specs.Progress.{counted, no_totals};
-ghost use Rattle.hz_explore.specs.Counts.{NotSettled, classes_of, count_of_classes};
+ghost use Rattle.hz_explore.specs.Counts.{NotSettled, classes_of, count_if};
+ghost use Rattle.hz_explore.specs.Transitions.{class_at};
 
 use hz_bounds::{EdgeClass, edge_class};
-use hz_edges::EdgeRoom;
+use hz_edge_reports::ChangeRoom;
 
 /// How many nodes are of each class, and whether each is steady or single.
 #[derive(Clone, Copy)]
 pub struct Classes {
     pub single: u32,
     pub statics: u32,
+    pub maybe_static: u32,
     pub dynamic: u32,
     pub maybe_dynamic: u32,
     pub is_clean: bool,
@@ -32,6 +31,7 @@ impl Classes {
         Classes {
             single: 0,
             statics: 0,
+            maybe_static: 0,
             dynamic: 0,
             maybe_dynamic: 0,
             is_clean: true,
@@ -42,6 +42,7 @@ impl Classes {
     fn count(&mut self, class: EdgeClass)
         requires single { self.old.single < most_variables }
         requires statics { self.old.statics < most_variables }
+        requires maybe_static { self.old.maybe_static < most_variables }
         requires dynamic { self.old.dynamic < most_variables }
         requires maybe_dynamic { self.old.maybe_dynamic < most_variables }
         ensures { (classes : List EdgeClass) → self.old ≡ classes_of classes →
@@ -54,6 +55,10 @@ impl Classes {
                 self.statics += 1;
                 self.is_clean = false;
             }
+            EdgeClass::MaybeStatic => {
+                self.maybe_static += 1;
+                self.is_clean = false;
+            }
             EdgeClass::Dynamic => {
                 self.dynamic += 1;
                 self.is_clean = false;
@@ -62,28 +67,27 @@ impl Classes {
                 self.maybe_dynamic += 1;
                 self.is_clean = false;
             }
-            EdgeClass::MaybeStatic | EdgeClass::Unsettled => self.is_clean = false,
+            EdgeClass::Unsettled => self.is_clean = false,
         }
     }
 }
 
-// Counts the classes of the first nodes in a change from a start, whose edges were found last.
-pub(crate) fn count_classes(nodes: u32, start: &[bool], edges: &EdgeRoom) -> Classes
+// Counts the classes of the first nodes in the change that was found last.
+pub(crate) fn count_classes(nodes: u32, change: &ChangeRoom) -> Classes
     requires nodes { nodes ≤ most_variables }
-    requires start { nodes ≤ length start.now }
-    requires b { nodes ≤ length edges.now.b.items }
-    requires told { nodes ≤ length edges.now.told.items }
-    requires counts { nodes ≤ length edges.now.counts.items }
+    requires start { nodes ≤ length change.now.start.items }
+    requires ends { nodes ≤ length change.now.ends.items }
+    requires told { nodes ≤ length change.now.edges.told.items }
+    requires counts { nodes ≤ length change.now.edges.counts.items }
     ensures { result ≡ classes_of
-        (map (λ i. edge_class_of (bit_at start.now i) (value_at edges.now.b.items i)
-        (range_at (edges_of edges.now) i)) (range_with_len 0 nodes)) }
+        (map (class_at (change_of change.now)) (range_with_len 0 nodes)) }
 {
     let mut classes = Classes::new();
     for node in 0..nodes {
         let class = edge_class(
-            start[node as usize],
-            edges.b[node as usize],
-            edges.range(node),
+            change.start[node as usize],
+            change.ends[node as usize],
+            change.edges.range(node),
         );
         classes.count(class);
     }
@@ -123,7 +127,7 @@ impl Totals {
     // Counts a change that settles, by whether it is clean and whether its state was found.
     pub(crate) fn count_settled(&mut self, is_clean: bool, is_found: bool)
         requires { changes_in self.old < most_changes }
-        ensures { self.new ≡ counted self.old (count_of_classes is_clean) is_found }
+        ensures { self.new ≡ counted self.old (count_if is_clean) is_found }
     {
         if is_clean {
             self.clean += 1;

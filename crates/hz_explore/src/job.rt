@@ -6,31 +6,38 @@ use hz_net::Net;
 use hz_options::Options;
 use hz_outside::Sink;
 use hz_pass::complete;
-use hz_refusal::{OnScript, Status, refuse_start};
-use hz_script::Script;
+use hz_refusal::{Status, refuse_start};
+use hz_timing::{OnTimed, TimedScript};
 use std::alloc::Global;
 
-/// The job `explore`, with these options.
+/// The job `explore`, with these options. The script's start doesn't stand again.
 #[derive(Drop)]
 pub struct Explores {
     pub options: Options,
     ghost cap: { IsCap options.cap },
 }
 
-impl OnScript for Explores {
+impl OnTimed for Explores {
+    ghost use Rattle.std.specs.Prelude.{false};
+    ghost use Rattle.hz_timing.specs.Timed.{TimedStarted};
     ghost use Rattle.hz_explore.specs.ExploreReports.{ReportsExploring};
-    ghost use Rattle.hz_refusal.specs.Second.{Started};
 
-    ghost judges = { λ job. Started (ReportsExploring job.options) };
+    ghost may_restart = { λ job. false };
 
-    fn with_script<K: Sink>(
+    ghost judges = { λ job. TimedStarted (ReportsExploring job.options) };
+
+    fn restarts(&self) -> bool {
+        false
+    }
+
+    fn with_timed<K: Sink>(
         &self,
         alloc: Global,
         net: &Net,
-        script: &Script,
+        script: &TimedScript,
         out: &mut K,
     ) -> Status {
-        match complete(alloc, net, script.start()) {
+        match complete(alloc, net, script.part(0).start()) {
             Ok(start) => report(alloc, net, script, start.as_slice(), self.options, out),
             Err(fault) => refuse_start(out, net.circuit(), fault),
         }

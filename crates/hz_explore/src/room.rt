@@ -1,31 +1,23 @@
 //! The memory of an exploration.
-ghost use Rattle.std.specs.Prelude.{◌≡◌, ◌<◌, ◌+◌, ◌≤◌, Bool, List, [], ◌∷◌, length, map, Some, All, IfOk, OnOk, MatchOption, is_some};
-ghost use Rattle.std.specs.List.{range_with_len};
-ghost use Rattle.hz_core.specs.Netlist.{IsCircuit};
-ghost use Rattle.hz_net.specs.Network.{bit_at, network_of, value_at, IsState};
+ghost use Rattle.std.specs.Prelude.{◌≡◌, ◌<◌, ◌+◌, ◌≤◌, ◌∷◌, [], length, All, IfOk, OnOk};
+ghost use Rattle.hz_net.specs.Network.{IsState};
 ghost use Rattle.hz_net.specs.Starts.{IsStableStart};
 ghost use Rattle.hz_net.specs.Variables.{expansion_of};
-ghost use Rattle.hz_free.specs.FreePart.{IsFreePart};
-ghost use Rattle.hz_cycle.specs.Cycles.{AreResultsOfBoth};
-ghost use Rattle.hz_word.specs.Capped.{greatest_cap};
-ghost use Rattle.hz_seq.specs.Sequence.{IsFirstUnknown, IsSettledAt};
-ghost use Rattle.hz_bounds.specs.Ranges.{edge_class_of};
-ghost use Rattle.hz_edges.specs.Edges.{AreEdgesOfChange, range_at};
-ghost use Rattle.hz_edges.specs.Room.{edges_of};
+ghost use Rattle.hz_edge_reports.specs.EdgeChanges.{IsChangeFrom, IsRightChange};
+ghost use Rattle.hz_edge_reports.specs.Room.{CanBeMade, change_of};
 ghost use Rattle.hz_states.specs.States.{number_of, state_at};
 ghost use Rattle.hz_explore.specs.Exploration.{found_with};
-ghost use Rattle.hz_explore.specs.Reached.{input_after, nodes_of};
-ghost use Rattle.hz_explore.specs.Counts.{classes_of, count_of_classes};
-ghost use Rattle.hz_explore.specs.Inside.{changes_in, most_changes, IsExploreRoom, IsMade};
-ghost use Rattle.hz_explore.specs.Progress.{counted, no_totals};
+ghost use Rattle.hz_explore.specs.Reached.{nodes_of};
+ghost use Rattle.hz_explore.specs.Transitions.{node_classes};
+ghost use Rattle.hz_explore.specs.Counts.{classes_of, is_shown};
+ghost use Rattle.hz_explore.specs.Inside.{changes_in, most_changes, IsExploreRoom, IsMade, IsNoted};
+ghost use Rattle.hz_explore.specs.Progress.{no_totals};
 
 use crate::counting::{Classes, Totals, count_classes};
-use crate::settling::{settle, write_input};
 use hz_core::Memory;
-use hz_edges::EdgeRoom;
-use hz_free::Free;
+use hz_edge_reports::{ChangeRoom, Making};
 use hz_net::Net;
-use hz_reach::Change;
+use hz_orders::Order;
 use hz_states::States;
 use std::alloc::Global;
 use std::hash::{BuildHasher, Hasher};
@@ -41,17 +33,21 @@ pub(crate) struct ExploreRoom {
     // The nodes of the state from which changes are made, and the values of all variables there.
     pub nodes: Vec<bool>,
     pub start: Vec<bool>,
-    // The new input of a change, what is found of it, and where it settles.
-    pub input: Vec<bool>,
-    pub edges: EdgeRoom,
-    pub next: Vec<bool>,
+    pub change: ChangeRoom,
 }
 
-/// What is found of a change that settles: the classes of the nodes, and the number of the state in which it ends, if it was found.
+/// Where a change ends: in a state, by its number if it was found, or with a variable that is unsettled.
 #[derive(Clone, Copy)]
-pub(crate) struct Found {
+pub(crate) enum End {
+    Settled(Option<u32>),
+    Unsettled(u32),
+}
+
+/// What the line of a change tells of it besides its orders: the classes of the nodes, and where it ends.
+#[derive(Clone, Copy)]
+pub(crate) struct Made {
     pub classes: Classes,
-    pub place: Option<u32>,
+    pub end: End,
 }
 
 impl ExploreRoom {
@@ -65,7 +61,6 @@ impl ExploreRoom {
         net.keeps_shape();
         let circuit = net.circuit();
         let nodes = circuit.nodes() as usize;
-        let variables = net.len() as usize;
         let key = circuit.hashing().build_hasher().finish();
         let mut states = States::new(alloc, key);
         states.add(&start[..nodes])?;
@@ -73,10 +68,8 @@ impl ExploreRoom {
             states,
             totals: Totals::new(),
             nodes: vec![in alloc; false; nodes]?,
-            start: vec![in alloc; false; variables]?,
-            input: vec![in alloc; false; circuit.inputs() as usize]?,
-            edges: EdgeRoom::new(alloc, net)?,
-            next: vec![in alloc; false; variables]?,
+            start: vec![in alloc; false; net.len() as usize]?,
+            change: ChangeRoom::new(alloc, net)?,
         })
     }
 
@@ -95,79 +88,80 @@ impl ExploreRoom {
         net.expand(self.nodes.as_slice(), self.start.as_mut_slice());
     }
 
-    // Makes a change by a burst. If it leaves a variable unsettled, this returns the first one.
-    pub(crate) fn make_change(&mut self, net: &Net, burst: &[(u32, bool)]) -> Option<u32>
-        requires room { IsExploreRoom net.now self.old }
-        requires start { IsStableStart net.now self.old.start.items }
-        requires burst { All (λ pair. pair.0 < net.now.inputs) burst.now }
-        ensures room { IsExploreRoom net.now self.new }
-        ensures made { IsMade net.now burst.now self.new }
-        ensures input { self.new.input.items ≡ input_after net.now self.old.start.items burst.now }
-        ensures settled { MatchOption result
-            (IsSettledAt self.new.edges.b.items self.new.next.items)
-            (IsFirstUnknown self.new.edges.b.items) }
-        ensures start { self.new.start ≡ self.old.start }
-        ensures states { self.new.states ≡ self.old.states }
-        ensures totals { self.new.totals ≡ self.old.totals }
-    {
-        net.keeps_shape();
-        write_input(self.start.as_slice(), burst, self.input.as_mut_slice());
-        let change = Change {
-            net,
-            start: self.start.as_slice(),
-            input: self.input.as_slice(),
-        };
-        self.edges.make_passes(&change);
-        settle(self.edges.b.as_slice(), self.next.as_mut_slice())
-    }
-
-    // Finds the edges of the change that was made last, which settles, and adds the state in which it ends to those that were found.
-    pub(crate) fn find(
-        &mut self,
-        alloc: Global,
-        net: &Net,
-        free: &Free,
-        cap: u64,
-    ) -> Result<Found, Memory>
-        requires circuit { IsCircuit net.now }
-        requires room { IsExploreRoom net.now self.old }
-        requires free { IsFreePart net.now free.now }
-        requires made { AreResultsOfBoth net.now self.old.start.items self.old.input.items
-            self.old.edges.a.items self.old.edges.passes.ranks.items self.old.edges.b.items
-            self.old.edges.passes.when.items }
+    // Makes the change of a burst from the state, notes where it ends, and counts it.
+    pub(crate) fn make(&mut self, making: &Making, burst: &[(u32, bool)]) -> Result<Made, Memory>
+        requires making { CanBeMade making.now }
+        requires room { IsExploreRoom making.now.net.now self.old }
+        requires start { IsStableStart making.now.net.now self.old.start.items }
+        requires burst { All (λ pair. pair.0 < making.now.net.now.inputs) burst.now }
         requires few { changes_in self.old.totals < most_changes }
-        requires cap_low { 1 ≤ cap }
-        requires cap_high { cap ≤ greatest_cap }
-        ensures room { IsExploreRoom net.now self.new }
-        ensures edges { OnOk result (AreEdgesOfChange (network_of net.now) cap self.old.input.items
-            self.old.start.items self.old.edges.a.items self.old.edges.b.items
-            (edges_of self.new.edges)) }
-        ensures classes { IfOk result (λ found. found.classes ≡ classes_of
-            (map (λ i. edge_class_of (bit_at self.old.start.items i)
-            (value_at self.old.edges.b.items i) (range_at (edges_of self.new.edges) i))
-            (range_with_len 0 (length net.now.names)))) }
-        ensures place { IfOk result (λ found. found.place
-            ≡ number_of self.new.states (nodes_of net.now self.old.next.items)) }
-        ensures states { OnOk result (self.new.states
-            ≡ found_with self.old.states (nodes_of net.now self.old.next.items)) }
-        ensures totals { IfOk result (λ found. self.new.totals
-            ≡ counted self.old.totals (count_of_classes found.classes.is_clean)
-            (is_some found.place)) }
+        ensures room { IsExploreRoom making.now.net.now self.new }
+        ensures made { IfOk result (IsMade making.now.net.now making.now.cap
+            making.now.assumptions.now self.old.start.items burst.now self.old self.new) }
         ensures few { changes_in self.new.totals ≤ changes_in self.old.totals + 1 }
         ensures start { self.new.start ≡ self.old.start }
     {
-        let change = Change {
-            net,
-            start: self.start.as_slice(),
-            input: self.input.as_slice(),
-        };
-        self.edges.find_edges(alloc, &change, free, cap)?;
-        let nodes = net.circuit().nodes();
-        let classes = count_classes(nodes, self.start.as_slice(), &self.edges);
-        let place = note(&mut self.states, &self.next.as_slice()[..nodes as usize])?;
-        self.totals.count_settled(classes.is_clean, place.is_some());
-        Ok(Found { classes, place })
+        let classes = self.find(making, burst)?;
+        let shown = is_shown(self.change.used.as_slice(), self.change.kept);
+        let end = self.note_end(making.net, classes.is_clean & shown)?;
+        Ok(Made { classes, end })
     }
+
+    // Makes the change of a burst from the state, and returns the classes of the nodes.
+    fn find(&mut self, making: &Making, burst: &[(u32, bool)]) -> Result<Classes, Memory>
+        requires making { CanBeMade making.now }
+        requires room { IsExploreRoom making.now.net.now self.old }
+        requires start { IsStableStart making.now.net.now self.old.start.items }
+        requires burst { All (λ pair. pair.0 < making.now.net.now.inputs) burst.now }
+        ensures room { IsExploreRoom making.now.net.now self.new }
+        ensures from { IsChangeFrom making.now.net.now self.old.start.items burst.now
+            (change_of self.new.change) }
+        ensures right { OnOk result (IsRightChange making.now.net.now making.now.cap
+            making.now.assumptions.now (change_of self.new.change)) }
+        ensures classes { IfOk result (λ classes. classes
+            ≡ classes_of (node_classes making.now.net.now (change_of self.new.change))) }
+        ensures states { self.new.states ≡ self.old.states }
+        ensures totals { self.new.totals ≡ self.old.totals }
+        ensures start { self.new.start ≡ self.old.start }
+    {
+        making.net.keeps_shape();
+        self.change.begin(making.net, self.start.as_slice());
+        self.change.take_input(making.net, burst);
+        self.change.find(making)?;
+        let nodes = making.net.circuit().nodes();
+        Ok(count_classes(nodes, &self.change))
+    }
+
+    // Goes to where the change ends that was found last, adds that state to those that were found, and counts the change.
+    fn note_end(&mut self, net: &Net, is_clean: bool) -> Result<End, Memory>
+        requires room { IsExploreRoom net.now self.old }
+        requires few { changes_in self.old.totals < most_changes }
+        ensures room { IsExploreRoom net.now self.new }
+        ensures noted { IfOk result
+            (IsNoted net.now (change_of self.old.change) is_clean self.old self.new) }
+        ensures few { changes_in self.new.totals ≤ changes_in self.old.totals + 1 }
+        ensures used { self.new.change.used ≡ self.old.change.used }
+        ensures kept { self.new.change.kept ≡ self.old.change.kept }
+        ensures start { self.new.start ≡ self.old.start }
+    {
+        net.keeps_shape();
+        self.change.go_on(net);
+        if let Some(var) = self.change.stopped {
+            self.totals.count_unsettled();
+            return Ok(End::Unsettled(var));
+        }
+        let nodes = net.circuit().nodes() as usize;
+        let place = note(&mut self.states, &self.change.start.as_slice()[..nodes])?;
+        self.totals.count_settled(is_clean, place.is_some());
+        Ok(End::Settled(place))
+    }
+}
+
+// Whether a run that keeps the orders is shown, or there are none.
+fn is_shown(orders: &[Order], kept: bool) -> bool
+    ensures { result ≡ is_shown orders.now kept }
+{
+    orders.is_empty() || kept
 }
 
 // Adds a state to those that were found, if there is room for it, and returns its number.
