@@ -151,17 +151,17 @@ module _ (netlist : Netlist) (cap : ℕ) (assumptions : List Assumption) (circui
 
 -- a room goes on by one change more
 pub goes-on : (making : Making) (start : List Bool) (changes : List (List (ℕ × Bool))) (analyses : List EdgeAnalysis) (was now : ChangeRoom) → CanBeMade making →
-    AreSoFar making.net.now making.options.cap making.assumptions.now start changes analyses false was → (change : List (ℕ × Bool)) (analysis : EdgeAnalysis) (failed : Bool) → GoesOn making change analysis failed was now →
-    AreSoFar making.net.now making.options.cap making.assumptions.now start (changes ++ change ∷ []) (analyses ++ analysis ∷ []) failed now
+    AreSoFar making.net.now making.cap making.assumptions.now start changes analyses false was → (change : List (ℕ × Bool)) (analysis : EdgeAnalysis) (failed : Bool) → GoesOn making change analysis failed was now →
+    AreSoFar making.net.now making.cap making.assumptions.now start (changes ++ change ∷ []) (analyses ++ analysis ∷ []) failed now
 goes-on making start changes analyses was now can so_far change (Found found) failed (goes, from, right, leads) =
-    found-so-far making.net.now making.options.cap making.assumptions.now can.circuit can.assumptions start changes analyses so_far.at so_far.stopped so_far.first change found failed now
+    found-so-far making.net.now making.cap making.assumptions.now can.circuit can.assumptions start changes analyses so_far.at so_far.stopped so_far.first change found failed now
     (so_far.stops refl ∙ goes)
     (subst (λ (at : List Bool). IsChangeFrom making.net.now at change found) (sym (so_far.stands refl)) from)
     right leads
 goes-on making start changes analyses was now can so_far change (Stopped var) failed (stopped, same) = record {
   at = so_far.at;
   stopped = so_far.stopped;
-  first = one-stopped making.net.now making.options.cap making.assumptions.now can.circuit can.assumptions start changes analyses so_far.at so_far.stopped so_far.first change var (so_far.stops refl ∙ stopped);
+  first = one-stopped making.net.now making.cap making.assumptions.now can.circuit can.assumptions start changes analyses so_far.at so_far.stopped so_far.first change var (so_far.stops refl ∙ stopped);
   stands = λ fine. so_far.stands refl ∙ ap (λ (room : ChangeRoom). room.start.items) (sym same);
   stops = λ fine. so_far.stops refl ∙ ap (λ (room : ChangeRoom). room.stopped) (sym same);
 }

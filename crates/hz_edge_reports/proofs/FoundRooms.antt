@@ -28,8 +28,8 @@ same-inductive net cap input given start from told words inputs starts same indu
     (subst (IsInductive net given from cap) same inductive))
 
 -- what is known of a change that passed, and of which words are told
-pub known-change : (making : Making) (room : ChangeRoom) (known : Known) → CanBeMade making → IsChangeRoom making.net.now room → HavePassed making.net.now room → AreToldFree making.net.now making.options.cap room →
-    known.net.now ≡ making.net.now → known.start.now ≡ room.start.items → known.input.now ≡ room.input.items → known.b.now ≡ room.edges.b.items → known.told.now ≡ room.edges.told.items → known.cap ≡ making.options.cap → IsKnown known
+pub known-change : (making : Making) (room : ChangeRoom) (known : Known) → CanBeMade making → IsChangeRoom making.net.now room → HavePassed making.net.now room → AreToldFree making.net.now making.cap room →
+    known.net.now ≡ making.net.now → known.start.now ≡ room.start.items → known.input.now ≡ room.input.items → known.b.now ≡ room.edges.b.items → known.told.now ≡ room.edges.told.items → known.cap ≡ making.cap → IsKnown known
 known-change making room known can there passed inductive nets starts inputs bs words caps = record {
   circuit = subst IsCircuit (sym nets) can.circuit;
   whole = subst IsWhole (sym nets) can.whole;
@@ -54,7 +54,7 @@ pub room-right :
     ChangeLaws →
     (making : Making) (was used now : ChangeRoom) → CanBeMade making → IsChangeRoom making.net.now was → HavePassed making.net.now was → PassesRest was used →
     AreUsed (network_of making.net.now) was.input.items was.start.items making.assumptions.now used.used.items used.idle → RestsFor used now →
-    AreRightUnder used.used.items (network_of making.net.now) making.options.cap (change_of now) → IsRightChange making.net.now making.options.cap making.assumptions.now (change_of now)
+    AreRightUnder used.used.items (network_of making.net.now) making.cap (change_of now) → IsRightChange making.net.now making.cap making.assumptions.now (change_of now)
 room-right laws making was used now can there passed rests are_used after right =
     let net : List Driver = network_of making.net.now in
     let starts : now.start.items ≡ was.start.items = items-same now.start was.start (after.start ∙ rests.start) in
@@ -62,7 +62,7 @@ room-right laws making was used now can there passed rests are_used after right 
     let a_is : now.edges.a.items ≡ was.edges.a.items = items-same now.edges.a was.edges.a (after.a ∙ rests.a) in
     let b_is : now.edges.b.items ≡ was.edges.b.items = items-same now.edges.b was.edges.b (after.b ∙ rests.b) in
     let orders : now.used.items ≡ used.used.items = items-same now.used used.used after.used in
-    right-change laws making.net.now making.options.cap making.assumptions.now (change_of now) can.circuit
+    right-change laws making.net.now making.cap making.assumptions.now (change_of now) can.circuit
     (subst (IsStableStart making.net.now) (sym starts) passed.of_a.begins)
     (ap (length {A = Bool}) inputs ∙ there.input)
     (subst (λ (values : List Tri). IsResult (algorithm_a net now.input.items now.start.items) values) (sym a_is)
@@ -75,7 +75,7 @@ room-right laws making was used now can there passed rests are_used after right 
     (subst (λ (list : List Order). AreUsed net now.input.items now.start.items making.assumptions.now list used.idle) (sym orders)
     (subst (λ (bits : List Bool). AreUsed net now.input.items bits making.assumptions.now used.used.items used.idle) (sym starts)
     (subst (λ (bits : List Bool). AreUsed net bits was.start.items making.assumptions.now used.used.items used.idle) (sym inputs) are_used))))
-    (subst (λ (list : List Order). AreRightUnder list net making.options.cap (change_of now)) (sym orders) right)
+    (subst (λ (list : List Order). AreRightUnder list net making.cap (change_of now)) (sym orders) right)
 
 -- edges under orders, by other names
 pub same-ordered : (orders : List Order) (net : List Driver) (input start : List Bool) (told words : List Word) (ends values : List Tri) (kept : Bool) (steps : List (List ℕ)) (counts numbers : List ℕ) →

@@ -9,6 +9,6 @@ use Rattle.hz_edge_reports.specs.Room.{Leads}
 abbrev pub GoesOn : Making → List (ℕ × Bool) → EdgeAnalysis → (failed : Bool) → ChangeRoom → ChangeRoom → Type 0
 GoesOn making change (Found found) failed was now =
     (was.stopped ≡ None) × IsChangeFrom making.net.now was.start.items change found
-    × IsRightChange making.net.now making.options.cap making.assumptions.now found
+    × IsRightChange making.net.now making.cap making.assumptions.now found
     × (failed ≡ false → Leads making.net.now found now)
 GoesOn making change (Stopped var) failed was now = (was.stopped ≡ Some var) × (now ≡ was)

@@ -7,6 +7,8 @@
 -- IsRightChange netlist cap assumptions found: it is right
 -- IsNextStart netlist ends next, IsStopper netlist input ends var: where the next change starts, or what stops it
 -- AreEdgeAnalyses netlist cap assumptions start changes analyses: what changes come to, one after the other
+-- CanBeMade making, IsChangeRoom netlist room: changes can be made, in this memory
+-- change_of room: what was found last; Leads netlist found room: where it leads
 -- found_text netlist show assumptions number change found: the lines of one change
 -- IsEdgeReport options netlist starts script text: the report of a script: all that is found in it is right
 -- ChangesExist: every change comes to something

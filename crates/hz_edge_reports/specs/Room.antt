@@ -1,4 +1,4 @@
--- The memory in which changes are made, and what it holds. Words about the inside of hz_edge_reports.
+-- The memory in which changes are made, what it holds, and where a change leads.
 use Rattle.std.specs.Prelude.{◌≡◌, ℕ, ◌⊎◌, None, Some, All}
 use Rattle.hz_core.specs.Netlist.{Netlist, IsCircuit, IsWhole}
 use Rattle.hz_net.specs.Network.{AreByVariable, IsState, IsInput}
@@ -38,7 +38,7 @@ pub record CanBeMade (making : Making) : Type 0 where
   pub whole : IsWhole making.net.now
   pub free : IsFreePart making.net.now making.free.now
   pub assumptions : All (IsAssumptionOf making.net.now) making.assumptions.now
-  pub cap : IsCap making.options.cap
+  pub cap : IsCap making.cap
 
 -- where a change that was found last leads: the next one starts there, or a variable stops all later ones
 abbrev pub Leads : Netlist → ChangeOf → ChangeRoom → Type 0

@@ -18,31 +18,34 @@ use hz_cycle::b_is_exact;
 use hz_free::Free;
 use hz_kept::kept_run;
 use hz_net::Net;
-use hz_options::Options;
 use hz_orders::{OrderedChange, ends_under, ordered_covers, tell_under};
 use hz_reach::{Change, a_is_exact};
 use hz_run_text::printed_runs_are_read;
 use hz_timing::Assumption;
 use std::alloc::Global;
 
-/// What all changes of a report have in common: where memory comes from, the network and its feedback-free part, the assumptions, and the
-/// options.
+/// What all changes that are made have in common. Changes can be made if it fits (`CanBeMade`).
 #[derive(Clone, Copy)]
-pub(crate) struct Making<'a> {
-    pub(crate) alloc: Global,
-    pub(crate) net: &'a Net,
-    pub(crate) free: &'a Free,
-    pub(crate) assumptions: &'a [Assumption],
-    pub(crate) options: Options,
+pub struct Making<'a> {
+    /// Where memory comes from.
+    pub alloc: Global,
+    /// The network.
+    pub net: &'a Net,
+    /// Its feedback-free part.
+    pub free: &'a Free,
+    /// The assumptions of time.
+    pub assumptions: &'a [Assumption],
+    /// The most changes of a transient that are counted.
+    pub cap: u64,
 }
 
 impl ChangeRoom {
-    // Finds what comes of a change from the start to the input.
-    pub(crate) fn find(&mut self, making: &Making) -> Result<(), Memory>
+    /// Finds what comes of a change from the start to the input. If memory runs out, nothing is known of what was found.
+    pub fn find(&mut self, making: &Making) -> Result<(), Memory>
         requires making { CanBeMade making.now }
         requires room { IsChangeRoom making.now.net.now self.old }
         requires start { IsStableStart making.now.net.now self.old.start.items }
-        ensures right { OnOk result (IsRightChange making.now.net.now making.now.options.cap
+        ensures right { OnOk result (IsRightChange making.now.net.now making.now.cap
             making.now.assumptions.now (change_of self.new)) }
         ensures start { self.new.start ≡ self.old.start }
         ensures input { self.new.input ≡ self.old.input }
@@ -67,9 +70,9 @@ impl ChangeRoom {
         requires making { CanBeMade making.now }
         requires room { IsChangeRoom making.now.net.now self.old }
         requires passed { HavePassed making.now.net.now self.old }
-        requires told { AreToldIfUsed making.now.net.now making.now.options.cap self.old }
+        requires told { AreToldIfUsed making.now.net.now making.now.cap self.old }
         ensures right { OnOk result (AreRightUnder self.old.used.items
-            (network_of making.now.net.now) making.now.options.cap (change_of self.new)) }
+            (network_of making.now.net.now) making.now.cap (change_of self.new)) }
         ensures rests { RestsFor self.old self.new }
         ensures room { IsChangeRoom making.now.net.now self.new }
     {
@@ -87,7 +90,7 @@ impl ChangeRoom {
         ensures used { OnOk result (AreUsed (network_of making.now.net.now) self.old.input.items
             self.old.start.items making.now.assumptions.now self.new.used.items self.new.idle) }
         ensures told { OnOk result
-            (AreToldIfUsed making.now.net.now making.now.options.cap self.new) }
+            (AreToldIfUsed making.now.net.now making.now.cap self.new) }
         ensures passes { PassesRest self.old self.new }
         ensures room { IsChangeRoom making.now.net.now self.new }
     {
@@ -105,7 +108,7 @@ impl ChangeRoom {
         requires making { CanBeMade making.now }
         requires room { IsChangeRoom making.now.net.now self.old }
         requires passed { HavePassed making.now.net.now self.old }
-        ensures told { OnOk result (AreToldFree making.now.net.now making.now.options.cap self.new) }
+        ensures told { OnOk result (AreToldFree making.now.net.now making.now.cap self.new) }
         ensures passes { PassesRest self.old self.new }
         ensures room { IsChangeRoom making.now.net.now self.new }
     {
@@ -116,7 +119,7 @@ impl ChangeRoom {
             self.start.as_slice(),
             self.input.as_slice(),
             self.edges.a.as_slice(),
-            making.options.cap,
+            making.cap,
             self.edges.told.as_mut_slice(),
         )
     }
@@ -126,7 +129,7 @@ impl ChangeRoom {
         requires making { CanBeMade making.now }
         requires room { IsChangeRoom making.now.net.now self.old }
         requires passed { HavePassed making.now.net.now self.old }
-        requires told { AreToldFree making.now.net.now making.now.options.cap self.old }
+        requires told { AreToldFree making.now.net.now making.now.cap self.old }
         ensures used { OnOk result (AreUsed (network_of making.now.net.now) self.old.input.items
             self.old.start.items making.now.assumptions.now self.new.used.items self.new.idle) }
         ensures edges { self.new.edges ≡ self.old.edges }
@@ -140,7 +143,7 @@ impl ChangeRoom {
             input: self.input.as_slice(),
             b: self.edges.b.as_slice(),
             told: self.edges.told.as_slice(),
-            cap: making.options.cap,
+            cap: making.cap,
         };
         self.idle = find_used(making.alloc, &known, making.assumptions, &mut self.used)?;
         Ok(())
@@ -152,7 +155,7 @@ impl ChangeRoom {
         requires room { IsChangeRoom making.now.net.now self.old }
         requires passed { HavePassed making.now.net.now self.old }
         ensures right { OnOk result (AreRightUnder [] (network_of making.now.net.now)
-            making.now.options.cap (change_of self.new)) }
+            making.now.cap (change_of self.new)) }
         ensures rests { RestsFor self.old self.new }
         ensures room { IsChangeRoom making.now.net.now self.new }
     {
@@ -162,7 +165,7 @@ impl ChangeRoom {
             input: self.input.as_slice(),
         };
         self.edges
-            .find_edges(making.alloc, &change, making.free, making.options.cap)?;
+            .find_edges(making.alloc, &change, making.free, making.cap)?;
         self.ends.copy_from_slice(self.edges.b.as_slice());
         self.kept = false;
         Ok(())
@@ -173,7 +176,7 @@ impl ChangeRoom {
         requires making { CanBeMade making.now }
         requires room { IsChangeRoom making.now.net.now self.old }
         requires passed { HavePassed making.now.net.now self.old }
-        requires told { AreToldFree making.now.net.now making.now.options.cap self.old }
+        requires told { AreToldFree making.now.net.now making.now.cap self.old }
         ensures right { OnOk result (AreEdgesUnder self.old.used.items
             (network_of making.now.net.now) self.new.input.items self.new.start.items
             self.new.ends.items self.new.kept (edges_of self.new.edges)) }
@@ -188,7 +191,7 @@ impl ChangeRoom {
             input: self.input.as_slice(),
             orders: self.used.as_slice(),
             held: &[],
-            cap: making.options.cap,
+            cap: making.cap,
         };
         tell_under(making.alloc, &change, self.edges.told.as_mut_slice())?;
         let ends = ends_under(making.alloc, &change, self.edges.told.as_slice())?;

@@ -5,7 +5,7 @@
 //! |---|---|
 //! | `job` | [`Edges`]: the job, from the script on |
 //! | `reporting` | the report of a script's parts and changes |
-//! | `finding` | what is found of a change |
+//! | `finding` | [`Making`]: what all changes have in common; what is found of a change |
 //! | `using` | the orders that a change uses |
 //! | `settling` | where the next change starts |
 //! | `room` | [`ChangeRoom`]: the memory in which a change is made |
@@ -23,4 +23,6 @@ mod settling;
 mod using;
 
 pub use existence::changes_exist;
+pub use finding::Making;
 pub use job::Edges;
+pub use room::ChangeRoom;

@@ -41,6 +41,7 @@ struct Ends {
 pub(crate) fn write_found<K: Sink>(
     writer: &mut Writer<'_, K>,
     making: &Making,
+    show: Show,
     number: u32,
     change: &[(u32, bool)],
     room: &ChangeRoom,
@@ -51,13 +52,13 @@ pub(crate) fn write_found<K: Sink>(
     requires used { All (λ order. IsVariable making.now.net.now order.first × IsVariable making.now.net.now order.second) room.now.used.items }
     requires run { All (All (IsVariable making.now.net.now)) room.now.edges.run.steps }
     ensures gave { Writes K.output K.faults
-        (found_text making.now.net.now making.now.options.show making.now.assumptions.now number
+        (found_text making.now.net.now show making.now.assumptions.now number
         change.now (change_of room.now)) writer.old writer.new }
     ensures none_waits { NoneWaits writer.new }
 {
     write_assigned(writer, making.net, number, change);
     write_used(writer, making.net, room.used.as_slice());
-    write_lines(writer, making.net, making.options.show, room);
+    write_lines(writer, making.net, show, room);
     write_kept(writer, room);
     write_orders(writer, making.assumptions, room);
     write_shown_run(writer, making.net, room);

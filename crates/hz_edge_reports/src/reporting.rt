@@ -23,7 +23,7 @@ use crate::lines::write_found;
 use crate::room::ChangeRoom;
 use hz_free::Free;
 use hz_net::Net;
-use hz_options::Options;
+use hz_options::{Options, Show};
 use hz_outside::{PutFault, Sink};
 use hz_pass::complete;
 use hz_refusal::{Status, status_after};
@@ -62,20 +62,22 @@ pub(crate) fn report<K: Sink>(
         net,
         free: &free,
         assumptions: script.assumptions(),
-        options,
+        cap: options.cap,
     };
-    let written = write_report(&making, script, &mut room, out);
+    let written = write_report(&making, options, script, &mut room, out);
     status_after(written, Status::Done)
 }
 
 // Writes the lines of a script.
 fn write_report<K: Sink>(
     making: &Making,
+    options: Options,
     script: &TimedScript,
     room: &mut ChangeRoom,
     out: &mut K,
 ) -> Result<(), PutFault>
     requires making { CanBeMade making.now }
+    requires cap { making.now.cap ≡ options.cap }
     requires script { IsTimedScriptFor making.now.net.now script.now }
     requires assumptions { making.now.assumptions.now ≡ script.now.assumptions }
     requires starts { (starts : List (List Bool))
@@ -83,13 +85,13 @@ fn write_report<K: Sink>(
     requires room { IsChangeRoom making.now.net.now room.old }
     ensures { (starts : List (List Bool)) × (text : List ℕ)
         × AreAcceptedStarts making.now.net.now script.now.parts starts
-        × IsEdgeReport making.now.options making.now.net.now starts script.now text
+        × IsEdgeReport options making.now.net.now starts script.now text
         × Wrote K.output K.faults text out.old out.new result }
 {
     let mut writer = Writer::new(out);
     write_netlist(&mut writer, making.net);
     write_feedback(&mut writer, making.net, making.free);
-    write_parts(&mut writer, making, script, room);
+    write_parts(&mut writer, making, options.show, script, room);
     writer.finish()
 }
 
@@ -97,6 +99,7 @@ fn write_report<K: Sink>(
 fn write_parts<K: Sink>(
     writer: &mut Writer<'_, K>,
     making: &Making,
+    show: Show,
     script: &TimedScript,
     room: &mut ChangeRoom,
 )
@@ -108,10 +111,10 @@ fn write_parts<K: Sink>(
     requires none_waits { NoneWaits writer.old }
     ensures gave { (starts : List (List Bool)) × (analyses : List (List EdgeAnalysis))
         × AreAcceptedStarts making.now.net.now script.now.parts starts
-        × ArePartAnalyses making.now.net.now making.now.options.cap making.now.assumptions.now
+        × ArePartAnalyses making.now.net.now making.now.cap making.now.assumptions.now
         starts script.now.parts analyses
         × Writes K.output K.faults
-        (parts_text making.now.net.now making.now.options.show making.now.assumptions.now 1 starts
+        (parts_text making.now.net.now show making.now.assumptions.now 1 starts
         script.now.parts analyses)
         writer.old writer.new }
     ensures none_waits { NoneWaits writer.new }
@@ -124,7 +127,7 @@ fn write_parts<K: Sink>(
             return;
         }
         let part = script.part(place);
-        write_part(writer, making, part, number, room);
+        write_part(writer, making, show, part, number, room);
         number += part.changes() as u32;
     }
 }
@@ -133,6 +136,7 @@ fn write_parts<K: Sink>(
 fn write_part<K: Sink>(
     writer: &mut Writer<'_, K>,
     making: &Making,
+    show: Show,
     part: &Script,
     number: u32,
     room: &mut ChangeRoom,
@@ -145,11 +149,11 @@ fn write_part<K: Sink>(
     requires none_waits { NoneWaits writer.old }
     ensures gave { (start : List Bool) × (analyses : List EdgeAnalysis)
         × IsAcceptedStart making.now.net.now part.now.start start
-        × AreEdgeAnalyses making.now.net.now making.now.options.cap making.now.assumptions.now
+        × AreEdgeAnalyses making.now.net.now making.now.cap making.now.assumptions.now
         start part.now.changes analyses
         × Writes K.output K.faults
         (start_line making.now.net.now start
-        ++ analyses_text making.now.net.now making.now.options.show making.now.assumptions.now
+        ++ analyses_text making.now.net.now show making.now.assumptions.now
         number part.now.changes analyses)
         writer.old writer.new }
     ensures none_waits { NoneWaits writer.new }
@@ -161,7 +165,7 @@ fn write_part<K: Sink>(
         Ok(start) => {
             room.begin(making.net, start.as_slice());
             write_start(writer, making.net, start.as_slice());
-            write_changes(writer, making, part, number, room);
+            write_changes(writer, making, show, part, number, room);
         }
         Err(_) => writer.give_up(),
     }
@@ -172,6 +176,7 @@ fn write_part<K: Sink>(
 fn write_changes<K: Sink>(
     writer: &mut Writer<'_, K>,
     making: &Making,
+    show: Show,
     part: &Script,
     number: u32,
     room: &mut ChangeRoom,
@@ -184,10 +189,10 @@ fn write_changes<K: Sink>(
     requires number { number + length part.now.changes < 4294967296 }
     requires none_waits { NoneWaits writer.old }
     ensures gave { (analyses : List EdgeAnalysis)
-        × AreEdgeAnalyses making.now.net.now making.now.options.cap making.now.assumptions.now
+        × AreEdgeAnalyses making.now.net.now making.now.cap making.now.assumptions.now
         room.old.start.items part.now.changes analyses
         × Writes K.output K.faults
-        (analyses_text making.now.net.now making.now.options.show making.now.assumptions.now number
+        (analyses_text making.now.net.now show making.now.assumptions.now number
         part.now.changes analyses)
         writer.old writer.new }
     ensures none_waits { NoneWaits writer.new }
@@ -201,6 +206,7 @@ fn write_changes<K: Sink>(
         write_next(
             writer,
             making,
+            show,
             number + place as u32,
             part.change(place),
             room,
@@ -212,6 +218,7 @@ fn write_changes<K: Sink>(
 fn write_next<K: Sink>(
     writer: &mut Writer<'_, K>,
     making: &Making,
+    show: Show,
     number: u32,
     change: &[(u32, bool)],
     room: &mut ChangeRoom,
@@ -225,7 +232,7 @@ fn write_next<K: Sink>(
     ensures gave { (analysis : EdgeAnalysis)
         × GoesOn making.now change.now analysis (has_failed writer.new) room.old room.new
         × Writes K.output K.faults
-        (analysis_text making.now.net.now making.now.options.show making.now.assumptions.now number
+        (analysis_text making.now.net.now show making.now.assumptions.now number
         change.now analysis)
         writer.old writer.new }
     ensures none_waits { NoneWaits writer.new }
@@ -233,7 +240,7 @@ fn write_next<K: Sink>(
 {
     match room.stopped {
         Some(var) => write_stopped(writer, making.net, number, change, var),
-        None => write_made(writer, making, number, change, room),
+        None => write_made(writer, making, show, number, change, room),
     }
 }
 
@@ -241,6 +248,7 @@ fn write_next<K: Sink>(
 fn write_made<K: Sink>(
     writer: &mut Writer<'_, K>,
     making: &Making,
+    show: Show,
     number: u32,
     change: &[(u32, bool)],
     room: &mut ChangeRoom,
@@ -251,10 +259,10 @@ fn write_made<K: Sink>(
     requires stable { IsStableStart making.now.net.now room.old.start.items }
     ensures gave { (found : ChangeOf)
         × IsChangeFrom making.now.net.now room.old.start.items change.now found
-        × IsRightChange making.now.net.now making.now.options.cap making.now.assumptions.now found
+        × IsRightChange making.now.net.now making.now.cap making.now.assumptions.now found
         × (has_failed writer.new ≡ false → Leads making.now.net.now found room.new)
         × Writes K.output K.faults
-        (found_text making.now.net.now making.now.options.show making.now.assumptions.now number
+        (found_text making.now.net.now show making.now.assumptions.now number
         change.now found)
         writer.old writer.new }
     ensures none_waits { NoneWaits writer.new }
@@ -264,7 +272,7 @@ fn write_made<K: Sink>(
     room.take_input(making.net, change);
     match room.find(making) {
         Ok(()) => {
-            write_found(writer, making, number, change, room);
+            write_found(writer, making, show, number, change, room);
             room.go_on(making.net);
         }
         Err(_) => writer.give_up(),

@@ -11,7 +11,7 @@ use std::alloc::Global;
 
 /// What is found of a change, and what it is found with. Afterwards it holds where the next change starts, or the variable that stops it.
 #[derive(Drop)]
-pub(crate) struct ChangeRoom {
+pub struct ChangeRoom {
     /// The state in which a change starts.
     pub start: Vec<bool>,
     /// The new input.
@@ -31,8 +31,8 @@ pub(crate) struct ChangeRoom {
 }
 
 impl ChangeRoom {
-    // Room for the changes of a network.
-    pub(crate) fn new(alloc: Global, net: &Net) -> Result<ChangeRoom, Memory>
+    /// Room for the changes of a network.
+    pub fn new(alloc: Global, net: &Net) -> Result<ChangeRoom, Memory>
         ensures { IfOk result (IsChangeRoom net.now) }
     {
         net.keeps_shape();
@@ -49,8 +49,8 @@ impl ChangeRoom {
         })
     }
 
-    // The next change starts in this state.
-    pub(crate) fn begin(&mut self, net: &Net, start: &[bool])
+    /// The next change starts in this state.
+    pub fn begin(&mut self, net: &Net, start: &[bool])
         requires room { IsChangeRoom net.now self.old }
         requires start { IsState net.now start.now }
         ensures room { IsChangeRoom net.now self.new }

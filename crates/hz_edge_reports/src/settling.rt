@@ -12,8 +12,8 @@ use hz_core::Tri;
 use hz_net::Net;
 
 impl ChangeRoom {
-    // Takes the input after a change from the start.
-    pub(crate) fn take_input(&mut self, net: &Net, change: &[(u32, bool)])
+    /// Takes the input after a change from the start.
+    pub fn take_input(&mut self, net: &Net, change: &[(u32, bool)])
         requires room { IsChangeRoom net.now self.old }
         requires inputs { All (λ pair. pair.0 < net.now.inputs) change.now }
         ensures input { self.new.input.items
@@ -28,10 +28,16 @@ impl ChangeRoom {
         assign(self.input.as_mut_slice(), change);
     }
 
-    // Goes to where the next change starts, or notes the variable that stops it.
-    pub(crate) fn go_on(&mut self, net: &Net)
+    /// Goes to where the next change starts, or notes the variable that stops it. All else that was found stays.
+    pub fn go_on(&mut self, net: &Net)
         requires room { IsChangeRoom net.now self.old }
         ensures leads { Leads net.now (change_of self.old) self.new }
+        ensures input { self.new.input ≡ self.old.input }
+        ensures edges { self.new.edges ≡ self.old.edges }
+        ensures used { self.new.used ≡ self.old.used }
+        ensures idle { self.new.idle ≡ self.old.idle }
+        ensures ends { self.new.ends ≡ self.old.ends }
+        ensures kept { self.new.kept ≡ self.old.kept }
         ensures room { IsChangeRoom net.now self.new }
     {
         let input = self.input.as_slice();

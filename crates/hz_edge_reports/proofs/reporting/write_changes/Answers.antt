@@ -18,7 +18,7 @@ use Rattle.hz_edge_reports.proofs.reporting.write_changes.Goals as goal
 pub loop-place-init : goal.loop-place-init
 loop-place-init g c = (
   [],
-  none-yet c.args.making.now.net.now c.args.making.now.options.cap c.args.making.now.assumptions.now c.requires.making.circuit c.requires.making.assumptions c.args.room.now.start.items (has_failed c.args.writer.now) c.args.room.now c.requires.goes refl c.requires.start,
+  none-yet c.args.making.now.net.now c.args.making.now.cap c.args.making.now.assumptions.now c.requires.making.circuit c.requires.making.assumptions c.args.room.now.start.items (has_failed c.args.writer.now) c.args.room.now c.requires.goes refl c.requires.start,
   writes_nothing c.args.writer.now,
   c.requires.none_waits,
   c.requires.room,
@@ -47,8 +47,8 @@ pub loop-place-preserved : goal.loop-place-preserved
 loop-place-preserved g c =
     let making = c.args.making.now in
     let netlist = making.net.now in
-    let cap = making.options.cap in
-    let show = making.options.show in
+    let cap = making.cap in
+    let show = c.args.show in
     let assumptions = making.assumptions.now in
     let changes = c.args.part.now.changes in
     let place = c.loop-place.place in
@@ -86,8 +86,8 @@ pub returns-then-has_failed-clause-gave : goal.returns-then-has_failed-clause-ga
 returns-then-has_failed-clause-gave g c =
     let making = c.args.making.now in
     let netlist = making.net.now in
-    let cap = making.options.cap in
-    let show = making.options.show in
+    let cap = making.cap in
+    let show = c.args.show in
     let assumptions = making.assumptions.now in
     let changes = c.args.part.now.changes in
     let place = c.loop-place.place in
@@ -111,7 +111,7 @@ pub returns-clause-gave : goal.returns-clause-gave
 returns-clause-gave g c =
     let making = c.args.making.now in
     let netlist = making.net.now in
-    let cap = making.options.cap in
+    let cap = making.cap in
     let assumptions = making.assumptions.now in
     let changes = c.args.part.now.changes in
     let place = c.loop-place.place in
@@ -121,5 +121,5 @@ returns-clause-gave g c =
       so_far.0,
       subst (λ (list : List (List (ℕ × Bool))). AreEdgeAnalyses netlist cap assumptions c.args.room.now.start.items list so_far.0) whole
           (all-edges netlist cap assumptions c.requires.making.circuit c.requires.making.assumptions c.args.room.now.start.items (take place changes) so_far.0 (has_failed c.loop-place.writer) c.loop-place.room so_far.1),
-      subst (λ (list : List (List (ℕ × Bool))). Writes g.K.Sink.output g.K.Sink.faults (analyses_text netlist making.options.show assumptions c.args.number list so_far.0) c.args.writer.now c.loop-place.writer) whole so_far.2,
+      subst (λ (list : List (List (ℕ × Bool))). Writes g.K.Sink.output g.K.Sink.faults (analyses_text netlist c.args.show assumptions c.args.number list so_far.0) c.args.writer.now c.loop-place.writer) whole so_far.2,
     )

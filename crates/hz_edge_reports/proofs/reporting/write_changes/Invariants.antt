@@ -10,7 +10,7 @@ use Rattle.hz_edge_reports.proofs.reporting.write_changes.Given as goal
 abbrev pub invariant-loop-place : goal.invariant-loop-place
 invariant-loop-place g l =
     (analyses : List EdgeAnalysis)
-    × AreSoFar l.making.net.now l.making.options.cap l.making.assumptions.now l.fn.room.start.items (take l.place l.part.changes) analyses (has_failed l.writer) l.room
-    × Writes g.K.Sink.output g.K.Sink.faults (analyses_text l.making.net.now l.making.options.show l.making.assumptions.now l.number (take l.place l.part.changes) analyses) l.fn.writer l.writer
+    × AreSoFar l.making.net.now l.making.cap l.making.assumptions.now l.fn.room.start.items (take l.place l.part.changes) analyses (has_failed l.writer) l.room
+    × Writes g.K.Sink.output g.K.Sink.faults (analyses_text l.making.net.now l.show l.making.assumptions.now l.number (take l.place l.part.changes) analyses) l.fn.writer l.writer
     × NoneWaits l.writer
     × IsChangeRoom l.making.net.now l.room

@@ -22,13 +22,13 @@ pub write_found-requires-clause-used : goal.write_found-requires-clause-used
 write_found-requires-clause-used g c =
     let making = c.args.making.now in
     let from = made-from making.net.now c.args.change.now c.args.room.now c.take_input.new.self c.find.new.self c.take_input.ensures.start c.take_input.ensures.input c.find.ensures.start c.find.ensures.input in
-    found-used making.net.now making.options.cap making.assumptions.now c.args.room.now.start.items c.args.change.now (change_of c.find.new.self) c.requires.making.circuit c.requires.making.assumptions c.requires.stable from c.in-Ok.ensures.right
+    found-used making.net.now making.cap making.assumptions.now c.args.room.now.start.items c.args.change.now (change_of c.find.new.self) c.requires.making.circuit c.requires.making.assumptions c.requires.stable from c.in-Ok.ensures.right
 
 pub write_found-requires-clause-run : goal.write_found-requires-clause-run
 write_found-requires-clause-run g c =
     let making = c.args.making.now in
     let from = made-from making.net.now c.args.change.now c.args.room.now c.take_input.new.self c.find.new.self c.take_input.ensures.start c.take_input.ensures.input c.find.ensures.start c.find.ensures.input in
-    found-run making.net.now making.options.cap making.assumptions.now c.args.room.now.start.items c.args.change.now (change_of c.find.new.self) c.requires.making.circuit c.requires.making.assumptions c.requires.stable from c.in-Ok.ensures.right
+    found-run making.net.now making.cap making.assumptions.now c.args.room.now.start.items c.args.change.now (change_of c.find.new.self) c.requires.making.circuit c.requires.making.assumptions c.requires.stable from c.in-Ok.ensures.right
 
 pub returns-in-Ok-clause-gave : goal.returns-in-Ok-clause-gave
 returns-in-Ok-clause-gave g c =
@@ -39,12 +39,12 @@ returns-in-Ok-clause-gave g c =
 pub returns-in-Err-clause-gave : goal.returns-in-Err-clause-gave
 returns-in-Err-clause-gave g c =
     let making = c.args.making.now in
-    let made = one-exists c.changes_exist.ensures making.net.now making.options.cap making.assumptions.now c.requires.making.circuit c.requires.making.whole c.requires.making.assumptions c.requires.making.cap.0 c.requires.making.cap.1
+    let made = one-exists c.changes_exist.ensures making.net.now making.cap making.assumptions.now c.requires.making.circuit c.requires.making.whole c.requires.making.assumptions c.requires.making.cap.0 c.requires.making.cap.1
     c.args.room.now.start.items c.args.change.now c.requires.stable in (
       made.0,
       made.1,
       made.2,
       λ fine. absurd (false≢true (sym fine ∙ c.give_up.ensures.failed)),
       writes_then c.give_up.ensures.gave
-          (writes_failed (found_text making.net.now making.options.show making.assumptions.now c.args.number c.args.change.now made.0) c.give_up.ensures.failed) refl,
+          (writes_failed (found_text making.net.now c.args.show making.assumptions.now c.args.number c.args.change.now made.0) c.give_up.ensures.failed) refl,
     )

@@ -40,7 +40,7 @@ returns-in-Ok-clause-gave g c =
       begin,
       made.0,
       accepted,
-      subst (λ (from : List Bool). AreEdgeAnalyses netlist making.options.cap making.assumptions.now from part.changes made.0) same made.1,
+      subst (λ (from : List Bool). AreEdgeAnalyses netlist making.cap making.assumptions.now from part.changes made.0) same made.1,
       writes_then line made.2 refl,
     )
 
@@ -50,12 +50,12 @@ returns-in-Err-clause-gave g c =
     let netlist = making.net.now in
     let part = c.args.part.now in
     let begin = c.requires.start in
-    let made = edges-exist c.changes_exist.ensures netlist making.options.cap making.assumptions.now c.requires.making.circuit c.requires.making.whole c.requires.making.assumptions c.requires.making.cap.0 c.requires.making.cap.1
+    let made = edges-exist c.changes_exist.ensures netlist making.cap making.assumptions.now c.requires.making.circuit c.requires.making.whole c.requires.making.assumptions c.requires.making.cap.0 c.requires.making.cap.1
     part.changes begin.0 (accepted-stable netlist part begin.0 begin.1) in (
       begin.0,
       made.0,
       begin.1,
       made.1,
       writes_then c.give_up.ensures.gave
-          (writes_failed (start_line netlist begin.0 ++ analyses_text netlist making.options.show making.assumptions.now c.args.number part.changes made.0) c.give_up.ensures.failed) refl,
+          (writes_failed (start_line netlist begin.0 ++ analyses_text netlist c.args.show making.assumptions.now c.args.number part.changes made.0) c.give_up.ensures.failed) refl,
     )

@@ -56,8 +56,8 @@ pub loop-place-preserved : goal.loop-place-preserved
 loop-place-preserved g c =
     let making = c.args.making.now in
     let netlist = making.net.now in
-    let cap = making.options.cap in
-    let show = making.options.show in
+    let cap = making.cap in
+    let show = c.args.show in
     let assumptions = making.assumptions.now in
     let parts = c.args.script.now.parts in
     let place = c.loop-place.place in
@@ -96,8 +96,8 @@ pub returns-then-has_failed-clause-gave : goal.returns-then-has_failed-clause-ga
 returns-then-has_failed-clause-gave g c =
     let making = c.args.making.now in
     let netlist = making.net.now in
-    let cap = making.options.cap in
-    let show = making.options.show in
+    let cap = making.cap in
+    let show = c.args.show in
     let assumptions = making.assumptions.now in
     let parts = c.args.script.now.parts in
     let place = c.loop-place.place in
@@ -135,6 +135,6 @@ returns-clause-gave g c =
     subst (λ (list : List ScriptOf).
     (starts : List (List Bool)) × (analyses : List (List EdgeAnalysis))
     × AreAcceptedStarts netlist list starts
-    × ArePartAnalyses netlist making.options.cap making.assumptions.now starts list analyses
-    × Writes g.K.Sink.output g.K.Sink.faults (parts_text netlist making.options.show making.assumptions.now 1 starts list analyses) c.args.writer.now c.loop-place.writer) whole
+    × ArePartAnalyses netlist making.cap making.assumptions.now starts list analyses
+    × Writes g.K.Sink.output g.K.Sink.faults (parts_text netlist c.args.show making.assumptions.now 1 starts list analyses) c.args.writer.now c.loop-place.writer) whole
     (so_far.0, so_far.1, so_far.2, so_far.3, so_far.4)

@@ -13,8 +13,8 @@ abbrev pub invariant-loop-place : goal.invariant-loop-place
 invariant-loop-place g l =
     (starts : List (List Bool)) × (analyses : List (List EdgeAnalysis))
     × AreAcceptedStarts l.making.net.now (take l.place l.script.parts) starts
-    × ArePartAnalyses l.making.net.now l.making.options.cap l.making.assumptions.now starts (take l.place l.script.parts) analyses
-    × Writes g.K.Sink.output g.K.Sink.faults (parts_text l.making.net.now l.making.options.show l.making.assumptions.now 1 starts (take l.place l.script.parts) analyses) l.fn.writer l.writer
+    × ArePartAnalyses l.making.net.now l.making.cap l.making.assumptions.now starts (take l.place l.script.parts) analyses
+    × Writes g.K.Sink.output g.K.Sink.faults (parts_text l.making.net.now l.show l.making.assumptions.now 1 starts (take l.place l.script.parts) analyses) l.fn.writer l.writer
     × NoneWaits l.writer
     × IsChangeRoom l.making.net.now l.room
     × (l.number ≡ 1 + sum_by changes_of (take l.place l.script.parts))

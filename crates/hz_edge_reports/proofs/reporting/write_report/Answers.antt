@@ -1,5 +1,5 @@
 -- All that the writer was given.
-use Rattle.std.proofs.Common.{◌≡◌, ◌∙◌, ◌++◌, List, Bool, refl, ap, subst, sym, rules}
+use Rattle.std.proofs.Common.{◌≡◌, ◌∙◌, ◌++◌, ℕ, List, Bool, refl, ap, subst, sym, rules}
 use Rattle.std.specs.List.{flat_map}
 use Rattle.hz_timing.specs.declared.script.Assumption.{Assumption}
 use Rattle.hz_write.specs.Writer.{Writes}
@@ -13,12 +13,13 @@ pub returns : goal.returns
 returns g c =
     let making = c.args.making.now in
     let netlist = making.net.now in
-    let options = making.options in
+    let options = c.args.options in
     let script = c.args.script.now in
     let made = c.write_parts.ensures.gave in
     let cycles = making.free.now.cycles in
     let are : ArePartAnalyses netlist options.cap script.assumptions made.0 script.parts made.1 =
-    subst (λ (assumptions : List Assumption). ArePartAnalyses netlist options.cap assumptions made.0 script.parts made.1) c.requires.assumptions made.3 in
+    subst (λ (cap : ℕ). ArePartAnalyses netlist cap script.assumptions made.0 script.parts made.1) c.requires.cap
+    (subst (λ (assumptions : List Assumption). ArePartAnalyses netlist making.cap assumptions made.0 script.parts made.1) c.requires.assumptions made.3) in
     let parts : Writes g.K.Sink.output g.K.Sink.faults (parts_text netlist options.show script.assumptions 1 made.0 script.parts made.1) c.write_feedback.new.writer c.write_parts.new.writer =
     subst (λ (assumptions : List Assumption). Writes g.K.Sink.output g.K.Sink.faults (parts_text netlist options.show assumptions 1 made.0 script.parts made.1) c.write_feedback.new.writer c.write_parts.new.writer) c.requires.assumptions made.4 in
     let lines = writes_then (writes_then c.write_netlist.ensures.gave c.write_feedback.ensures.gave refl) parts refl in

@@ -32,7 +32,7 @@ returns-clause-right c =
     let shown = rw (c.as_slice.ensures.value, c.as_slice-2.ensures.value, c.as_slice-3.ensures.value) at c.in_ok-self.ensures.kept in
     same-ordered orders net input start told _ ends _ c.in_ok-self.field-0 c.kept_run.new.run.steps counts _ told_are ends_are counts_are
     (edges-under orders net input start ends c.in_ok-self.field-0 (record { told = told; steps = c.kept_run.new.run.steps; counts = counts })
-    (λ i few steps run keeps. c.ordered_covers.ensures orders netlist input start c.args.making.now.options.cap told i steps c.requires.making.circuit c.requires.making.whole c.requires.passed.of_a.begins under few run keeps)
+    (λ i few steps run keeps. c.ordered_covers.ensures orders netlist input start c.args.making.now.cap told i steps c.requires.making.circuit c.requires.making.whole c.requires.passed.of_a.begins under few run keeps)
     (c.write_ends.auto.ends ∙ (ap (length {A = Tri}) c.as_mut_slice-2.ensures.value ∙ c.requires.room.ends))
     (λ state outcome. c.write_ends.ensures state
     (long-outcome orders net input start state outcome ∙ (c.requires.room.start ∙ sym (ap (length {A = Tri}) c.as_mut_slice-2.ensures.value ∙ c.requires.room.ends)))

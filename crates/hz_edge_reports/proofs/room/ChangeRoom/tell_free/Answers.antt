@@ -15,7 +15,7 @@ returns-clause-told c =
     with_items_is c.args.self.now.edges.told told (omega (arith, c.tell.auto.told, c.as_mut_slice.ensures.len)) in
     on_ok_weaker c.tell.result
     (λ inductive.
-    same-inductive (network_of c.args.making.now.net.now) c.args.making.now.options.cap c.args.self.now.input.items c.as_slice-2.result.now c.args.self.now.start.items c.as_slice.result.now
+    same-inductive (network_of c.args.making.now.net.now) c.args.making.now.cap c.args.self.now.input.items c.as_slice-2.result.now c.args.self.now.start.items c.as_slice.result.now
     (with_items c.args.self.now.edges.told told).items told c.as_slice-2.ensures.value c.as_slice.ensures.value (sym told_are) inductive)
     c.tell.ensures.inductive
 
