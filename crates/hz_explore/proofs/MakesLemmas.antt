@@ -3,6 +3,7 @@ use Rattle.std.proofs.Common.{◌≡◌, ◌∙◌, refl, sym, ap, subst, ℕ, B
 use Rattle.std.proofs.lemmas.Bool.{true≢false}
 use Rattle.std.proofs.lemmas.List.Sums.{fold-append}
 use Rattle.hz_core.specs.Netlist.{Netlist}
+use Rattle.hz_timing.specs.declared.script.Assumption.{Assumption}
 use Rattle.hz_explore.specs.declared.room.ExploreRoom.{ExploreRoom}
 use Rattle.hz_explore.specs.Transitions.{Transition, AreTransitions, ends_of}
 use Rattle.hz_explore.specs.Exploration.{found_by, found_with}
@@ -15,27 +16,27 @@ pub found-then : (netlist : Netlist) (found : List (List Bool)) (made more : Lis
 found-then netlist found made more =
     sym (fold-append found_with found (ends_of netlist made) (ends_of netlist more)) ∙ ap (found_by found) (sym (ends-append netlist made more))
 
-module _ (netlist : Netlist) (cap : ℕ) (state : List Bool) where
+module _ (netlist : Netlist) (cap : ℕ) (assumptions : List Assumption) (state : List Bool) where
   -- none was made
-  pub makes-none : (room : ExploreRoom) (failed : Bool) → Makes netlist cap [] state [] room room failed
+  pub makes-none : (room : ExploreRoom) (failed : Bool) → Makes netlist cap assumptions [] state [] room room failed
   makes-none room failed = record {
-    transitions = transitions-none netlist cap state;
+    transitions = transitions-none netlist cap assumptions state;
     found = λ fine. refl;
     counts = λ fine before counts. subst (λ (list : List Transition). Counts netlist list room) (sym (append-nil before)) counts;
   }
 
   -- some were made, and then others
-  pub makes-then : (bursts later : List (List (ℕ × Bool))) (made more : List Transition) (was middle now : ExploreRoom) (failed : Bool) → Makes netlist cap bursts state made was middle false → Makes netlist cap later state more middle now failed →
-      Makes netlist cap (bursts ++ later) state (made ++ more) was now failed
+  pub makes-then : (bursts later : List (List (ℕ × Bool))) (made more : List Transition) (was middle now : ExploreRoom) (failed : Bool) → Makes netlist cap assumptions bursts state made was middle false → Makes netlist cap assumptions later state more middle now failed →
+      Makes netlist cap assumptions (bursts ++ later) state (made ++ more) was now failed
   makes-then bursts later made more was middle now failed first then = record {
-    transitions = transitions-append netlist cap state bursts later made more first.transitions then.transitions;
+    transitions = transitions-append netlist cap assumptions state bursts later made more first.transitions then.transitions;
     found = λ fine. then.found fine ∙ (ap (λ (states : List (List Bool)). found_by states (ends_of netlist more)) (first.found refl) ∙ found-then netlist was.states made more);
     counts = λ fine before counts.
         subst (λ (list : List Transition). Counts netlist list now) (append_assoc before made more) (then.counts fine (before ++ made) (first.counts refl before counts));
   }
 
   -- the output failed
-  pub makes-failed : (bursts : List (List (ℕ × Bool))) (made : List Transition) (was now : ExploreRoom) (failed : Bool) → failed ≡ true → AreTransitions netlist cap bursts state made → Makes netlist cap bursts state made was now failed
+  pub makes-failed : (bursts : List (List (ℕ × Bool))) (made : List Transition) (was now : ExploreRoom) (failed : Bool) → failed ≡ true → AreTransitions netlist cap assumptions bursts state made → Makes netlist cap assumptions bursts state made was now failed
   makes-failed bursts made was now failed is are = record {
     transitions = are;
     found = λ fine. absurd (true≢false (sym is ∙ fine));
@@ -43,7 +44,7 @@ module _ (netlist : Netlist) (cap : ℕ) (state : List Bool) where
   }
 
   -- from another room with the same states and the same totals
-  pub makes-from : (bursts : List (List (ℕ × Bool))) (made : List Transition) (was other now : ExploreRoom) (failed : Bool) → other.states ≡ was.states → other.totals ≡ was.totals → Makes netlist cap bursts state made was now failed → Makes netlist cap bursts state made other now failed
+  pub makes-from : (bursts : List (List (ℕ × Bool))) (made : List Transition) (was other now : ExploreRoom) (failed : Bool) → other.states ≡ was.states → other.totals ≡ was.totals → Makes netlist cap assumptions bursts state made was now failed → Makes netlist cap assumptions bursts state made other now failed
   makes-from bursts made was other now failed states totals makes = record {
     transitions = makes.transitions;
     found = λ fine. makes.found fine ∙ ap (λ (list : List (List Bool)). found_by list (ends_of netlist made)) (sym states);

@@ -7,46 +7,47 @@ use Rattle.std.proofs.lemmas.List.Folds.{list_all-append}
 use Rattle.std.proofs.lemmas.List.Sums.{sum_by-append}
 use Rattle.hz_core.specs.Netlist.{Netlist}
 use Rattle.hz_states.specs.States.{has_state}
+use Rattle.hz_timing.specs.declared.script.Assumption.{Assumption}
 use Rattle.hz_explore.specs.declared.counting.Totals.{Totals}
 use Rattle.hz_explore.specs.Bursts.{applies}
 use Rattle.hz_explore.specs.Reached.{nodes_of}
 use Rattle.hz_explore.specs.Transitions.{Outcome, Settled, Unsettled, Transition, IsRightTransition, AreTransitions, end_of, ends_of}
-use Rattle.hz_explore.specs.Counts.{Count, Clean, Hazard, NotSettled, count_of, count_of_classes, count_of_outcome, is_clean, is_hazard, is_not_settled, totals_of}
+use Rattle.hz_explore.specs.Counts.{Count, Clean, Hazard, NotSettled, count_of, count_if, count_of_outcome, is_clean, is_hazard, is_not_settled, totals_of}
 use Rattle.hz_explore.specs.Progress.{counted}
 
-module _ (netlist : Netlist) (cap : ℕ) (state : List Bool) where
+module _ (netlist : Netlist) (cap : ℕ) (assumptions : List Assumption) (state : List Bool) where
   -- no burst
-  pub transitions-none : AreTransitions netlist cap [] state []
+  pub transitions-none : AreTransitions netlist cap assumptions [] state []
   transitions-none = record {
     each_once = refl;
     start = All-nil (λ (one : Transition). one.start ≡ state);
-    right = All-nil (IsRightTransition netlist cap);
+    right = All-nil (IsRightTransition netlist cap assumptions);
   }
 
   -- some bursts, and then others
-  pub transitions-append : (bursts later : List (List (ℕ × Bool))) (transitions more : List Transition) → AreTransitions netlist cap bursts state transitions → AreTransitions netlist cap later state more → AreTransitions netlist cap (bursts ++ later) state (transitions ++ more)
+  pub transitions-append : (bursts later : List (List (ℕ × Bool))) (transitions more : List Transition) → AreTransitions netlist cap assumptions bursts state transitions → AreTransitions netlist cap assumptions later state more → AreTransitions netlist cap assumptions (bursts ++ later) state (transitions ++ more)
   transitions-append bursts later transitions more are others = record {
     each_once = map-append (λ (one : Transition). one.burst) transitions more
         ∙ (ap (λ (list : List (List (ℕ × Bool))). list ++ map (λ (one : Transition). one.burst) more) are.each_once
         ∙ (ap (λ (list : List (List (ℕ × Bool))). filter (applies state) bursts ++ list) others.each_once ∙ sym (filter-append (applies state) bursts later)));
     start = All-append (λ (one : Transition). one.start ≡ state) transitions more are.start others.start;
-    right = All-append (IsRightTransition netlist cap) transitions more are.right others.right;
+    right = All-append (IsRightTransition netlist cap assumptions) transitions more are.right others.right;
   }
 
   -- a burst that applies
-  pub transition-one : (one : Transition) → one.start ≡ state → applies state one.burst ≡ true → IsRightTransition netlist cap one → AreTransitions netlist cap (one.burst ∷ []) state (one ∷ [])
+  pub transition-one : (one : Transition) → one.start ≡ state → applies state one.burst ≡ true → IsRightTransition netlist cap assumptions one → AreTransitions netlist cap assumptions (one.burst ∷ []) state (one ∷ [])
   transition-one one start can right = record {
     each_once = rw can refl;
     start = All-cons (λ (one : Transition). one.start ≡ state) one [] start (All-nil (λ (one : Transition). one.start ≡ state));
-    right = All-cons (IsRightTransition netlist cap) one [] right (All-nil (IsRightTransition netlist cap));
+    right = All-cons (IsRightTransition netlist cap assumptions) one [] right (All-nil (IsRightTransition netlist cap assumptions));
   }
 
   -- a burst that does not
-  pub transition-not : (burst : List (ℕ × Bool)) → applies state burst ≡ false → AreTransitions netlist cap (burst ∷ []) state []
+  pub transition-not : (burst : List (ℕ × Bool)) → applies state burst ≡ false → AreTransitions netlist cap assumptions (burst ∷ []) state []
   transition-not burst not_so = record {
     each_once = rw not_so refl;
     start = All-nil (λ (one : Transition). one.start ≡ state);
-    right = All-nil (IsRightTransition netlist cap);
+    right = All-nil (IsRightTransition netlist cap assumptions);
   }
 
 -- where they end
@@ -63,7 +64,7 @@ count-more test transitions one = by (test one) refl
 
 -- whether a transition ends in one of these states; one that does not settle leaves that open
 abbrev pub is_listed : Netlist → List (List Bool) → Outcome → Bool
-is_listed netlist states (Settled next edges) = has_state states (nodes_of netlist next)
+is_listed netlist states (Settled next) = has_state states (nodes_of netlist next)
 is_listed netlist states (Unsettled var) = true
 
 abbrev by_counts : Totals → Count → Bool → Totals
@@ -89,7 +90,7 @@ same-totals : {clean clean2 hazards hazards2 unsettled unsettled2 : ℕ} {whole 
     the-totals clean hazards unsettled whole ≡ the-totals clean2 hazards2 unsettled2 whole2
 same-totals a b c d = rw (a, b, c, d) refl
 
-no-classes-unsettled : (clean : Bool) → count_of_classes clean ≡ NotSettled → ⊥
+no-classes-unsettled : (clean : Bool) → count_if clean ≡ NotSettled → ⊥
 no-classes-unsettled true e = cc
 no-classes-unsettled false e = cc
 
@@ -103,12 +104,12 @@ totals-more netlist states transitions one =
     let whole = ap (list_all (has_state states)) (ends-append netlist transitions (one ∷ [])) ∙ list_all-append (has_state states) (ends_of netlist transitions) (ends_of netlist (one ∷ [])) in
     rw (clean, hazards, open_, whole) (by one.outcome refl (count_of netlist one) refl)
   where
-    by : (outcome : Outcome) → one.outcome ≡ outcome → (count : Count) → count_of_outcome netlist one one.outcome ≡ count →
+    by : (outcome : Outcome) → one.outcome ≡ outcome → (count : Count) → count_of_outcome netlist one.found one.outcome ≡ count →
         by_counts (totals_of netlist states transitions) (count_of netlist one) (list_all (has_state states) (ends_of netlist transitions) && list_all (has_state states) (ends_of netlist (one ∷ [])))
         ≡ counted (totals_of netlist states transitions) (count_of netlist one) (is_listed netlist states one.outcome)
-    by (Settled next edges) o Clean c = rw (c, o) (same-totals refl (plus-none _) (plus-none _) (ap (λ (here : Bool). list_all (has_state states) (ends_of netlist transitions) && here) (and-true _)))
-    by (Settled next edges) o Hazard c = rw (c, o) (same-totals (plus-none _) refl (plus-none _) (ap (λ (here : Bool). list_all (has_state states) (ends_of netlist transitions) && here) (and-true _)))
-    by (Settled next edges) o NotSettled c = absurd (no-classes-unsettled _ (ap (count_of_outcome netlist one) (sym o) ∙ c))
+    by (Settled next) o Clean c = rw (c, o) (same-totals refl (plus-none _) (plus-none _) (ap (λ (here : Bool). list_all (has_state states) (ends_of netlist transitions) && here) (and-true _)))
+    by (Settled next) o Hazard c = rw (c, o) (same-totals (plus-none _) refl (plus-none _) (ap (λ (here : Bool). list_all (has_state states) (ends_of netlist transitions) && here) (and-true _)))
+    by (Settled next) o NotSettled c = absurd (no-classes-unsettled _ (ap (count_of_outcome netlist one.found) (sym o) ∙ c))
     by (Unsettled var) o Clean c = absurd cc
     by (Unsettled var) o Hazard c = absurd cc
     by (Unsettled var) o NotSettled c = rw (c, o) (same-totals (plus-none _) (plus-none _) refl (and-true _))
