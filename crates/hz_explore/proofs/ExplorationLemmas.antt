@@ -1,59 +1,36 @@
 -- An exploration that is done: if no state was left out, it has every state that bursts lead to.
-use Rattle.std.proofs.Common.{◌≡◌, ◌∙◌, refl, sym, ap, subst, ℕ, zero, suc, ◌<◌, ◌≤◌, Bool, true, false, ◌||◌, List, [], ◌∷◌, length, map, filter, get_or, drop, length-take, All, Contains, Option, Some, arith}
+use Rattle.std.proofs.Common.{◌≡◌, ◌∙◌, refl, sym, ap, subst, ℕ, zero, suc, ◌<◌, ◌≤◌, Bool, true, false, ◌||◌, List, [], ◌∷◌, length, map, filter, get_or, length-take, All, Contains, Option, Some, arith}
 use Rattle.std.specs.List.{cons_option, IsDistinct}
 use Rattle.std.proofs.lemmas.Bool.{true≢false}
-use Rattle.std.proofs.lemmas.List.Elements.{All-contains, Contains-append_left, Contains-append_right}
+use Rattle.std.proofs.lemmas.List.Elements.{All-contains, All-nil, All-append, All-head, All-tail, Contains-append_left, Contains-append_right}
 use Rattle.std.proofs.lemmas.List.Sums.{AllPass-from_list_all}
 use Rattle.hz_core.specs.declared.tri.Tri.{Tri}
-use Rattle.hz_core.specs.declared.tri.Tri.TheVariants.{Zero, Unknown}
-use Rattle.hz_core.specs.Ternary.{tri_of}
+use Rattle.hz_core.specs.Ternary.{tri_of, Refines}
 use Rattle.hz_core.specs.Netlist.{Netlist, IsCircuit}
-use Rattle.hz_net.specs.Network.{network_of, value_at}
+use Rattle.hz_core.proofs.Refinements.{Refines-map, same-Refines}
+use Rattle.hz_net.specs.Network.{network_of}
 use Rattle.hz_net.specs.Passes.{algorithm_a, algorithm_b, IsResult}
 use Rattle.hz_net.specs.Starts.{IsStableStart}
 use Rattle.hz_net.specs.Variables.{expansion_of}
 use Rattle.hz_net.proofs.TernaryStarts.{result-once}
 use Rattle.hz_edges.specs.Edges.{ChangesAtMost}
+use Rattle.hz_orders.specs.declared.order.Order.{Order}
 use Rattle.hz_states.specs.States.{has_state, same_state}
 use Rattle.hz_states.specs.Key.{same_state-Decides}
 use Rattle.hz_reach.specs.Counts.{EndsByChanges}
+use Rattle.hz_timing.specs.declared.script.Assumption.{Assumption}
+use Rattle.hz_edge_reports.specs.EdgeChanges.{ChangeOf, IsNextStart}
 use Rattle.hz_explore.specs.Bursts.{applies}
-use Rattle.hz_explore.specs.Reached.{nodes_of, input_after, Settles, Leads, LeadTo, IsReached}
+use Rattle.hz_explore.specs.Reached.{nodes_of, input_after, Settles, SettlesUnder, Leads, LeadTo, IsReached}
 use Rattle.hz_explore.specs.Transitions.{Outcome, Settled, Unsettled, Transition, IsRightOutcome, IsRightTransition, AreTransitions, end_of, ends_of}
-use Rattle.hz_explore.specs.Counts.{Clean, count_of, count_of_outcome, is_hazard, is_not_settled}
-use Rattle.hz_explore.specs.Exploration.{Explored, IsExploration, all_nodes, all_transitions, hazards_in, is_whole, state_of, unsettled_in}
+use Rattle.hz_explore.specs.Counts.{Clean, count_of, count_of_outcome, is_hazard, is_not_settled, is_shown}
+use Rattle.hz_explore.specs.Exploration.{Explored, ChangesOnce, ComesTo, IsExploration, IsOfAllRuns, IsTransitionAt, all_nodes, all_transitions, hazards_in, is_whole, state_of, unsettled_in}
 use Rattle.hz_explore.specs.Progress.{IsFound, IsSoFar}
 use Rattle.hz_explore.proofs.FoundLemmas.{has-first}
 use Rattle.hz_explore.proofs.ProgressLemmas.{HasSteps, all-unmap}
+use Rattle.hz_explore.proofs.PlainLemmas.{IsPlain, plain, none-used, results-of, settles-plain, outcome-ends, never-stopped}
 use Rattle.hz_explore.proofs.ToldLemmas.{told-all}
-use Rattle.hz_explore.proofs.SafeLemmas.{clean-count, clean-safe, none-counted}
-
--- a state that is known has no X, and one list of values is that of one state
-known-bit : (bit : Bool) → tri_of bit ≡ Unknown → ⊥
-known-bit true e = cc
-known-bit false e = cc
-
-same-bit : (bit other : Bool) → tri_of bit ≡ tri_of other → bit ≡ other
-same-bit true true e = refl
-same-bit true false e = cc
-same-bit false true e = cc
-same-bit false false e = refl
-
-same-settled : (state other : List Bool) → map tri_of state ≡ map tri_of other → state ≡ other
-same-settled [] [] e = refl
-same-settled [] (bit ∷ other) e = cc
-same-settled (bit ∷ state) [] e = cc
-same-settled (bit ∷ state) (two ∷ other) e =
-    let head : tri_of bit ≡ tri_of two = ap (λ (values : List Tri). get_or values 0 Zero) e in
-    let tail : map tri_of state ≡ map tri_of other = ap (drop 1) e in
-    let first : bit ≡ two = same-bit bit two head in
-    let rest : state ≡ other = same-settled state other tail in
-    cc
-
-no-unknown : (state : List Bool) (i : ℕ) → value_at (map tri_of state) i ≡ Unknown → ⊥
-no-unknown [] i e = cc
-no-unknown (bit ∷ state) zero e = known-bit bit e
-no-unknown (bit ∷ state) (suc i) e = no-unknown state i e
+use Rattle.hz_explore.proofs.SafeLemmas.{IsSafe, clean-count, clean-safe, none-counted}
 
 -- what is listed and passes is among those that pass
 passes : {X : Type 0} (test : X → Bool) (xs : List X) (x : X) → Contains xs x → test x ≡ true → Contains (filter test xs) x
@@ -98,7 +75,7 @@ end-there netlist [] one nodes there is = absurd (omega (arith, there.1))
 end-there netlist (first ∷ transitions) one nodes there is = by there.0 there.1 there.2 (λ k few same. end-there netlist transitions one nodes (k, few, same) is)
   where
     later : (o : Outcome) → Contains (ends_of netlist transitions) nodes → Contains (cons_option (end_of netlist o) (ends_of netlist transitions)) nodes
-    later (Settled next edges) inside = Contains-append_right (nodes_of netlist next ∷ []) (ends_of netlist transitions) nodes inside
+    later (Settled next) inside = Contains-append_right (nodes_of netlist next ∷ []) (ends_of netlist transitions) nodes inside
     later (Unsettled var) inside = inside
 
     by : (k : ℕ) → k < length (first ∷ transitions) → get_or (first ∷ transitions) k one ≡ one → ((j : ℕ) → j < length transitions → get_or transitions j one ≡ one → Contains (ends_of netlist transitions) nodes) → Contains (ends_of netlist (first ∷ transitions)) nodes
@@ -116,120 +93,210 @@ transition-there (first ∷ explored) one transition there inside = by there.0 t
     by zero few same rest = Contains-append_left first.transitions (all_transitions explored) transition (subst (λ (e : Explored). Contains e.transitions transition) (sym same) inside)
     by (suc k) few same rest = Contains-append_right first.transitions (all_transitions explored) transition (rest k (omega (arith, few)) same)
 
--- a transition that counts as settled does settle
-settles-if : (netlist : Netlist) (cap : ℕ) (one : Transition) (outcome : Outcome) → IsRightTransition netlist cap one → IsRightOutcome netlist cap one outcome → is_not_settled (count_of_outcome netlist one outcome) ≡ false → (next : List Bool) × Settles netlist one.start one.burst next
-settles-if netlist cap one (Settled next edges) right found settled = (next, record { a = one.a; b = one.b; results = right.results; settled = found.0 })
-settles-if netlist cap one (Unsettled var) right found settled = absurd (true≢false settled)
+-- what holds of the transitions of each state holds of all
+all-of : (P : Transition → Type 0) (explored : List Explored) → All (λ (one : Explored). All P one.transitions) explored → All P (all_transitions explored)
+all-of P [] all = All-nil P
+all-of P (one ∷ explored) all =
+    All-append P one.transitions (all_transitions explored) (All-head (λ (e : Explored). All P e.transitions) one explored all) (all-of P explored (All-tail (λ (e : Explored). All P e.transitions) one explored all))
 
-module _ (netlist : Netlist) (cap : ℕ) (bursts : List (List (ℕ × Bool))) (start : List Bool) (steps : HasSteps netlist cap) (explored : List Explored) (are : All (λ (one : Explored). AreTransitions netlist cap bursts (state_of netlist one) one.transitions) explored) (whole : is_whole netlist explored ≡ true) where
-  -- a right transition ends where its burst settles
-  ends-so : (one : Transition) (next : List Bool) (outcome : Outcome) → IsRightTransition netlist cap one → Settles netlist one.start one.burst next → one.outcome ≡ outcome → end_of netlist one.outcome ≡ Some (nodes_of netlist next)
-  ends-so one next outcome right settles is = by outcome (subst (IsRightOutcome netlist cap one) is right.outcome) (ap (end_of netlist) is)
-    where
-      input : List Bool
-      input = input_after netlist one.start one.burst
+-- a state with its stability: it is there, and at rest
+pub record IsThere (netlist : Netlist) (explored : List Explored) (state : List Bool) : Type 0 where
+  pub has : has_state (all_nodes explored) (nodes_of netlist state) ≡ true
+  pub stable : IsStableStart netlist state
 
-      same_a : one.a ≡ settles.a
-      same_a = result-once (algorithm_a (network_of netlist) input one.start) one.a settles.a right.results.a_result settles.results.a_result
+-- a transition that is not unsettled settles
+settled-if : (netlist : Netlist) (found : ChangeOf) (outcome : Outcome) → is_not_settled (count_of_outcome netlist found outcome) ≡ false → (next : List Bool) × (outcome ≡ Settled next)
+settled-if netlist found (Settled next) settled = (next, refl)
+settled-if netlist found (Unsettled var) settled = absurd (true≢false settled)
 
-      same_b : one.b ≡ settles.b
-      same_b = result-once (algorithm_b (network_of netlist) input settles.a) one.b settles.b (subst (λ (a : List Tri). IsResult (algorithm_b (network_of netlist) input a) one.b) same_a right.results.b_result) settles.results.b_result
-
-      by : (o : Outcome) → IsRightOutcome netlist cap one o → end_of netlist one.outcome ≡ end_of netlist o → end_of netlist one.outcome ≡ Some (nodes_of netlist next)
-      by (Settled other edges) found same =
-          let equal : other ≡ next = same-settled other next (sym found.0 ∙ (same_b ∙ settles.settled)) in
-          same ∙ ap (λ (state : List Bool). Some (nodes_of netlist state)) equal
-      by (Unsettled var) found same = absurd (no-unknown next var (subst (λ (values : List Tri). value_at values var ≡ Unknown) (same_b ∙ settles.settled) found.here))
-
+module _ (netlist : Netlist) (cap : ℕ) (assumptions : List Assumption) (bursts : List (List (ℕ × Bool))) (start : List Bool) (steps : HasSteps netlist cap assumptions) (explored : List Explored)
+    (are : All (λ (one : Explored). AreTransitions netlist cap assumptions bursts (state_of netlist one) one.transitions) explored) (whole : is_whole netlist explored ≡ true) where
   -- each burst that applies to a state that is there has its transition
-  transition-at : (state : List Bool) (burst : List (ℕ × Bool)) → IsStableStart netlist state → has_state (all_nodes explored) (nodes_of netlist state) ≡ true → Contains bursts burst → applies state burst ≡ true →
-      (one : Transition) × Contains (all_transitions explored) one × IsRightTransition netlist cap one × (one.start ≡ state) × (one.burst ≡ burst)
-  transition-at state burst stable has listed can =
-      let here = explored-there netlist explored (nodes_of netlist state) has in
-      let same : state_of netlist here.0 ≡ state = ap (expansion_of netlist) here.2 ∙ sym (steps.expands state stable) in
-      let transitions : AreTransitions netlist cap bursts state here.0.transitions =
-      subst (λ (from : List Bool). AreTransitions netlist cap bursts from here.0.transitions) same (All-contains (λ (one : Explored). AreTransitions netlist cap bursts (state_of netlist one) one.transitions) explored here.0 are here.1) in
+  pub transition-at : (state : List Bool) (burst : List (ℕ × Bool)) → IsThere netlist explored state → Contains bursts burst → applies state burst ≡ true → (one : Transition) × IsTransitionAt explored state burst one × IsRightTransition netlist cap assumptions one
+  transition-at state burst there listed can =
+      let here = explored-there netlist explored (nodes_of netlist state) there.has in
+      let same : state_of netlist here.0 ≡ state = ap (expansion_of netlist) here.2 ∙ sym (steps.expands state there.stable) in
+      let transitions : AreTransitions netlist cap assumptions bursts state here.0.transitions =
+      subst (λ (from : List Bool). AreTransitions netlist cap assumptions bursts from here.0.transitions) same
+      (All-contains (λ (one : Explored). AreTransitions netlist cap assumptions bursts (state_of netlist one) one.transitions) explored here.0 are here.1) in
       let found = unmapped (λ (t : Transition). t.burst) here.0.transitions burst
       (subst (λ (list : List (List (ℕ × Bool))). Contains list burst) (sym transitions.each_once) (passes (applies state) bursts burst listed can)) in
       let one : Transition = found.0 in (
         one,
-        transition-there explored here.0 one here.1 found.1,
-        All-contains (IsRightTransition netlist cap) here.0.transitions one transitions.right found.1,
-        All-contains (λ (t : Transition). t.start ≡ state) here.0.transitions one transitions.start found.1,
-        found.2,
+        record {
+          listed = transition-there explored here.0 one here.1 found.1;
+          start = All-contains (λ (t : Transition). t.start ≡ state) here.0.transitions one transitions.start found.1;
+          by = found.2;
+        },
+        All-contains (IsRightTransition netlist cap assumptions) here.0.transitions one transitions.right found.1,
       )
 
-  -- one burst more leads to a state that is there
-  led-there : (state next : List Bool) (burst : List (ℕ × Bool)) → IsStableStart netlist state → has_state (all_nodes explored) (nodes_of netlist state) ≡ true → Leads netlist bursts state burst next → has_state (all_nodes explored) (nodes_of netlist next) ≡ true
-  led-there state next burst stable has leads =
-      let at = transition-at state burst stable has leads.listed leads.applies in
-      let one : Transition = at.0 in
-      let settles : Settles netlist one.start one.burst next =
-      subst (λ (from : List Bool). Settles netlist from one.burst next) (sym at.3) (subst (λ (b : List (ℕ × Bool)). Settles netlist state b next) (sym at.4) leads.settles) in
-      let ends = ends-so one next one.outcome at.2 settles refl in
-      let inside = end-there netlist (all_transitions explored) one (nodes_of netlist next) at.1 ends in
-      All-contains (λ (nodes : List Bool). has_state (all_nodes explored) nodes ≡ true) (ends_of netlist (all_transitions explored)) (nodes_of netlist next)
-      (AllPass-from_list_all (has_state (all_nodes explored)) (ends_of netlist (all_transitions explored)) whole) inside
+  -- a transition that is listed is right
+  right-at : (one : Transition) → Contains (all_transitions explored) one → IsRightTransition netlist cap assumptions one
+  right-at one listed =
+      All-contains (IsRightTransition netlist cap assumptions) (all_transitions explored) one (all-of (IsRightTransition netlist cap assumptions) explored (λ k d few. (are k d few).right)) listed
 
-  -- so do bursts one after the other
-  pub all-there : (path : List (List (ℕ × Bool))) (state last : List Bool) → IsStableStart netlist state → has_state (all_nodes explored) (nodes_of netlist state) ≡ true → LeadTo netlist bursts state path last → has_state (all_nodes explored) (nodes_of netlist last) ≡ true
-  all-there [] state last stable has leads = subst (λ (s : List Bool). has_state (all_nodes explored) (nodes_of netlist s) ≡ true) leads has
-  all-there (burst ∷ path) state last stable has leads =
-      all-there path leads.0 last (steps.stable state leads.0 burst stable leads.1.settles) (led-there state leads.0 burst stable has leads.1) leads.2
+  -- where it settles is there
+  pub settled-there : (one : Transition) (next : List Bool) → Contains (all_transitions explored) one → one.outcome ≡ Settled next → IsThere netlist explored next
+  settled-there one next listed settled =
+      let outcome : IsRightOutcome netlist one.found (Settled next) = subst (IsRightOutcome netlist one.found) settled (right-at one listed).outcome in
+      let inside = end-there netlist (all_transitions explored) one (nodes_of netlist next) listed (ap (end_of netlist) settled) in
+      record {
+        has = All-contains (λ (nodes : List Bool). has_state (all_nodes explored) nodes ≡ true) (ends_of netlist (all_transitions explored)) (nodes_of netlist next)
+            (AllPass-from_list_all (has_state (all_nodes explored)) (ends_of netlist (all_transitions explored)) whole) inside;
+        stable = outcome.stable;
+      }
 
-  -- and where they lead is stable
-  pub all-stable : (path : List (List (ℕ × Bool))) (state last : List Bool) → IsStableStart netlist state → LeadTo netlist bursts state path last → IsStableStart netlist last
-  all-stable [] state last stable leads = subst (IsStableStart netlist) leads stable
-  all-stable (burst ∷ path) state last stable leads = all-stable path leads.0 last (steps.stable state leads.0 burst stable leads.1.settles) leads.2
+  -- where a burst comes to along runs that keep its orders is there
+  comes-there : (state next : List Bool) (burst : List (ℕ × Bool)) → IsThere netlist explored state → ComesTo netlist explored state burst next → IsThere netlist explored next
+  comes-there state next burst there comes =
+      let one = comes.transition in
+      let right = right-at one comes.at.listed in
+      let outcome : IsRightOutcome netlist one.found (Settled comes.end) = subst (IsRightOutcome netlist one.found) comes.settled right.outcome in
+      let long : length one.found.start ≡ length (network_of netlist) = ap (length {A = Bool}) (right.from.begins ∙ comes.at.start) ∙ there.stable.long in
+      let refines : Refines next one.found.ends = outcome-ends netlist cap one.found next one.found.used long right.right.a right.right.b right.right.edges comes.outcome in
+      let same : next ≡ comes.end = same-Refines next comes.end (subst (Refines next) outcome.settled refines) in
+      subst (IsThere netlist explored) (sym same) (settled-there one comes.end comes.at.listed comes.settled)
 
-  -- if no transition is unsettled, each burst settles
-  pub all-settle : unsettled_in netlist explored ≡ 0 → (state : List Bool) (burst : List (ℕ × Bool)) → IsStableStart netlist state → has_state (all_nodes explored) (nodes_of netlist state) ≡ true → Contains bursts burst → applies state burst ≡ true →
-      (next : List Bool) × Settles netlist state burst next
-  all-settle unsettled state burst stable has listed can =
-      let at = transition-at state burst stable has listed can in
-      let settled = settles-if netlist cap at.0 at.0.outcome at.2 at.2.outcome (none-counted (λ (t : Transition). is_not_settled (count_of netlist t)) (all_transitions explored) at.0 unsettled at.1) in (
-        settled.0,
-        subst (λ (from : List Bool). Settles netlist from burst settled.0) at.3 (subst (λ (b : List (ℕ × Bool)). Settles netlist at.0.start b settled.0) at.4 settled.1),
-      )
+  pub all-there : (path : List (List (ℕ × Bool))) (state last : List Bool) → IsThere netlist explored state → LeadTo (ComesTo netlist explored) bursts state path last → IsThere netlist explored last
+  all-there [] state last there leads = subst (IsThere netlist explored) leads there
+  all-there (burst ∷ path) state last there leads = all-there path leads.0 last (comes-there state leads.0 burst there leads.1.settled) leads.2
 
-  -- if no transition has a hazard or is unsettled, each node changes at most once in each burst
-  pub all-safe : hazards_in netlist explored ≡ 0 → unsettled_in netlist explored ≡ 0 → (state : List Bool) (burst : List (ℕ × Bool)) (i : ℕ) → IsStableStart netlist state → has_state (all_nodes explored) (nodes_of netlist state) ≡ true → Contains bursts burst → applies state burst ≡ true → i < length netlist.names →
-      ChangesAtMost (network_of netlist) (input_after netlist state burst) state i 1
-  all-safe hazards unsettled state burst i stable has listed can node =
-      let at = transition-at state burst stable has listed can in
-      let one : Transition = at.0 in
-      let clean : count_of netlist one ≡ Clean =
-      clean-count (count_of netlist one) (none-counted (λ (t : Transition). is_hazard (count_of netlist t)) (all_transitions explored) one hazards at.1)
-      (none-counted (λ (t : Transition). is_not_settled (count_of netlist t)) (all_transitions explored) one unsettled at.1) in
-      let inside : length netlist.names ≤ length (network_of netlist) = omega (arith, steps.long state stable, stable.long, length-take (length netlist.names) state) in
-      let once = clean-safe netlist cap one i clean at.2.outcome node inside in
-      subst (λ (from : List Bool). ChangesAtMost (network_of netlist) (input_after netlist from burst) from i 1) at.3
-      (subst (λ (b : List (ℕ × Bool)). ChangesAtMost (network_of netlist) (input_after netlist one.start b) one.start i 1) at.4 once)
+  module _ (hazards : hazards_in netlist explored ≡ 0) (unsettled : unsettled_in netlist explored ≡ 0) (state : List Bool) (burst : List (ℕ × Bool)) (there : IsThere netlist explored state) (listed : Contains bursts burst) (can : applies state burst ≡ true) where
+    -- if no transition has a hazard or is unsettled, each is safe
+    pub all-safe : (one : Transition) × IsTransitionAt explored state burst one × IsRightTransition netlist cap assumptions one × IsSafe netlist one.found
+    all-safe =
+        let at = transition-at state burst there listed can in
+        let one : Transition = at.0 in
+        let clean : count_of netlist one ≡ Clean =
+        clean-count (count_of netlist one) (none-counted (λ (t : Transition). is_hazard (count_of netlist t)) (all_transitions explored) one hazards at.1.listed)
+        (none-counted (λ (t : Transition). is_not_settled (count_of netlist t)) (all_transitions explored) one unsettled at.1.listed) in
+        let inside : length netlist.names ≤ length (network_of netlist) = omega (arith, steps.long state there.stable, there.stable.long, length-take (length netlist.names) state) in
+        (one, at.1, at.2, clean-safe netlist cap assumptions one clean at.2 inside)
+
+    -- in the words of the state and the burst
+    pub safe-at : (one : Transition) × IsTransitionAt explored state burst one × (is_shown one.found.used one.found.kept ≡ true) × ((i : ℕ) → i < length netlist.names → ChangesOnce one.found.used (network_of netlist) (input_after netlist state burst) state i)
+    safe-at =
+        let at = all-safe in
+        let one : Transition = at.0 in
+        let begins : one.found.start ≡ state = at.2.from.begins ∙ at.1.start in
+        let given : one.found.input ≡ input_after netlist state burst =
+        at.2.from.given ∙ (ap (λ (s : List Bool). input_after netlist s one.burst) at.1.start ∙ ap (input_after netlist state) at.1.by) in (
+          one,
+          at.1,
+          at.3.shown,
+          λ i node.
+              subst (λ (from : List Bool). ChangesOnce one.found.used (network_of netlist) (input_after netlist state burst) from i) begins
+              (subst (λ (input : List Bool). ChangesOnce one.found.used (network_of netlist) input one.found.start i) given (at.3.once i node)),
+        )
+
+-- If nothing is assumed, an exploration speaks of all runs.
+module _ (netlist : Netlist) (cap : ℕ) (bursts : List (List (ℕ × Bool))) (start : List Bool) (steps : HasSteps netlist cap []) (explored : List Explored) (are : All (λ (one : Explored). AreTransitions netlist cap [] bursts (state_of netlist one) one.transitions) explored) where
+  -- where bursts lead under no assumption, they lead whatever the delays
+  leads-plain : (path : List (List (ℕ × Bool))) (state last : List Bool) → LeadTo (SettlesUnder netlist cap []) bursts state path last → LeadTo (Settles netlist) bursts state path last
+  leads-plain [] state last leads = leads
+  leads-plain (burst ∷ path) state last leads =
+      let first : Leads (Settles netlist) bursts state burst leads.0 = record { listed = leads.1.listed; applies = leads.1.applies; settled = settles-plain netlist cap state leads.0 burst leads.1.settled } in
+      (leads.0, first, leads-plain path leads.0 last leads.2)
+
+  pub reached-plain : (state : List Bool) → IsReached (SettlesUnder netlist cap []) bursts start state → IsReached (Settles netlist) bursts start state
+  reached-plain state reached = (reached.0, leads-plain reached.0 start state reached.1)
+
+  module _ (whole : is_whole netlist explored ≡ true) where
+    -- a right transition settles where its burst does
+    settles-so : (one : Transition) (state next : List Bool) (burst : List (ℕ × Bool)) (outcome : Outcome) → IsTransitionAt explored state burst one → IsRightTransition netlist cap [] one → Settles netlist state burst next → IsRightOutcome netlist one.found outcome → outcome ≡ Settled next
+    settles-so one state next burst outcome at right settles is = by outcome is
+      where
+        is_plain : IsPlain netlist cap one.found
+        is_plain = plain netlist cap one.found right.right
+
+        results = results-of netlist cap one.start one.burst one.found right.from right.right
+
+        same_a : one.found.a ≡ settles.a
+        same_a =
+            result-once (algorithm_a (network_of netlist) (input_after netlist state burst) state) one.found.a settles.a
+            (subst (λ (b : List (ℕ × Bool)). IsResult (algorithm_a (network_of netlist) (input_after netlist state b) state) one.found.a) at.by
+            (subst (λ (s : List Bool). IsResult (algorithm_a (network_of netlist) (input_after netlist s one.burst) s) one.found.a) at.start results.a_result)) settles.results.a_result
+
+        same_b : one.found.b ≡ settles.b
+        same_b =
+            result-once (algorithm_b (network_of netlist) (input_after netlist state burst) settles.a) one.found.b settles.b
+            (subst (λ (a : List Tri). IsResult (algorithm_b (network_of netlist) (input_after netlist state burst) a) one.found.b) same_a
+            (subst (λ (b : List (ℕ × Bool)). IsResult (algorithm_b (network_of netlist) (input_after netlist state b) one.found.a) one.found.b) at.by
+            (subst (λ (s : List Bool). IsResult (algorithm_b (network_of netlist) (input_after netlist s one.burst) one.found.a) one.found.b) at.start results.b_result))) settles.results.b_result
+
+        by : (o : Outcome) → IsRightOutcome netlist one.found o → o ≡ Settled next
+        by (Settled other) found =
+            let values : map tri_of other ≡ map tri_of next = sym found.settled ∙ (is_plain.ends ∙ (same_b ∙ settles.settled)) in
+            ap Settled (same-Refines other next (subst (Refines other) values (Refines-map other)))
+        by (Unsettled var) found = absurd (never-stopped netlist cap one.found next var is_plain (same_b ∙ settles.settled) found)
+
+    -- so bursts lead to states that are there
+    plain-there : (path : List (List (ℕ × Bool))) (state last : List Bool) → IsThere netlist explored state → LeadTo (Settles netlist) bursts state path last → IsThere netlist explored last
+    plain-there [] state last there leads = subst (IsThere netlist explored) leads there
+    plain-there (burst ∷ path) state last there leads =
+        let at = transition-at netlist cap [] bursts start steps explored are whole state burst there leads.1.listed leads.1.applies in
+        let settled = settles-so at.0 state leads.0 burst at.0.outcome at.1 at.2 leads.1.settled at.2.outcome in
+        plain-there path leads.0 last (settled-there netlist cap [] bursts start steps explored are whole at.0 leads.0 at.1.listed settled) leads.2
+
+    -- if no transition is unsettled, each burst settles
+    plain-settles : unsettled_in netlist explored ≡ 0 → (state : List Bool) (burst : List (ℕ × Bool)) → IsThere netlist explored state → Contains bursts burst → applies state burst ≡ true → (next : List Bool) × Settles netlist state burst next
+    plain-settles unsettled state burst there listed can =
+        let at = transition-at netlist cap [] bursts start steps explored are whole state burst there listed can in
+        let one : Transition = at.0 in
+        let settled = settled-if netlist one.found one.outcome (none-counted (λ (t : Transition). is_not_settled (count_of netlist t)) (all_transitions explored) one unsettled at.1.listed) in
+        let outcome : IsRightOutcome netlist one.found (Settled settled.0) = subst (IsRightOutcome netlist one.found) settled.1 at.2.outcome in
+        let under : SettlesUnder netlist cap [] one.start one.burst settled.0 = record { found = one.found; from = at.2.from; right = at.2.right; settled = outcome } in (
+          settled.0,
+          settles-plain netlist cap state settled.0 burst
+              (subst (λ (s : List Bool). SettlesUnder netlist cap [] s burst settled.0) at.1.start (subst (λ (b : List (ℕ × Bool)). SettlesUnder netlist cap [] one.start b settled.0) at.1.by under)),
+        )
+
+    -- if none has a hazard either, each node changes at most once
+    plain-safe : hazards_in netlist explored ≡ 0 → unsettled_in netlist explored ≡ 0 → (state : List Bool) (burst : List (ℕ × Bool)) (i : ℕ) → IsThere netlist explored state → Contains bursts burst → applies state burst ≡ true → i < length netlist.names →
+        ChangesAtMost (network_of netlist) (input_after netlist state burst) state i 1
+    plain-safe hazards unsettled state burst i there listed can node =
+        let at = safe-at netlist cap [] bursts start steps explored are whole hazards unsettled state burst there listed can in
+        let right = all-safe netlist cap [] bursts start steps explored are whole hazards unsettled state burst there listed can in
+        subst (λ (used : List Order). ChangesOnce used (network_of netlist) (input_after netlist state burst) state i) (none-used netlist cap right.0.found right.2.right) (at.3 i node)
+
+  pub of-all-runs : All (λ (one : Explored). IsReached (SettlesUnder netlist cap []) bursts start (state_of netlist one)) explored → IsThere netlist explored start → IsOfAllRuns netlist bursts start explored
+  of-all-runs led first = record {
+    reached = λ k d few. reached-plain (state_of netlist (get_or explored k d)) (led k d few);
+    complete = λ whole state reached. (plain-there whole reached.0 start state first reached.1).has;
+    settles = λ whole unsettled state burst reached. plain-settles whole unsettled state burst (plain-there whole reached.0 start state first reached.1);
+    safe = λ whole hazards unsettled state burst i reached. plain-safe whole hazards unsettled state burst i (plain-there whole reached.0 start state first reached.1);
+  }
+
+-- so it does if its assumptions are none
+of-none : (netlist : Netlist) (cap : ℕ) (assumptions : List Assumption) (bursts : List (List (ℕ × Bool))) (start : List Bool) (explored : List Explored) → assumptions ≡ [] → HasSteps netlist cap assumptions → All (λ (one : Explored). AreTransitions netlist cap assumptions bursts (state_of netlist one) one.transitions) explored →
+    All (λ (one : Explored). IsReached (SettlesUnder netlist cap assumptions) bursts start (state_of netlist one)) explored → IsThere netlist explored start → IsOfAllRuns netlist bursts start explored
+of-none netlist cap [] bursts start explored none steps are led first = of-all-runs netlist cap bursts start steps explored are led first
+of-none netlist cap (one ∷ assumptions) bursts start explored none steps are led first = absurd cc
 
 -- once each state that was found is explored, the exploration is done
-pub is-exploration : EndsByChanges → (netlist : Netlist) (cap : ℕ) (bursts : List (List (ℕ × Bool))) (start : List Bool) → IsCircuit netlist → HasSteps netlist cap → IsStableStart netlist start → (explored : List Explored) (found : List (List Bool)) → IsSoFar netlist cap bursts start explored found → found ≡ all_nodes explored →
-    IsExploration netlist cap bursts start explored
-is-exploration ends netlist cap bursts start circuit steps stable explored found so_far done =
-    let right : All (λ (one : Explored). IsFound netlist bursts start one.nodes) explored =
-    all-unmap (IsFound netlist bursts start) (λ (one : Explored). one.nodes) explored (subst (All (IsFound netlist bursts start)) done so_far.right) in
+pub is-exploration : EndsByChanges → (netlist : Netlist) (cap : ℕ) (assumptions : List Assumption) (bursts : List (List (ℕ × Bool))) (start : List Bool) → IsCircuit netlist → HasSteps netlist cap assumptions → IsStableStart netlist start → (explored : List Explored) (found : List (List Bool)) →
+    IsSoFar netlist cap assumptions bursts start explored found → found ≡ all_nodes explored → IsExploration netlist cap assumptions bursts start explored
+is-exploration ends netlist cap assumptions bursts start circuit steps stable explored found so_far done =
+    let right : All (λ (one : Explored). IsFound netlist cap assumptions bursts start one.nodes) explored =
+    all-unmap (IsFound netlist cap assumptions bursts start) (λ (one : Explored). one.nodes) explored (subst (All (IsFound netlist cap assumptions bursts start)) done so_far.right) in
     let order = sym done ∙ so_far.order in
-    let first : has_state (all_nodes explored) (nodes_of netlist start) ≡ true =
-    subst (λ (list : List (List Bool)). has_state list (nodes_of netlist start) ≡ true) (sym order) (has-first (nodes_of netlist start) (ends_of netlist (all_transitions explored))) in
-    let complete : is_whole netlist explored ≡ true → (state : List Bool) → IsReached netlist bursts start state → has_state (all_nodes explored) (nodes_of netlist state) ≡ true =
-    λ whole state reached. all-there netlist cap bursts start steps explored so_far.transitions whole reached.0 start state stable first reached.1 in
+    let first : IsThere netlist explored start = record {
+      has = subst (λ (list : List (List Bool)). has_state list (nodes_of netlist start) ≡ true) (sym order) (has-first (nodes_of netlist start) (ends_of netlist (all_transitions explored)));
+      stable = stable;
+    } in
+    let led : All (λ (one : Explored). IsReached (SettlesUnder netlist cap assumptions) bursts start (state_of netlist one)) explored = λ k d few. (right k d few).led in
     record {
       transitions = so_far.transitions;
       order = order;
       told = λ k d few.
-          told-all ends netlist cap (state_of netlist (get_or explored k d)) (get_or explored k d).transitions circuit (right k d few).stable (so_far.transitions k d few).start (so_far.transitions k d few).right;
+          told-all ends netlist cap assumptions (state_of netlist (get_or explored k d)) (get_or explored k d).transitions circuit (right k d few).stable (so_far.transitions k d few).start (so_far.transitions k d few).right;
       stable = λ k d few. (right k d few).stable;
-      reached = λ k d few. (right k d few).reached;
+      led = led;
       once = subst (IsDistinct same_state) done so_far.once;
-      complete = complete;
-      settles = λ whole unsettled state burst reached.
-          all-settle netlist cap bursts start steps explored so_far.transitions whole unsettled state burst
-          (all-stable netlist cap bursts start steps explored so_far.transitions whole reached.0 start state stable reached.1) (complete whole state reached);
-      safe = λ whole hazards unsettled state burst i reached.
-          all-safe netlist cap bursts start steps explored so_far.transitions whole hazards unsettled state burst i
-          (all-stable netlist cap bursts start steps explored so_far.transitions whole reached.0 start state stable reached.1) (complete whole state reached);
+      stays = λ whole state reached. (all-there netlist cap assumptions bursts start steps explored so_far.transitions whole reached.0 start state first reached.1).has;
+      safe = λ whole hazards unsettled state burst reached.
+          safe-at netlist cap assumptions bursts start steps explored so_far.transitions whole hazards unsettled state burst
+          (all-there netlist cap assumptions bursts start steps explored so_far.transitions whole reached.0 start state first reached.1);
+      all_runs = λ none. of-none netlist cap assumptions bursts start explored none steps so_far.transitions led first;
     }

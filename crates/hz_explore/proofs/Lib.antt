@@ -4,13 +4,15 @@ pub mod FoundLemmas
 pub mod TransitionLemmas
 -- An exploration state by state
 pub mod ProgressLemmas
--- A clean transition: each node changes at most once in it, along every run
+-- A change that uses no order: what is found of it is right of all runs
+pub mod PlainLemmas
+-- A clean transition: each node changes at most once in it, along every run that keeps the orders it uses
 pub mod SafeLemmas
 -- In a transition that settles each node is steady or counted
 pub mod ToldLemmas
--- An exploration that is done: if no state was left out, it has every state that bursts lead to
+-- An exploration that is done: if no state was left out, it has every state to which bursts come
 pub mod ExplorationLemmas
--- Every burst from a stable state comes to something, by the laws of the crates below
+-- Every burst from a stable state comes to something, by the law of changes
 pub mod StepLemmas
 -- The lines of states, one state after the other
 pub mod TextLemmas

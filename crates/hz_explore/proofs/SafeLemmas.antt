@@ -1,5 +1,5 @@
--- A clean transition: each node changes at most once in it, along every run.
-use Rattle.std.proofs.Common.{◌≡◌, ◌∙◌, refl, sym, ap, subst, ℕ, ◌<◌, ◌≤◌, Bool, true, false, not, cond, List, length, Option, Some, None, IfSome, Contains, count_by, nat_le, nat_eq, le_trans, zero-add, arith}
+-- A clean transition: each node changes at most once in it, along every run that keeps the orders it uses.
+use Rattle.std.proofs.Common.{◌≡◌, ◌∙◌, refl, sym, ap, subst, ℕ, ◌<◌, ◌≤◌, Bool, true, false, ◌&&◌, not, cond, List, [], ◌∷◌, length, Option, Some, None, IfSome, Contains, count_by, nat_le, nat_eq, le_trans, zero-add, arith}
 use Rattle.std.specs.List.{list_all}
 use Rattle.std.proofs.lemmas.Bool.{true≢false}
 use Rattle.std.proofs.lemmas.Bool.Decides.{nat_tests}
@@ -16,9 +16,13 @@ use Rattle.hz_bounds.specs.declared.range.EdgeClass.{EdgeClass}
 use Rattle.hz_bounds.specs.declared.range.EdgeClass.TheVariants.{Steady}
 use Rattle.hz_bounds.specs.Ranges.{class_by_end, edge_class_of, is_bounded, settled_class_of}
 use Rattle.hz_edges.specs.Edges.{ChangesAtMost, range_at}
-use Rattle.hz_explore.specs.Reached.{input_after}
-use Rattle.hz_explore.specs.Transitions.{Outcome, Settled, Unsettled, Transition, IsRightOutcome, class_at, node_classes}
-use Rattle.hz_explore.specs.Counts.{Count, Clean, Hazard, NotSettled, count_of, count_of_classes, count_of_outcome, is_clean_class, is_hazard, is_not_settled}
+use Rattle.hz_orders.specs.declared.order.Order.{Order}
+use Rattle.hz_timing.specs.declared.script.Assumption.{Assumption}
+use Rattle.hz_edge_reports.specs.OrderedEdges.{ChangesAtMostUnder}
+use Rattle.hz_edge_reports.specs.EdgeChanges.{ChangeOf, AreRightUnder}
+use Rattle.hz_explore.specs.Transitions.{Outcome, Settled, Unsettled, Transition, IsRightTransition, class_at, node_classes}
+use Rattle.hz_explore.specs.Counts.{Count, Clean, Hazard, NotSettled, count_if, count_of, count_of_outcome, is_clean_change, is_clean_class, is_hazard, is_not_settled, is_shown}
+use Rattle.hz_explore.specs.Exploration.{ChangesOnce}
 
 -- what is counted nowhere is not there
 pub none-counted : {X : Type 0} (test : X → Bool) (xs : List X) (x : X) → count_by test xs ≡ 0 → Contains xs x → test x ≡ false
@@ -76,22 +80,43 @@ once-at-most net input start i (Some most) once bound =
     let few : most ≤ 1 = grind (arith, nat_tests) in
     λ steps run. le_trans (bound steps run) few
 
--- so it does in a clean transition
-pub clean-safe : (netlist : Netlist) (cap : ℕ) (one : Transition) (i : ℕ) → count_of netlist one ≡ Clean → IsRightOutcome netlist cap one one.outcome → i < length netlist.names → length netlist.names ≤ length (network_of netlist) →
-    ChangesAtMost (network_of netlist) (input_after netlist one.start one.burst) one.start i 1
-clean-safe netlist cap one i clean right node inside = by one.outcome clean right
-  where
-    not-clean : (all : Bool) → count_of_classes all ≡ Clean → all ≡ true
-    not-clean true e = refl
-    not-clean false e = absurd cc
+once-under : (orders : List Order) (net : List Driver) (input start : List Bool) (i : ℕ) (most : Option ℕ) → is_bounded most 1 ≡ true → IfSome most (ChangesAtMostUnder orders net input start i) → ChangesAtMostUnder orders net input start i 1
+once-under orders net input start i None once bound = absurd (true≢false (sym once))
+once-under orders net input start i (Some most) once bound =
+    let few : most ≤ 1 = grind (arith, nat_tests) in
+    λ steps run keeps. le_trans (bound steps run keeps) few
 
-    by : (outcome : Outcome) → count_of_outcome netlist one outcome ≡ Clean → IsRightOutcome netlist cap one outcome → ChangesAtMost (network_of netlist) (input_after netlist one.start one.burst) one.start i 1
-    by (Settled next edges) e found =
-        let all = not-clean (list_all is_clean_class (node_classes netlist one edges)) e in
-        let long : i < length (node_classes netlist one edges) = omega (arith, node, length-map-range_with_len (class_at one edges) 0 (length netlist.names)) in
-        let here : is_clean_class (class_at one edges i) ≡ true =
-        subst (λ (class : EdgeClass). is_clean_class class ≡ true) (get_or-map-range_with_len (class_at one edges) 0 (length netlist.names) i i Steady node (zero-add i))
-        (AllPass-from_list_all is_clean_class (node_classes netlist one edges) all i Steady long) in
-        once-at-most (network_of netlist) (input_after netlist one.start one.burst) one.start i (range_at edges i).most (clean-bounded _ _ (range_at edges i) here)
-        (found.1.bound i (omega (arith, node, inside)))
-    by (Unsettled var) e found = absurd cc
+once-by : (net : List Driver) (cap : ℕ) (found : ChangeOf) (i : ℕ) (used : List Order) → AreRightUnder used net cap found → i < length net → is_bounded (range_at found.edges i).most 1 ≡ true → ChangesOnce used net found.input found.start i
+once-by net cap found i [] right inside once = once-at-most net found.input found.start i (range_at found.edges i).most once (right.1.bound i inside)
+once-by net cap found i (order ∷ orders) right inside once = once-under (order ∷ orders) net found.input found.start i (range_at found.edges i).most once (right.bound i inside)
+
+clean-if : (clean : Bool) → count_if clean ≡ Clean → clean ≡ true
+clean-if true e = refl
+clean-if false e = absurd cc
+
+both-true : (a b : Bool) → (a && b) ≡ true → (a ≡ true) × (b ≡ true)
+both-true true true e = (refl, refl)
+both-true true false e = absurd (true≢false (sym e))
+both-true false b e = absurd (true≢false (sym e))
+
+clean-settled : (netlist : Netlist) (found : ChangeOf) (outcome : Outcome) → count_of_outcome netlist found outcome ≡ Clean → is_clean_change netlist found ≡ true
+clean-settled netlist found (Settled next) e = clean-if (is_clean_change netlist found) e
+clean-settled netlist found (Unsettled var) e = absurd cc
+
+-- what a clean transition promises: a run that keeps its orders is shown, and along such runs each node changes at most once
+pub record IsSafe (netlist : Netlist) (found : ChangeOf) : Type 0 where
+  pub shown : is_shown found.used found.kept ≡ true
+  pub once : (i : ℕ) → i < length netlist.names → ChangesOnce found.used (network_of netlist) found.input found.start i
+
+pub clean-safe : (netlist : Netlist) (cap : ℕ) (assumptions : List Assumption) (one : Transition) → count_of netlist one ≡ Clean → IsRightTransition netlist cap assumptions one → length netlist.names ≤ length (network_of netlist) → IsSafe netlist one.found
+clean-safe netlist cap assumptions one clean right inside =
+    let both = both-true (list_all is_clean_class (node_classes netlist one.found)) (is_shown one.found.used one.found.kept) (clean-settled netlist one.found one.outcome clean) in
+    record {
+      shown = both.1;
+      once = λ i node.
+          let long : i < length (node_classes netlist one.found) = omega (arith, node, length-map-range_with_len (class_at one.found) 0 (length netlist.names)) in
+          let here : is_clean_class (class_at one.found i) ≡ true =
+          subst (λ (class : EdgeClass). is_clean_class class ≡ true) (get_or-map-range_with_len (class_at one.found) 0 (length netlist.names) i i Steady node (zero-add i))
+          (AllPass-from_list_all is_clean_class (node_classes netlist one.found) both.0 i Steady long) in
+          once-by (network_of netlist) cap one.found i one.found.used right.right.edges (omega (arith, node, inside)) (clean-bounded _ _ (range_at one.found.edges i) here);
+    }
