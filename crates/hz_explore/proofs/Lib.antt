@@ -26,3 +26,5 @@ pub mod BurstLemmas
 pub mod CountLemmas
 -- One transition that is made, and its line
 pub mod ChangeLemmas
+-- The only part of a script
+pub mod OnlyParts

@@ -5,64 +5,40 @@ use Rattle.std.proofs.lemmas.List.{get_or_default}
 use Rattle.std.proofs.lemmas.List.FromFn.{map-range_with_len_more}
 use Rattle.hz_core.specs.declared.tri.Tri.TheVariants.{Zero}
 use Rattle.hz_bounds.specs.declared.range.EdgeClass.{EdgeClass}
-use Rattle.hz_bounds.specs.Ranges.{edge_class_of}
-use Rattle.hz_net.specs.Network.{bit_at, value_at}
-use Rattle.hz_edges.specs.Edges.{range_at}
-use Rattle.hz_edges.specs.Room.{edges_of}
+use Rattle.hz_net.specs.Network.{value_at}
+use Rattle.hz_edge_reports.specs.Room.{change_of}
 use Rattle.hz_explore.specs.declared.counting.Classes.{Classes}
-use Rattle.hz_explore.specs.Counts.{classes_of, is_single, is_static, is_dynamic, is_maybe_dynamic}
+use Rattle.hz_explore.specs.Transitions.{class_at}
+use Rattle.hz_explore.specs.Counts.{classes_of, is_single, is_static, is_maybe_static, is_dynamic, is_maybe_dynamic}
 use Rattle.hz_explore.proofs.CountLemmas.{counts-few}
 use Rattle.hz_explore.proofs.counting.count_classes.Goals as goal
 
 pub count-requires-clause-single : goal.count-requires-clause-single
 count-requires-clause-single c =
-    omega (
-      arith,
-      c.requires.nodes,
-      c.loop-node-test.true,
-      ap (λ (k : Classes). k.single) c.loop-node.invariant,
-      counts-few is_single (λ i. edge_class_of (bit_at c.args.start.now i) (value_at c.args.edges.now.b.items i) (range_at (edges_of c.args.edges.now) i)) c.loop-node.node,
-    )
+    omega (arith, c.requires.nodes, c.loop-node-test.true, ap (λ (k : Classes). k.single) c.loop-node.invariant, counts-few is_single (class_at (change_of c.args.change.now)) c.loop-node.node)
 
 pub count-requires-clause-statics : goal.count-requires-clause-statics
 count-requires-clause-statics c =
-    omega (
-      arith,
-      c.requires.nodes,
-      c.loop-node-test.true,
-      ap (λ (k : Classes). k.statics) c.loop-node.invariant,
-      counts-few is_static (λ i. edge_class_of (bit_at c.args.start.now i) (value_at c.args.edges.now.b.items i) (range_at (edges_of c.args.edges.now) i)) c.loop-node.node,
-    )
+    omega (arith, c.requires.nodes, c.loop-node-test.true, ap (λ (k : Classes). k.statics) c.loop-node.invariant, counts-few is_static (class_at (change_of c.args.change.now)) c.loop-node.node)
+
+pub count-requires-clause-maybe_static : goal.count-requires-clause-maybe_static
+count-requires-clause-maybe_static c =
+    omega (arith, c.requires.nodes, c.loop-node-test.true, ap (λ (k : Classes). k.maybe_static) c.loop-node.invariant, counts-few is_maybe_static (class_at (change_of c.args.change.now)) c.loop-node.node)
 
 pub count-requires-clause-dynamic : goal.count-requires-clause-dynamic
 count-requires-clause-dynamic c =
-    omega (
-      arith,
-      c.requires.nodes,
-      c.loop-node-test.true,
-      ap (λ (k : Classes). k.dynamic) c.loop-node.invariant,
-      counts-few is_dynamic (λ i. edge_class_of (bit_at c.args.start.now i) (value_at c.args.edges.now.b.items i) (range_at (edges_of c.args.edges.now) i)) c.loop-node.node,
-    )
+    omega (arith, c.requires.nodes, c.loop-node-test.true, ap (λ (k : Classes). k.dynamic) c.loop-node.invariant, counts-few is_dynamic (class_at (change_of c.args.change.now)) c.loop-node.node)
 
 pub count-requires-clause-maybe_dynamic : goal.count-requires-clause-maybe_dynamic
 count-requires-clause-maybe_dynamic c =
-    omega (
-      arith,
-      c.requires.nodes,
-      c.loop-node-test.true,
-      ap (λ (k : Classes). k.maybe_dynamic) c.loop-node.invariant,
-      counts-few is_maybe_dynamic (λ i. edge_class_of (bit_at c.args.start.now i) (value_at c.args.edges.now.b.items i) (range_at (edges_of c.args.edges.now) i)) c.loop-node.node,
-    )
+    omega (arith, c.requires.nodes, c.loop-node-test.true, ap (λ (k : Classes). k.maybe_dynamic) c.loop-node.invariant, counts-few is_maybe_dynamic (class_at (change_of c.args.change.now)) c.loop-node.node)
 
 pub loop-node-preserved : goal.loop-node-preserved
 loop-node-preserved c =
     let node = c.loop-node.node in
-    let start = c.args.start.now in
-    let b = c.args.edges.now.b.items in
-    let edges = edges_of c.args.edges.now in
-    let class_of : ℕ → EdgeClass = λ i. edge_class_of (bit_at start i) (value_at b i) (range_at edges i) in
-    let so_far : List EdgeClass = map class_of (range_with_len 0 node) in
-    let there : c.index.result.now ≡ value_at b node = c.index.ensures ∙ sym (get_or_default b node Zero c.index.result.now (omega (arith, c.loop-node-test.true, c.requires.b))) in
-    let here : c.edge_class-class.result ≡ class_of node = rw (there, c.range.ensures) at c.edge_class-class.ensures in
+    let found = change_of c.args.change.now in
+    let so_far : List EdgeClass = map (class_at found) (range_with_len 0 node) in
+    let there : c.index-2.result.now ≡ value_at found.ends node = c.index-2.ensures ∙ sym (get_or_default found.ends node Zero c.index-2.result.now (omega (arith, c.loop-node-test.true, c.requires.ends))) in
+    let here : c.edge_class-class.result ≡ class_at found node = rw (there, c.range.ensures) at c.edge_class-class.ensures in
     c.count.ensures so_far c.loop-node.invariant
-    ∙ ap classes_of (ap (λ (class : EdgeClass). so_far ++ class ∷ []) here ∙ sym (map-range_with_len_more class_of 0 node node (zero-add node)))
+    ∙ ap classes_of (ap (λ (class : EdgeClass). so_far ++ class ∷ []) here ∙ sym (map-range_with_len_more (class_at found) 0 node node (zero-add node)))

@@ -14,12 +14,13 @@ use Rattle.hz_explore.proofs.exploring.write_state.Goals as goal
 
 pub write_changes-requires-clause-start : goal.write_changes-requires-clause-start
 write_changes-requires-clause-start g c =
-    subst (IsStableStart c.args.exploring.now.net.now) (sym c.go_to.ensures.start) c.requires.stable
+    subst (IsStableStart c.args.exploring.now.making.net.now) (sym c.go_to.ensures.start) c.requires.stable
 
 pub returns-clause-gave : goal.returns-clause-gave
 returns-clause-gave g c =
-    let netlist = c.args.exploring.now.net.now in
-    let cap = c.args.exploring.now.cap in
+    let netlist = c.args.exploring.now.making.net.now in
+    let cap = c.args.exploring.now.making.cap in
+    let assumptions = c.args.exploring.now.making.assumptions.now in
     let bursts = bursts_in c.args.exploring.now.bursts.now in
     let was = c.args.room.now in
     let there = c.go_to.new.self in
@@ -27,9 +28,9 @@ returns-clause-gave g c =
     let state = expansion_of netlist (state_at was.states c.args.number) in
     let failed = has_failed c.write_changes.new.writer in
     let made = c.write_changes.ensures.gave in
-    let from : Makes netlist cap bursts state made.0 there now failed = subst (λ (s : List Bool). Makes netlist cap bursts s made.0 there now failed) c.go_to.ensures.start made.1 in (
+    let from : Makes netlist cap assumptions bursts state made.0 there now failed = subst (λ (s : List Bool). Makes netlist cap assumptions bursts s made.0 there now failed) c.go_to.ensures.start made.1 in (
       made.0,
-      makes-from netlist cap state bursts made.0 there was now failed (sym c.go_to.ensures.states) (sym c.go_to.ensures.totals) from,
+      makes-from netlist cap assumptions state bursts made.0 there was now failed (sym c.go_to.ensures.states) (sym c.go_to.ensures.totals) from,
       λ all ext.
           writes_then (rw (c.as_slice.ensures.value ∙ c.go_to.ensures.nodes) at c.write_nodes.ensures.gave)
           (made.2 all (subst (λ (states : List (List Bool)). Extends (found_by states (ends_of netlist made.0)) all) (sym c.go_to.ensures.states) ext)) refl,

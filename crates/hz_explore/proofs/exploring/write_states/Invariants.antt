@@ -13,10 +13,10 @@ abbrev pub invariant-loop-number : goal.invariant-loop-number
 invariant-loop-number g l =
     (done : List Explored)
     × (found : List (List Bool))
-    × IsSoFar l.exploring.net.now l.exploring.cap (bursts_in l.exploring.bursts.now) (expansion_of l.exploring.net.now (state_at l.fn.room.states 0)) done found
+    × IsSoFar l.exploring.making.net.now l.exploring.making.cap l.exploring.making.assumptions.now (bursts_in l.exploring.bursts.now) (expansion_of l.exploring.making.net.now (state_at l.fn.room.states 0)) done found
     × (length done ≡ l.number)
-    × ((all : List (List Bool)) → Extends found all → Writes g.K.Sink.output g.K.Sink.faults (all_explored_text l.exploring.net.now all 1 done) l.fn.writer l.writer)
+    × ((all : List (List Bool)) → Extends found all → Writes g.K.Sink.output g.K.Sink.faults (all_explored_text l.exploring.making.net.now l.exploring.making.assumptions.now all 1 done) l.fn.writer l.writer)
     × (has_failed l.writer ≡ false → l.room.states ≡ found)
-    × (has_failed l.writer ≡ false → Counts l.exploring.net.now (all_transitions done) l.room)
-    × IsExploreRoom l.exploring.net.now l.room
+    × (has_failed l.writer ≡ false → Counts l.exploring.making.net.now (all_transitions done) l.room)
+    × IsExploreRoom l.exploring.making.net.now l.room
     × (changes_in l.room.totals ≤ l.number * 400000)
