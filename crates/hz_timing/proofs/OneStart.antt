@@ -92,15 +92,16 @@ all-whole primary (first ∷ later) none =
 first-whole : (primary : ℕ) (statements : List (Numbered ResolvedTimed)) (changed : Bool) → misplaced_from false false changed statements ≡ None → ((node : ℕ) → IsMissing primary (counted false statements) node → ⊥) → AreWhole primary statements
 first-whole primary [] changed e none = All-nil (IsWholeAt primary)
 first-whole primary (first ∷ later) changed e none =
-    All-cons (IsWholeAt primary) first later (λ node out. none node (inl out)) (step first.statement e (λ node out. none node (inr out)))
+    All-cons (IsWholeAt primary) first later (λ node out. none node (inl out)) (step first.statement e (λ node out. none node (inr out)) (first-whole primary later))
   where
     step :
         (statement : ResolvedTimed) → cond (misplaced_behind false false changed statement) (Some first.line) (misplaced_from false (false || is_start statement) (changed || is_change statement) later) ≡ None
-        → ((node : ℕ) → IsMissing primary (cond (counts_behind false statement) (counted false later) []) node → ⊥) → AreWhole primary later
-    step (Ordered one other number) e none = first-whole primary later (changed || false) (behind-None changed first.line _ e) none
-    step (Ideal wire) e none = first-whole primary later (changed || false) (behind-None changed first.line _ e) none
-    step (Start assigned) e none = no-start-whole primary later (behind-start later (changed || false) e)
-    step (Change assigned) e none = cc
+        → ((node : ℕ) → IsMissing primary (cond (counts_behind false statement) (counted false later) []) node → ⊥)
+        → ((changed : Bool) → misplaced_from false false changed later ≡ None → ((node : ℕ) → IsMissing primary (counted false later) node → ⊥) → AreWhole primary later) → AreWhole primary later
+    step (Ordered one other number) e none ih = ih (changed || false) (behind-None changed first.line _ e) none
+    step (Ideal wire) e none ih = ih (changed || false) (behind-None changed first.line _ e) none
+    step (Start assigned) e none ih = no-start-whole primary later (behind-start later (changed || false) e)
+    step (Change assigned) e none ih = cc
 
 -- no statement of those in order leaves an input out, where no start that counts does
 pub ordered-whole : (again : Bool) (primary : ℕ) (statements : List (Numbered ResolvedTimed)) → misplaced_from again false false statements ≡ None → ((node : ℕ) → IsMissing primary (counted again statements) node → ⊥) → AreWhole primary statements

@@ -51,7 +51,7 @@ pub(crate) struct TimedStatements<'n> {
 }
 
 impl<'n, 't> Text<'t> for TimedStatements<'n> {
-    ghost use Rattle.std.specs.Prelude.{◌×◌, Bool, length};
+    ghost use Rattle.std.specs.Prelude.{Bool, length};
     ghost use Rattle.hz_core.specs.Netlist.{Netlist};
     ghost use Rattle.hz_timing.specs.TimedResolution.{ResolvedTimed, timed_resolution_of, resolve_timed_tokens};
     ghost use Rattle.hz_timing.specs.TimedRules.{timed_rules};
