@@ -23,10 +23,17 @@ pub struct Edges {
 }
 
 impl OnTimed for Edges {
+    ghost use Rattle.std.specs.Prelude.{true};
     ghost use Rattle.hz_timing.specs.Timed.{TimedStarted};
     ghost use Rattle.hz_edge_reports.specs.EdgeReports.{ReportsEdges};
 
     ghost judges = { λ job. TimedStarted (ReportsEdges job.options) };
+
+    ghost may_restart = { true };
+
+    fn restarts(&self) -> bool {
+        true
+    }
 
     fn with_timed<K: Sink>(
         &self,

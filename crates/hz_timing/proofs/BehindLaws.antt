@@ -53,36 +53,36 @@ pub any-push : {S : Type 0} (test : S → Bool) (before : List S) (one : S) → 
 any-push test [] one = or-false (test one)
 any-push test (first ∷ before) one = ap (λ b. test first || b) (any-push test before one) ∙ sym (or-assoc (test first) (list_any test before) (test one))
 
-same_misplaced : (before : List ResolvedTimed) (statement : ResolvedTimed) → misplaced_behind (list_any is_start before) (list_any is_change before) statement ≡ is_misplaced before statement
-same_misplaced before (Ordered first second number) = refl
-same_misplaced before (Ideal wire) = refl
-same_misplaced before (Start assigned) = refl
-same_misplaced before (Change assigned) = refl
+same_misplaced : (again : Bool) (before : List ResolvedTimed) (statement : ResolvedTimed) → misplaced_behind again (list_any is_start before) (list_any is_change before) statement ≡ is_misplaced again before statement
+same_misplaced again before (Ordered first second number) = refl
+same_misplaced again before (Ideal wire) = refl
+same_misplaced again before (Start assigned) = refl
+same_misplaced again before (Change assigned) = refl
 
 -- the pass over the order, by what stands before
-pub misplaced-first : (before : List ResolvedTimed) (statements : List (Numbered ResolvedTimed)) → misplaced_from (list_any is_start before) (list_any is_change before) statements ≡ first_line_behind is_misplaced before statements
-misplaced-first before [] = refl
-misplaced-first before (first ∷ later) =
+pub misplaced-first : (again : Bool) (before : List ResolvedTimed) (statements : List (Numbered ResolvedTimed)) → misplaced_from again (list_any is_start before) (list_any is_change before) statements ≡ first_line_behind (is_misplaced again) before statements
+misplaced-first again before [] = refl
+misplaced-first again before (first ∷ later) =
     let next = before ++ first.statement ∷ [] in
     ap
-    (λ b. cond b (Some first.line) (misplaced_from (list_any is_start before || is_start first.statement) (list_any is_change before || is_change first.statement) later))
-    (same_misplaced before first.statement)
-    ∙ ap (λ rest. cond (is_misplaced before first.statement) (Some first.line) rest)
-    (ap (λ b. misplaced_from b (list_any is_change before || is_change first.statement) later) (sym (any-push is_start before first.statement))
-    ∙ ap (λ b. misplaced_from (list_any is_start next) b later) (sym (any-push is_change before first.statement))
-    ∙ misplaced-first next later)
+    (λ b. cond b (Some first.line) (misplaced_from again (list_any is_start before || is_start first.statement) (list_any is_change before || is_change first.statement) later))
+    (same_misplaced again before first.statement)
+    ∙ ap (λ rest. cond (is_misplaced again before first.statement) (Some first.line) rest)
+    (ap (λ b. misplaced_from again b (list_any is_change before || is_change first.statement) later) (sym (any-push is_start before first.statement))
+    ∙ ap (λ b. misplaced_from again (list_any is_start next) b later) (sym (any-push is_change before first.statement))
+    ∙ misplaced-first again next later)
 
 -- the pass over the order answers the least line that breaks it
-pub answers_order : (statements : List (Numbered ResolvedTimed)) → Ascends 1 statements → IsLeastOf (BreaksOrder statements) (first_out_of_order statements)
-answers_order statements up = by_start (has_begun statements) refl
+pub answers_order : (again : Bool) (statements : List (Numbered ResolvedTimed)) → Ascends 1 statements → IsLeastOf (BreaksOrder again statements) (first_out_of_order again statements)
+answers_order again statements up = by_start (has_begun statements) refl
   where
-    started : (answer : Option ℕ) → has_begun statements ≡ true → IsLeastOf (PassesBehind is_misplaced [] statements) answer → IsLeastOf (BreaksOrder statements) answer
+    started : (answer : Option ℕ) → has_begun statements ≡ true → IsLeastOf (PassesBehind (is_misplaced again) [] statements) answer → IsLeastOf (BreaksOrder again statements) answer
     started None s none = λ line p. elim p [ inl at ↦ true-false (sym s ∙ at.0) | inr q ↦ none line q ]
     started (Some line) s is = record {
       here = inr is.here;
       least = λ other p. elim p [ inl at ↦ absurd (true-false (sym s ∙ at.0)) | inr q ↦ is.least other q ];
     }
 
-    by_start : (b : Bool) → has_begun statements ≡ b → IsLeastOf (BreaksOrder statements) (cond b (misplaced_from false false statements) (Some 0))
-    by_start true s = started (misplaced_from false false statements) s (rw (misplaced-first [] statements) (answers_behind is_misplaced [] statements 1 up))
+    by_start : (b : Bool) → has_begun statements ≡ b → IsLeastOf (BreaksOrder again statements) (cond b (misplaced_from again false false statements) (Some 0))
+    by_start true s = started (misplaced_from again false false statements) s (rw (misplaced-first again [] statements) (answers_behind (is_misplaced again) [] statements 1 up))
     by_start false s = record { here = inl (s, refl); least = λ other p. omega arith }

@@ -24,7 +24,7 @@ use Rattle.hz_timing.specs.declared.fault.TimedFault.{TimedFault}
 use Rattle.hz_timing.specs.declared.fault.TimedFault.TheVariants.{Text, Wires, Number, Again}
 use Rattle.hz_timing.specs.TimedStatement.{Ordered, Ideal, Start, Change, TimedStatement, timed_statement_of, timed_statements_of}
 use Rattle.hz_timing.specs.TimedResolution.{ResolvedTimed, resolve_timed, resolve_timed_tokens}
-use Rattle.hz_timing.specs.TimedFault.{resolved_timed_statements, names_unknown, names_twice, lacks_bit, is_order, is_ideal, is_start, is_change, line_behind, IsBeyond, is_unpaired, lacks_number, is_stated, HasTimedFault, IsLeastTimedFault, IsTimedRefusal, timed_fault_number, timed_place_of, timed_faults_that}
+use Rattle.hz_timing.specs.TimedFault.{resolved_timed_statements, names_unknown, names_twice, lacks_bit, is_order, is_ideal, is_start, is_change, counted, line_behind, IsBeyond, is_unpaired, lacks_number, is_stated, HasTimedFault, IsLeastTimedFault, IsTimedRefusal, timed_fault_number, timed_place_of, timed_faults_that}
 use Rattle.hz_timing.specs.TimedRules.{names_node_twice, line_from, first_beyond, timed_rules, first_line_behind, assumption_faults, first_assumption_fault}
 use Rattle.hz_timing.specs.Limits.{most_orders, most_ideals, most_starts}
 use Rattle.hz_timing.proofs.BehindLaws.{answers_behind, answers_order}
@@ -83,11 +83,11 @@ same_twice netlist (Start assignments) known = twice-names netlist Nodes assignm
 same_twice netlist (Change assignments) known = twice-names netlist Inputs assignments known
 
 -- the faults of all texts
-abbrev pub HasText : Netlist → List ℕ → TextFault → Type 0
-HasText netlist bytes fault = HasTimedFault netlist bytes (Text fault)
+abbrev pub HasText : (again : Bool) → Netlist → List ℕ → TextFault → Type 0
+HasText again netlist bytes fault = HasTimedFault again netlist bytes (Text fault)
 
-judged : (netlist : Netlist) (bytes : List ℕ) → Judged (HasText netlist bytes) (timed_rules netlist) (first_malformed (resolve_timed_tokens netlist) 1 (lines_of bytes)) (resolved_timed_statements netlist bytes)
-judged netlist bytes =
+judged : (again : Bool) (netlist : Netlist) (bytes : List ℕ) → Judged (HasText again netlist bytes) (timed_rules again netlist) (first_malformed (resolve_timed_tokens netlist) 1 (lines_of bytes)) (resolved_timed_statements netlist bytes)
+judged again netlist bytes =
     let looked = resolved_timed_statements netlist bytes in
     let up = looked-Ascends (resolve_timed netlist) timed_statement_of bytes in
     let Q : Option ℕ → Type 0 = IsLeastOf (PassesOn names_twice (timed_statements_of bytes)) in
@@ -97,9 +97,9 @@ judged netlist bytes =
       twice = λ known.
           let same = twice-line (resolve_timed netlist) (names_unknown netlist) names_node_twice names_twice (same_twice netlist) (timed_statements_of bytes) known in
           subst Q (sym same) (answers_first names_twice (timed_statements_of bytes) (first_passing_line names_twice (timed_statements_of bytes)) (numbered_from-Ascends timed_statement_of 1 (lines_of bytes)) refl);
-      missing = answers_missing (primary_inputs netlist) looked;
+      missing = answers_missing (primary_inputs netlist) (counted again looked);
       bit = answers_first lacks_bit looked (first_passing_line lacks_bit looked) up refl;
-      order = answers_order looked up;
+      order = answers_order again looked up;
       beyond = λ none. answers_beyond looked;
       mismatch = λ line told real stands. stands;
       one = λ line told real other_line other_told other_real s t. absurd s;
@@ -107,8 +107,8 @@ judged netlist bytes =
     }
 
 -- what the reader and the passes for all texts answer
-pub text-answer : (netlist : Netlist) (bytes : List ℕ) → Outcome (HasText netlist bytes) (first_fault_of (resolve_timed_tokens netlist) (timed_rules netlist) bytes)
-text-answer netlist bytes = text-outcome (resolve_timed netlist) timed_statement_of bytes (timed_rules netlist) (HasText netlist bytes) (judged netlist bytes)
+pub text-answer : (again : Bool) (netlist : Netlist) (bytes : List ℕ) → Outcome (HasText again netlist bytes) (first_fault_of (resolve_timed_tokens netlist) (timed_rules again netlist) bytes)
+text-answer again netlist bytes = text-outcome (resolve_timed netlist) timed_statement_of bytes (timed_rules again netlist) (HasText again netlist bytes) (judged again netlist bytes)
 
 -- the faults of all texts come before those of assumptions
 pub text-first : (fault : TextFault) → fault_number fault < 10
@@ -123,21 +123,21 @@ text-first text.Memory = omega arith
 text-first (text.Mismatch line told real) = omega arith
 
 -- the least fault of all texts is the least of all
-least-text : (netlist : Netlist) (bytes : List ℕ) (fault : TextFault) → IsLeastFaultOf (HasText netlist bytes) fault → IsLeastTimedFault netlist bytes (Text fault)
-least-text netlist bytes fault is = record { stands = is.stands; least = first }
+least-text : (again : Bool) (netlist : Netlist) (bytes : List ℕ) (fault : TextFault) → IsLeastFaultOf (HasText again netlist bytes) fault → IsLeastTimedFault again netlist bytes (Text fault)
+least-text again netlist bytes fault is = record { stands = is.stands; least = first }
   where
-    first : (other : TimedFault) → HasTimedFault netlist bytes other → ComesFirst (timed_faults_that (HasTimedFault netlist bytes)) (Text fault) other
+    first : (other : TimedFault) → HasTimedFault again netlist bytes other → ComesFirst (timed_faults_that (HasTimedFault again netlist bytes)) (Text fault) other
     first (Text other) s = is.least other s
     first (Wires line) s = inl (text-first fault)
     first (Number line) s = inl (omega (arith, text-first fault))
     first (Again line) s = inl (omega (arith, text-first fault))
 
 -- what the reader answers, as a refusal
-pub text-refusal : (netlist : Netlist) (bytes : List ℕ) (fault : TextFault) → IsFaultOrMemory (first_fault_of (resolve_timed_tokens netlist) (timed_rules netlist) bytes) fault → IsTimedRefusal netlist bytes (Text fault)
-text-refusal netlist bytes fault (inl memory) = inl (ap Text memory)
-text-refusal netlist bytes fault (inr found) =
-    let P : Option TextFault → Type 0 = Outcome (HasText netlist bytes) in
-    inr (least-text netlist bytes fault (subst P found (text-answer netlist bytes)))
+pub text-refusal : (again : Bool) (netlist : Netlist) (bytes : List ℕ) (fault : TextFault) → IsFaultOrMemory (first_fault_of (resolve_timed_tokens netlist) (timed_rules again netlist) bytes) fault → IsTimedRefusal again netlist bytes (Text fault)
+text-refusal again netlist bytes fault (inl memory) = inl (ap Text memory)
+text-refusal again netlist bytes fault (inr found) =
+    let P : Option TextFault → Type 0 = Outcome (HasText again netlist bytes) in
+    inr (least-text again netlist bytes fault (subst P found (text-answer again netlist bytes)))
 
 -- a kind of fault of assumptions: each fault of this number is of this kind, by its line
 record IsKind (kind : ℕ → TimedFault) (number : ℕ) : Type 0 where
@@ -189,23 +189,23 @@ found-kind stands kind number (Some line) rest is least more = record {
 }
 
 -- where no fault of all texts stands, the passes over assumptions answer the least fault
-pub assumption-answer : (netlist : Netlist) (bytes : List ℕ) → ((fault : TextFault) → ¬ HasText netlist bytes fault) → IsAnswer (timed_faults_that (HasTimedFault netlist bytes)) (first_assumption_fault netlist (resolved_timed_statements netlist bytes))
-assumption-answer netlist bytes clear =
-    let stands = HasTimedFault netlist bytes in
+pub assumption-answer : (again : Bool) (netlist : Netlist) (bytes : List ℕ) → ((fault : TextFault) → ¬ HasText again netlist bytes fault) → IsAnswer (timed_faults_that (HasTimedFault again netlist bytes)) (first_assumption_fault netlist (resolved_timed_statements netlist bytes))
+assumption-answer again netlist bytes clear =
+    let stands = HasTimedFault again netlist bytes in
     let looked = resolved_timed_statements netlist bytes in
     let up = looked-Ascends (resolve_timed netlist) timed_statement_of bytes in
-    let again = found-kind stands Again 12 (first_line_behind is_stated [] looked) [] again-kind (answers_behind is_stated [] looked 1 up) last in
-    let number = found-kind stands Number 11 (first_passing_line lacks_number looked) _ number-kind (answers_first lacks_number looked _ up refl) again in
+    let repeated = found-kind stands Again 12 (first_line_behind is_stated [] looked) [] again-kind (answers_behind is_stated [] looked 1 up) last in
+    let number = found-kind stands Number 11 (first_passing_line lacks_number looked) _ number-kind (answers_first lacks_number looked _ up refl) repeated in
     let wires = found-kind stands Wires 10 (first_passing_line (is_unpaired netlist) looked) _ wires-kind (answers_first (is_unpaired netlist) looked _ up refl) number in
     found-least (timed_faults_that stands) 10 (assumption_faults netlist looked) low wires
   where
-    last : (other : TimedFault) → HasTimedFault netlist bytes other → timed_fault_number other < 13
+    last : (other : TimedFault) → HasTimedFault again netlist bytes other → timed_fault_number other < 13
     last (Text fault) s = omega (arith, text-first fault)
     last (Wires line) s = omega arith
     last (Number line) s = omega arith
     last (Again line) s = omega arith
 
-    low : (other : TimedFault) → HasTimedFault netlist bytes other → 10 ≤ timed_fault_number other
+    low : (other : TimedFault) → HasTimedFault again netlist bytes other → 10 ≤ timed_fault_number other
     low (Text fault) s = absurd (clear fault s)
     low (Wires line) s = omega arith
     low (Number line) s = omega arith

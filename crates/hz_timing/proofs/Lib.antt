@@ -8,6 +8,8 @@ pub mod FaultLaws
 pub mod AssumptionLaws
 -- The scripts of statements without a fault are scripts of the network
 pub mod PartLaws
+-- Where a start may not stand again there is one
+pub mod OneStart
 -- What holds of a text in which no pass finds a fault
 pub mod ReadLaws
 -- Orders and wires without delay, by the variables that a line begins with

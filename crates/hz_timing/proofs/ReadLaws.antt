@@ -18,34 +18,36 @@ use Rattle.hz_timing.specs.declared.fault.TimedFault.{TimedFault}
 use Rattle.hz_timing.specs.declared.fault.TimedFault.TheVariants.{Wires, Number, Again}
 use Rattle.hz_timing.specs.TimedStatement.{Ordered, Ideal, Start, Change, timed_statements_of}
 use Rattle.hz_timing.specs.TimedResolution.{ResolvedTimed, TimedEntry, resolve_timed_tokens, timed_resolution_of, numbered_timed_resolution, numbered_timed_resolutions}
-use Rattle.hz_timing.specs.TimedFault.{resolved_timed_statements, assignments_in, names_unknown, lacks_bit, is_order, is_ideal, is_start, is_change, has_start, has_begun, IsMissing, LeavesOut, line_behind, is_unpaired, lacks_number, is_stated, HasTimedFault, IsTimedRefusal, timed_faults_that}
+use Rattle.hz_timing.specs.TimedFault.{resolved_timed_statements, assignments_in, names_unknown, lacks_bit, is_order, is_ideal, is_start, is_change, counted, has_start, has_begun, IsMissing, line_behind, is_unpaired, lacks_number, is_stated, HasTimedFault, IsTimedRefusal, timed_faults_that}
 use Rattle.hz_timing.specs.TimedRules.{names_node_twice, least_missing, misplaced_behind, misplaced_from, first_out_of_order, first_beyond, timed_rules, first_assumption_fault, first_line_behind}
 use Rattle.hz_timing.specs.TimedReading.{IsSoundTimed, IsAcceptedTimed}
-use Rattle.hz_timing.specs.TimedText.{parts_in, IsTimedScriptBy, IsTimedScriptFor}
+use Rattle.hz_timing.specs.TimedText.{Part, parts_in, AreScriptsOf, IsTimedScriptBy, IsTimedScriptFor}
 use Rattle.hz_timing.specs.TimedValue.{TimedScriptOf}
+use Rattle.hz_script.specs.ScriptValue.{ScriptOf}
 use Rattle.hz_timing.specs.Limits.{most_orders, most_ideals, most_starts}
 use Rattle.hz_script.specs.Limits.{most_changes}
 use Rattle.hz_timing.proofs.MissingLaws.{answers_missing}
 use Rattle.hz_timing.proofs.FaultLaws.{first_beyond-is, resolved_statements-read, HasText, text-answer, assumption-answer}
 use Rattle.hz_timing.proofs.AssumptionLaws.{assumptions-fit}
 use Rattle.hz_timing.proofs.PartLaws.{IsClearStatement, scripts-fit, parts-good, parts-counted, changes-counted, parts-some, few-kind}
+use Rattle.hz_timing.proofs.OneStart.{behind-None, from-None, one-start, ordered-whole}
 
 -- no pass has an answer
-pub record IsClearTimed (netlist : Netlist) (statements : List (Numbered ResolvedTimed)) : Type 0 where
+pub record IsClearTimed (again : Bool) (netlist : Netlist) (statements : List (Numbered ResolvedTimed)) : Type 0 where
   pub unknown : first_passing_line (names_unknown netlist) statements ≡ None
   pub twice : first_passing_line names_node_twice statements ≡ None
-  pub missing : least_missing (primary_inputs netlist) statements ≡ None
+  pub missing : least_missing (primary_inputs netlist) (counted again statements) ≡ None
   pub bit : first_passing_line lacks_bit statements ≡ None
-  pub order : first_out_of_order statements ≡ None
+  pub order : first_out_of_order again statements ≡ None
   pub beyond : first_beyond statements ≡ None
 
-clear-from : (netlist : Netlist) (statements : List (Numbered ResolvedTimed)) → first_fault_in (timed_rules netlist) statements ≡ None → IsClearTimed netlist statements
-clear-from netlist statements h =
+clear-from : (again : Bool) (netlist : Netlist) (statements : List (Numbered ResolvedTimed)) → first_fault_in (timed_rules again netlist) statements ≡ None → IsClearTimed again netlist statements
+clear-from again netlist statements h =
     let a = none_parts Unknown (first_passing_line (names_unknown netlist) statements) _ h in
     let b = none_parts Twice (first_passing_line names_node_twice statements) _ a.1 in
-    let c = none_parts Missing (least_missing (primary_inputs netlist) statements) _ b.1 in
+    let c = none_parts Missing (least_missing (primary_inputs netlist) (counted again statements)) _ b.1 in
     let d = none_parts Bit (first_passing_line lacks_bit statements) _ c.1 in
-    let e = none_parts Order (first_out_of_order statements) _ d.1 in
+    let e = none_parts Order (first_out_of_order again statements) _ d.1 in
     record { unknown = a.0; twice = b.0; missing = c.0; bit = d.0; order = e.0; beyond = (none_parts TooMany (first_beyond statements) _ e.1).0 }
 
 -- the limits are kept
@@ -60,59 +62,62 @@ few-from statements h =
     let c = option_min-none (line_behind is_start most_starts statements) (line_behind is_change most_changes statements) b.1 in
     record { starts = few-kind is_start most_starts statements c.0; changes = few-kind is_change most_changes statements c.1 }
 
--- no start leaves an input out
+-- no start that counts leaves an input out
 none-missing : (primary : ℕ) (statements : List (Numbered ResolvedTimed)) → least_missing primary statements ≡ None → (node : ℕ) → IsMissing primary statements node → ⊥
 none-missing primary statements e = let P : Option ℕ → Type 0 = IsLeastOf (IsMissing primary statements) in subst P e (answers_missing primary statements)
 
-all-whole : (primary : ℕ) (statements : List (Numbered ResolvedTimed)) → ((node : ℕ) → IsMissing primary statements node → ⊥) → All (λ numbered. (node : ℕ) → LeavesOut primary numbered.statement node → ⊥) statements
-all-whole primary [] none = All-nil (λ (numbered : Numbered ResolvedTimed). (node : ℕ) → LeavesOut primary numbered.statement node → ⊥)
-all-whole primary (first ∷ later) none =
-    All-cons (λ (numbered : Numbered ResolvedTimed). (node : ℕ) → LeavesOut primary numbered.statement node → ⊥) first later (λ node out. none node (inl out))
-    (all-whole primary later (λ node out. none node (inr out)))
-
-all-clear : (netlist : Netlist) (statements : List (Numbered ResolvedTimed)) → IsClearTimed netlist statements → All (λ numbered. IsClearStatement netlist numbered.statement) statements
-all-clear netlist statements h =
+all-clear : (again : Bool) (netlist : Netlist) (statements : List (Numbered ResolvedTimed)) → IsClearTimed again netlist statements → All (λ numbered. IsClearStatement netlist numbered.statement) statements
+all-clear again netlist statements h =
     let known = All-from_first_line (names_unknown netlist) statements h.unknown in
     let once = All-from_first_line names_node_twice statements h.twice in
     let bits = All-from_first_line lacks_bit statements h.bit in
-    let whole = all-whole (primary_inputs netlist) statements (none-missing (primary_inputs netlist) statements h.missing) in
+    let whole = ordered-whole again (primary_inputs netlist) statements (from-None again statements h.order) (none-missing (primary_inputs netlist) (counted again statements) h.missing) in
     λ k d l. record { known = known k d l; once = once k d l; bits = bits k d l; whole = whole k d l }
 
 -- behind no start no change is in order
-ordered-start : (statements : List (Numbered ResolvedTimed)) (changed : Bool) → has_begun statements ≡ true → misplaced_from false changed statements ≡ None → has_start statements ≡ true
-ordered-start [] changed s e = absurd (true-false (sym s))
-ordered-start (first ∷ later) changed s e = step first.statement s e (ordered-start later)
+ordered-start : (again : Bool) (statements : List (Numbered ResolvedTimed)) (changed : Bool) → has_begun statements ≡ true → misplaced_from again false changed statements ≡ None → has_start statements ≡ true
+ordered-start again [] changed s e = absurd (true-false (sym s))
+ordered-start again (first ∷ later) changed s e = step first.statement s e (ordered-start again later)
   where
-    behind : (b : Bool) (rest : Option ℕ) → cond b (Some first.line) rest ≡ None → rest ≡ None
-    behind true rest e = cc
-    behind false rest e = e
-
     step :
         (statement : ResolvedTimed) → ((is_start statement || is_change statement) || has_begun later) ≡ true
-        → cond (misplaced_behind false changed statement) (Some first.line) (misplaced_from (false || is_start statement) (changed || is_change statement) later) ≡ None
-        → ((changed : Bool) → has_begun later ≡ true → misplaced_from false changed later ≡ None → has_start later ≡ true) → (is_start statement || has_start later) ≡ true
-    step (Ordered one other number) s e ih = ih (changed || false) s (behind changed (misplaced_from false (changed || false) later) e)
-    step (Ideal wire) s e ih = ih (changed || false) s (behind changed (misplaced_from false (changed || false) later) e)
+        → cond (misplaced_behind again false changed statement) (Some first.line) (misplaced_from again (false || is_start statement) (changed || is_change statement) later) ≡ None
+        → ((changed : Bool) → has_begun later ≡ true → misplaced_from again false changed later ≡ None → has_start later ≡ true) → (is_start statement || has_start later) ≡ true
+    step (Ordered one other number) s e ih = ih (changed || false) s (behind-None changed first.line (misplaced_from again false (changed || false) later) e)
+    step (Ideal wire) s e ih = ih (changed || false) s (behind-None changed first.line (misplaced_from again false (changed || false) later) e)
     step (Start assigned) s e ih = refl
     step (Change assigned) s e ih = cc
 
 -- statements in order have a start
-start-some : (statements : List (Numbered ResolvedTimed)) (b : Bool) → has_begun statements ≡ b → cond b (misplaced_from false false statements) (Some 0) ≡ None → has_start statements ≡ true
-start-some statements true s e = ordered-start statements false s e
-start-some statements false s e = cc
+start-some : (again : Bool) (statements : List (Numbered ResolvedTimed)) (b : Bool) → has_begun statements ≡ b → cond b (misplaced_from again false false statements) (Some 0) ≡ None → has_start statements ≡ true
+start-some again statements true s e = ordered-start again statements false s e
+start-some again statements false s e = cc
+
+-- where a start may not stand again, statements in order are one script
+part-counts : (nodes : ℕ) (parts : List Part) (scripts : List ScriptOf) → AreScriptsOf nodes parts scripts → length scripts ≡ length parts
+part-counts nodes [] [] are = refl
+part-counts nodes [] (script ∷ scripts) are = absurd are
+part-counts nodes (part ∷ parts) [] are = absurd are
+part-counts nodes (part ∷ parts) (script ∷ scripts) are = let rest = part-counts nodes parts scripts are.1 in omega (arith, rest)
+
+one-part : (nodes : ℕ) (statements : List (Numbered ResolvedTimed)) (script : TimedScriptOf) → first_out_of_order false statements ≡ None → IsTimedScriptBy nodes statements script → length script.parts ≡ 1
+one-part nodes statements script e is =
+    let some = parts-some statements (start-some false statements (has_begun statements) refl e) in
+    let one = one-start statements false (from-None false statements e) in
+    omega (arith, some, one, parts-counted statements, part-counts nodes (parts_in statements) script.parts is.parts)
 
 -- a script of accepted statements can be used
-usable : (netlist : Netlist) (bytes : List ℕ) (script : TimedScriptOf) → IsCircuit netlist → IsWhole netlist → IsClearTimed netlist (resolved_timed_statements netlist bytes) → first_passing_line (is_unpaired netlist) (resolved_timed_statements netlist bytes) ≡ None
+usable : (again : Bool) (netlist : Netlist) (bytes : List ℕ) (script : TimedScriptOf) → IsCircuit netlist → IsWhole netlist → IsClearTimed again netlist (resolved_timed_statements netlist bytes) → first_passing_line (is_unpaired netlist) (resolved_timed_statements netlist bytes) ≡ None
     → IsTimedScriptBy (length netlist.names) (resolved_timed_statements netlist bytes) script → IsTimedScriptFor netlist script
-usable netlist bytes script circuit whole h paired is =
+usable again netlist bytes script circuit whole h paired is =
     let statements = resolved_timed_statements netlist bytes in
     let few = few-from statements h.beyond in
     let known = All-from_first_line (names_unknown netlist) statements h.unknown in
     let two = All-from_first_line (is_unpaired netlist) statements paired in
     let counted = changes-counted statements in
-    let good = parts-good netlist statements (all-clear netlist statements h) in
+    let good = parts-good netlist statements (all-clear again netlist statements h) in
     let fit = scripts-fit netlist (parts_in statements) script.parts circuit good (omega (arith, counted, few.changes)) is.parts in
-    let some = parts-some statements (start-some statements (has_begun statements) refl h.order) in
+    let some = parts-some statements (start-some again statements (has_begun statements) refl h.order) in
     record {
       assumptions = rw is.assumptions (assumptions-fit netlist (timed_statements_of bytes) circuit whole known two);
       parts = fit.fit;
@@ -129,9 +134,9 @@ statement-sound netlist nodes (Start assigned) known bits once below = record { 
 statement-sound netlist nodes (Change assigned) known bits once below = record { pairs = pairs-sound netlist.inputs nodes Inputs assigned known bits below; fresh = once }
 
 entries-sound :
-    (netlist : Netlist) (nodes : ℕ) (entries : List TimedEntry) → IsClearTimed netlist (numbered_timed_resolutions entries) → All (λ entry. AreBelow nodes (assignments_in (timed_resolution_of entry.held))) entries →
+    (again : Bool) (netlist : Netlist) (nodes : ℕ) (entries : List TimedEntry) → IsClearTimed again netlist (numbered_timed_resolutions entries) → All (λ entry. AreBelow nodes (assignments_in (timed_resolution_of entry.held))) entries →
     All (λ entry. IsSoundTimed nodes (timed_resolution_of entry.held)) entries
-entries-sound netlist nodes entries h below =
+entries-sound again netlist nodes entries h below =
     let U : Numbered ResolvedTimed → Type 0 = λ numbered. names_unknown netlist numbered.statement ≡ false in
     let B : Numbered ResolvedTimed → Type 0 = λ numbered. lacks_bit numbered.statement ≡ false in
     let T : Numbered ResolvedTimed → Type 0 = λ numbered. names_node_twice numbered.statement ≡ false in
@@ -150,31 +155,36 @@ paired-from netlist statements h = by_answer (first_passing_line (is_unpaired ne
 
 -- what a text is in which the passes find nothing
 pub accepted :
-    (netlist : Netlist) (bytes : List ℕ) (entries : List TimedEntry) → IsChecked (resolve_timed_tokens netlist) (timed_rules netlist) bytes (numbered_timed_resolutions entries) →
-    All (λ entry. AreBelow (length netlist.names) (assignments_in (timed_resolution_of entry.held))) entries → first_assumption_fault netlist (numbered_timed_resolutions entries) ≡ None → IsAcceptedTimed netlist bytes entries
-accepted netlist bytes entries h below none =
-    let clear = clear-from netlist (numbered_timed_resolutions entries) h.clear in
+    (again : Bool) (netlist : Netlist) (bytes : List ℕ) (entries : List TimedEntry) → IsChecked (resolve_timed_tokens netlist) (timed_rules again netlist) bytes (numbered_timed_resolutions entries) →
+    All (λ entry. AreBelow (length netlist.names) (assignments_in (timed_resolution_of entry.held))) entries → first_assumption_fault netlist (numbered_timed_resolutions entries) ≡ None → IsAcceptedTimed again netlist bytes entries
+accepted again netlist bytes entries h below none =
+    let clear = clear-from again netlist (numbered_timed_resolutions entries) h.clear in
     let looked : numbered_timed_resolutions entries ≡ resolved_timed_statements netlist bytes = sym h.read.statements ∙ resolved_statements-read netlist bytes in
-    let no_text = unanswered (HasText netlist bytes) _ (text-answer netlist bytes) (checked-none (resolve_timed_tokens netlist) (timed_rules netlist) bytes (numbered_timed_resolutions entries) h) in
-    let F : Option TimedFault → Type 0 = IsAnswer (timed_faults_that (HasTimedFault netlist bytes)) in
-    let C : List (Numbered ResolvedTimed) → Type 0 = IsClearTimed netlist in
+    let no_text = unanswered (HasText again netlist bytes) _ (text-answer again netlist bytes) (checked-none (resolve_timed_tokens netlist) (timed_rules again netlist) bytes (numbered_timed_resolutions entries) h) in
+    let F : Option TimedFault → Type 0 = IsAnswer (timed_faults_that (HasTimedFault again netlist bytes)) in
+    let C : List (Numbered ResolvedTimed) → Type 0 = IsClearTimed again netlist in
     let P : List (Numbered ResolvedTimed) → Type 0 = λ statements. first_assumption_fault netlist statements ≡ None in
     let here = subst P looked none in
     record {
       statements = looked;
       few = (few-from (numbered_timed_resolutions entries) clear.beyond).changes;
-      sound = entries-sound netlist (length netlist.names) entries clear below;
-      faultless = subst F here (assumption-answer netlist bytes no_text);
-      usable = λ circuit whole script is. usable netlist bytes script circuit whole (subst C looked clear) (paired-from netlist (resolved_timed_statements netlist bytes) here) is;
+      sound = entries-sound again netlist (length netlist.names) entries clear below;
+      faultless = subst F here (assumption-answer again netlist bytes no_text);
+      usable = λ circuit whole script is. usable again netlist bytes script circuit whole (subst C looked clear) (paired-from netlist (resolved_timed_statements netlist bytes) here) is;
+      one = λ no script is. one-part (length netlist.names) (resolved_timed_statements netlist bytes) script (only again no (subst C looked clear)) is;
     }
+  where
+    only : (b : Bool) → b ≡ false → IsClearTimed b netlist (resolved_timed_statements netlist bytes) → first_out_of_order false (resolved_timed_statements netlist bytes) ≡ None
+    only false e clear = clear.order
+    only true e clear = absurd (true-false e)
 
 -- what the passes over assumptions answer, as a refusal
 pub assumption-refusal :
-    (netlist : Netlist) (bytes : List ℕ) (entries : List TimedEntry) (fault : TimedFault) → IsChecked (resolve_timed_tokens netlist) (timed_rules netlist) bytes (numbered_timed_resolutions entries) →
-    first_assumption_fault netlist (numbered_timed_resolutions entries) ≡ Some fault → IsTimedRefusal netlist bytes fault
-assumption-refusal netlist bytes entries fault h found =
+    (again : Bool) (netlist : Netlist) (bytes : List ℕ) (entries : List TimedEntry) (fault : TimedFault) → IsChecked (resolve_timed_tokens netlist) (timed_rules again netlist) bytes (numbered_timed_resolutions entries) →
+    first_assumption_fault netlist (numbered_timed_resolutions entries) ≡ Some fault → IsTimedRefusal again netlist bytes fault
+assumption-refusal again netlist bytes entries fault h found =
     let looked : numbered_timed_resolutions entries ≡ resolved_timed_statements netlist bytes = sym h.read.statements ∙ resolved_statements-read netlist bytes in
-    let no_text = unanswered (HasText netlist bytes) _ (text-answer netlist bytes) (checked-none (resolve_timed_tokens netlist) (timed_rules netlist) bytes (numbered_timed_resolutions entries) h) in
-    let F : Option TimedFault → Type 0 = IsAnswer (timed_faults_that (HasTimedFault netlist bytes)) in
+    let no_text = unanswered (HasText again netlist bytes) _ (text-answer again netlist bytes) (checked-none (resolve_timed_tokens netlist) (timed_rules again netlist) bytes (numbered_timed_resolutions entries) h) in
+    let F : Option TimedFault → Type 0 = IsAnswer (timed_faults_that (HasTimedFault again netlist bytes)) in
     let P : List (Numbered ResolvedTimed) → Type 0 = λ statements. first_assumption_fault netlist statements ≡ Some fault in
-    inr (subst F (subst P looked found) (assumption-answer netlist bytes no_text))
+    inr (subst F (subst P looked found) (assumption-answer again netlist bytes no_text))

@@ -1,5 +1,5 @@
 -- What a refusal of a script with assumptions of time says.
-use Rattle.std.proofs.Common.{◌≡◌, ◌≢◌, ◌∙◌, ℕ, List, ap, sym, subst, inl, inr, arith, codes}
+use Rattle.std.proofs.Common.{◌≡◌, ◌≢◌, ◌∙◌, ℕ, Bool, List, ap, sym, subst, inl, inr, arith, codes}
 use Rattle.hz_core.specs.Netlist.{Netlist, IsCircuit, primary_inputs}
 use Rattle.hz_line.specs.OrThat.{OrThat}
 use Rattle.hz_text.specs.declared.fault.TextFault.{TextFault}
@@ -10,7 +10,7 @@ use Rattle.hz_refusal.specs.Answer.{Prints}
 use Rattle.hz_refusal.specs.Refused.{TextPrints}
 use Rattle.hz_timing.specs.declared.fault.TimedFault.{TimedFault}
 use Rattle.hz_timing.specs.declared.fault.TimedFault.TheVariants.{Text, Wires, Number, Again}
-use Rattle.hz_timing.specs.TimedFault.{resolved_timed_statements, IsLeastTimedFaultOf, IsLeastTimedFault, IsTimedRefusal, timed_named_line}
+use Rattle.hz_timing.specs.TimedFault.{resolved_timed_statements, counted, IsLeastTimedFaultOf, IsLeastTimedFault, IsTimedRefusal, timed_named_line}
 use Rattle.hz_timing.specs.Timed.{timed_fault_line, TimedPrints, NamesTimedNode, IsToldTimedLine}
 use Rattle.hz_timing.proofs.MissingLaws.{missing-below}
 
@@ -21,26 +21,26 @@ told-timed-line holds fault own line (inl is) memory named = inr (inr (inr (memo
 told-timed-line holds fault own line (inr least) memory named = inl (fault, least, named)
 
 -- a refusal other than out of memory is the least fault
-pub timed-refused : (netlist : Netlist) (bytes : List ℕ) (fault : TimedFault) → IsTimedRefusal netlist bytes fault → fault ≢ Text reading.Memory → IsLeastTimedFault netlist bytes fault
-timed-refused netlist bytes fault (inl is) other = absurd (other is)
-timed-refused netlist bytes fault (inr least) other = least
+pub timed-refused : (again : Bool) (netlist : Netlist) (bytes : List ℕ) (fault : TimedFault) → IsTimedRefusal again netlist bytes fault → fault ≢ Text reading.Memory → IsLeastTimedFault again netlist bytes fault
+timed-refused again netlist bytes fault (inl is) other = absurd (other is)
+timed-refused again netlist bytes fault (inr least) other = least
 
 -- the node that a refusal names is one of the circuit
-pub timed-node : (netlist : Netlist) (bytes : List ℕ) (fault : TimedFault) → IsCircuit netlist → IsTimedRefusal netlist bytes fault → NamesTimedNode netlist fault
-timed-node netlist bytes fault circuit (inl memory) = subst (NamesTimedNode netlist) (sym memory) tt
-timed-node netlist bytes (Text (reading.Form line)) circuit (inr least) = tt
-timed-node netlist bytes (Text (reading.Unknown line)) circuit (inr least) = tt
-timed-node netlist bytes (Text (reading.Twice line)) circuit (inr least) = tt
-timed-node netlist bytes (Text (reading.Missing node)) circuit (inr least) =
-    omega (arith, missing-below (primary_inputs netlist) node (resolved_timed_statements netlist bytes) least.stands, circuit.nodes)
-timed-node netlist bytes (Text (reading.Bit line)) circuit (inr least) = tt
-timed-node netlist bytes (Text (reading.Order line)) circuit (inr least) = tt
-timed-node netlist bytes (Text (reading.TooMany line)) circuit (inr least) = tt
-timed-node netlist bytes (Text reading.Memory) circuit (inr least) = tt
-timed-node netlist bytes (Text (reading.Mismatch line told real)) circuit (inr least) = tt
-timed-node netlist bytes (Wires line) circuit (inr least) = tt
-timed-node netlist bytes (Number line) circuit (inr least) = tt
-timed-node netlist bytes (Again line) circuit (inr least) = tt
+pub timed-node : (again : Bool) (netlist : Netlist) (bytes : List ℕ) (fault : TimedFault) → IsCircuit netlist → IsTimedRefusal again netlist bytes fault → NamesTimedNode netlist fault
+timed-node again netlist bytes fault circuit (inl memory) = subst (NamesTimedNode netlist) (sym memory) tt
+timed-node again netlist bytes (Text (reading.Form line)) circuit (inr least) = tt
+timed-node again netlist bytes (Text (reading.Unknown line)) circuit (inr least) = tt
+timed-node again netlist bytes (Text (reading.Twice line)) circuit (inr least) = tt
+timed-node again netlist bytes (Text (reading.Missing node)) circuit (inr least) =
+    omega (arith, missing-below (primary_inputs netlist) node (counted again (resolved_timed_statements netlist bytes)) least.stands, circuit.nodes)
+timed-node again netlist bytes (Text (reading.Bit line)) circuit (inr least) = tt
+timed-node again netlist bytes (Text (reading.Order line)) circuit (inr least) = tt
+timed-node again netlist bytes (Text (reading.TooMany line)) circuit (inr least) = tt
+timed-node again netlist bytes (Text reading.Memory) circuit (inr least) = tt
+timed-node again netlist bytes (Text (reading.Mismatch line told real)) circuit (inr least) = tt
+timed-node again netlist bytes (Wires line) circuit (inr least) = tt
+timed-node again netlist bytes (Number line) circuit (inr least) = tt
+timed-node again netlist bytes (Again line) circuit (inr least) = tt
 
 text-same : (fault other : TextFault) → Text fault ≡ Text other → fault ≡ other
 text-same fault other e = cc

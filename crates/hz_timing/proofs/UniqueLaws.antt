@@ -1,5 +1,5 @@
 -- A text has one least fault.
-use Rattle.std.proofs.Common.{◌≡◌, ℕ, List, ap, inl, inr, arith}
+use Rattle.std.proofs.Common.{◌≡◌, ℕ, Bool, List, ap, inl, inr, arith}
 use Rattle.std.specs.Prelude.{◌⊎◌}
 use Rattle.hz_core.specs.Netlist.{Netlist}
 use Rattle.hz_line.proofs.LeastLaws.{both-first}
@@ -13,18 +13,18 @@ use Rattle.hz_timing.specs.TimedFault.{HasTimedFault, IsLeastTimedFault, IsTimed
 use Rattle.hz_timing.proofs.FaultLaws.{HasText, text-first}
 
 -- of the faults of all texts, it is the least
-text-part : (netlist : Netlist) (bytes : List ℕ) (fault : TextFault) → IsLeastTimedFault netlist bytes (Text fault) → IsLeastFaultOf (HasText netlist bytes) fault
-text-part netlist bytes fault is = record { stands = is.stands; least = λ other s. is.least (Text other) s }
+text-part : (again : Bool) (netlist : Netlist) (bytes : List ℕ) (fault : TextFault) → IsLeastTimedFault again netlist bytes (Text fault) → IsLeastFaultOf (HasText again netlist bytes) fault
+text-part again netlist bytes fault is = record { stands = is.stands; least = λ other s. is.least (Text other) s }
 
-no_counts : (netlist : Netlist) (bytes : List ℕ) → OneMismatch (HasText netlist bytes)
-no_counts netlist bytes = λ line told real other_line other_told other_real s t. absurd s
+no_counts : (again : Bool) (netlist : Netlist) (bytes : List ℕ) → OneMismatch (HasText again netlist bytes)
+no_counts again netlist bytes = λ line told real other_line other_told other_real s t. absurd s
 
 -- the least fault is one
-pub timed-unique : (netlist : Netlist) (bytes : List ℕ) (fault other : TimedFault) → IsLeastTimedFault netlist bytes fault → IsLeastTimedFault netlist bytes other → fault ≡ other
-timed-unique netlist bytes fault other a b = by_kind fault other a b (both-first (timed_faults_that (HasTimedFault netlist bytes)) fault other (a.least other b.stands) (b.least fault a.stands))
+pub timed-unique : (again : Bool) (netlist : Netlist) (bytes : List ℕ) (fault other : TimedFault) → IsLeastTimedFault again netlist bytes fault → IsLeastTimedFault again netlist bytes other → fault ≡ other
+timed-unique again netlist bytes fault other a b = by_kind fault other a b (both-first (timed_faults_that (HasTimedFault again netlist bytes)) fault other (a.least other b.stands) (b.least fault a.stands))
   where
-    by_kind : (fault other : TimedFault) → IsLeastTimedFault netlist bytes fault → IsLeastTimedFault netlist bytes other → (timed_fault_number fault ≡ timed_fault_number other) × (timed_place_of fault ≡ timed_place_of other) → fault ≡ other
-    by_kind (Text one) (Text two) a b same = ap Text (least-unique (HasText netlist bytes) one two (no_counts netlist bytes) (text-part netlist bytes one a) (text-part netlist bytes two b))
+    by_kind : (fault other : TimedFault) → IsLeastTimedFault again netlist bytes fault → IsLeastTimedFault again netlist bytes other → (timed_fault_number fault ≡ timed_fault_number other) × (timed_place_of fault ≡ timed_place_of other) → fault ≡ other
+    by_kind (Text one) (Text two) a b same = ap Text (least-unique (HasText again netlist bytes) one two (no_counts again netlist bytes) (text-part again netlist bytes one a) (text-part again netlist bytes two b))
     by_kind (Text one) (Wires line) a b same = absurd (omega (arith, text-first one, same.0))
     by_kind (Text one) (Number line) a b same = absurd (omega (arith, text-first one, same.0))
     by_kind (Text one) (Again line) a b same = absurd (omega (arith, text-first one, same.0))
@@ -42,6 +42,6 @@ timed-unique netlist bytes fault other a b = by_kind fault other a b (both-first
     by_kind (Again line) (Number next) a b same = absurd (omega (arith, same.0))
 
 -- the answer is the least fault, or memory ran out
-pub timed-exact : (netlist : Netlist) (bytes : List ℕ) (fault other : TimedFault) → IsTimedRefusal netlist bytes fault → IsLeastTimedFault netlist bytes other → (fault ≡ other) ⊎ (fault ≡ Text Memory)
-timed-exact netlist bytes fault other (inl memory) least = inr memory
-timed-exact netlist bytes fault other (inr h) least = inl (timed-unique netlist bytes fault other h least)
+pub timed-exact : (again : Bool) (netlist : Netlist) (bytes : List ℕ) (fault other : TimedFault) → IsTimedRefusal again netlist bytes fault → IsLeastTimedFault again netlist bytes other → (fault ≡ other) ⊎ (fault ≡ Text Memory)
+timed-exact again netlist bytes fault other (inl memory) least = inr memory
+timed-exact again netlist bytes fault other (inr h) least = inl (timed-unique again netlist bytes fault other h least)

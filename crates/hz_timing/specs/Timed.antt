@@ -35,13 +35,14 @@ abbrev pub NamesTimedNode : Netlist → TimedFault → Type 0
 NamesTimedNode netlist (Text fault) = NamesNode netlist (named_node fault)
 NamesTimedNode netlist _ = Unit {0}
 
--- what a script with assumptions of time comes to: the line of its least fault, or what the judge says of its value
-abbrev pub OfTimed : (judge : Netlist → TimedScriptOf → Status → List ℕ → Type 0) → Netlist → List ℕ →
-    Status → List ℕ → Type 0
-OfTimed judge netlist bytes own text =
-    ((fault : TimedFault) × IsLeastTimedFaultOf (HasTimedFault netlist bytes) fault
+-- what a script with assumptions of time, in which a start may stand again or not, comes to: the line of its least fault, or
+-- what the judge says of its value
+abbrev pub OfTimed : (again : Bool) → (judge : Netlist → TimedScriptOf → Status → List ℕ → Type 0) →
+    Netlist → List ℕ → Status → List ℕ → Type 0
+OfTimed again judge netlist bytes own text =
+    ((fault : TimedFault) × IsLeastTimedFaultOf (HasTimedFault again netlist bytes) fault
     × Prints status.Text (timed_fault_line netlist fault) own text)
-    ⊎ ((value : TimedScriptOf) × ((fault : TimedFault) → ¬ HasTimedFault netlist bytes fault)
+    ⊎ ((value : TimedScriptOf) × ((fault : TimedFault) → ¬ HasTimedFault again netlist bytes fault)
     × IsTimedValue netlist bytes value × judge netlist value own text)
 
 -- The line that is told of a text: that of its least fault, 0 if it names none. Or nothing is refused of the text, or the call was cut
@@ -51,10 +52,11 @@ IsToldTimedLine holds own line =
     ((fault : TimedFault) × IsLeastTimedFaultOf holds fault × (line ≡ timed_named_line fault))
     ⊎ ((((fault : TimedFault) → ¬ holds fault) ⊎ IsCutShort own) × (line ≡ 0))
 
--- A text of which nothing is to be refused: it has no fault, and by each value that it stands for the job ends with this status.
-pub record IsGoodTimed (ends : Netlist → TimedScriptOf → Status → Type 0)
+-- A text of which nothing is to be refused, in which a start may stand again or not: it has no fault, and by each value that it
+-- stands for the job ends with this status.
+pub record IsGoodTimed (again : Bool) (ends : Netlist → TimedScriptOf → Status → Type 0)
     (netlist : Netlist) (text : List ℕ) (own : Status) : Type 0 where
-  pub faultless : (fault : TimedFault) → ¬ HasTimedFault netlist text fault
+  pub faultless : (fault : TimedFault) → ¬ HasTimedFault again netlist text fault
   pub each : (value : TimedScriptOf) → IsTimedValue netlist text value → ends netlist value own
 
 -- the first of these scripts whose start is refused is refused with this text; the starts before it are accepted

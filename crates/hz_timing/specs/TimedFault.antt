@@ -1,5 +1,5 @@
 -- The faults of a script with assumptions of time.
-use Rattle.std.specs.Prelude.{◌≡◌, ℕ, ◌<◌, Bool, true, false, not, ◌||◌, ◌&&◌, nat_eq, List, [], ◌∷◌, ◌++◌, map, filter, slice_get, Option, Some, None, is_none, ◌⊎◌}
+use Rattle.std.specs.Prelude.{◌≡◌, ℕ, ◌<◌, Bool, true, false, not, ◌||◌, ◌&&◌, nat_eq, List, [], ◌∷◌, ◌++◌, map, filter, slice_get, Option, Some, None, is_none, ◌⊎◌, if◌then◌else◌}
 use Rattle.std.specs.List.{list_any}
 use Rattle.std.specs.Option.{option_map}
 use Rattle.hz_core.specs.Netlist.{Netlist, primary_inputs}
@@ -84,6 +84,20 @@ abbrev pub LeavesOut : ℕ → ResolvedTimed → ℕ → Type 0
 LeavesOut primary (Start assigned) node = (node < primary) × (assigns assigned node ≡ false)
 LeavesOut primary _ node = ⊥
 
+-- whether a start behind this statement may be what leaves an input out: where a start may not stand again, it may behind
+-- assumptions alone
+abbrev pub counts_behind : Bool → ResolvedTimed → Bool
+counts_behind again (Start assigned) = again
+counts_behind again (Change assigned) = again
+counts_behind again _ = true
+
+-- the statements whose starts may leave an input out: all, or, where a start may not stand again, those up to the first
+-- start or change
+abbrev pub counted : (again : Bool) → List (Numbered ResolvedTimed) → List (Numbered ResolvedTimed)
+counted again [] = []
+counted again (first ∷ later) =
+    first ∷ (if counts_behind again first.statement then counted again later else [])
+
 -- some start leaves this one of so many primary inputs out
 abbrev pub IsMissing : ℕ → List (Numbered ResolvedTimed) → ℕ → Type 0
 IsMissing primary [] node = ⊥
@@ -97,12 +111,13 @@ PassesBehind test before (first ∷ later) line =
     ((first.line ≡ line) × (test before first.statement ≡ true))
     ⊎ PassesBehind test (before ++ first.statement ∷ []) later line
 
--- behind these statements a statement is out of order: a change before any start, an assumption behind a change
-abbrev pub is_misplaced : List ResolvedTimed → ResolvedTimed → Bool
-is_misplaced before (Ordered first second number) = list_any is_change before
-is_misplaced before (Ideal wire) = list_any is_change before
-is_misplaced before (Start assigned) = false
-is_misplaced before (Change assigned) = not (list_any is_start before)
+-- behind these statements a statement is out of order: a change before any start, an assumption behind a change, a start
+-- behind a start if it may not stand again
+abbrev pub is_misplaced : (again : Bool) → List ResolvedTimed → ResolvedTimed → Bool
+is_misplaced again before (Ordered first second number) = list_any is_change before
+is_misplaced again before (Ideal wire) = list_any is_change before
+is_misplaced again before (Start assigned) = not again && list_any is_start before
+is_misplaced again before (Change assigned) = not (list_any is_start before)
 
 -- some statement is a start
 abbrev pub has_start : List (Numbered ResolvedTimed) → Bool
@@ -114,9 +129,10 @@ has_begun statements =
     list_any (λ numbered. is_start numbered.statement || is_change numbered.statement) statements
 
 -- the statement on this line is out of order; line 0 if there is neither a start nor a change
-abbrev pub BreaksOrder : List (Numbered ResolvedTimed) → ℕ → Type 0
-BreaksOrder statements line =
-    ((has_begun statements ≡ false) × (line ≡ 0)) ⊎ PassesBehind is_misplaced [] statements line
+abbrev pub BreaksOrder : (again : Bool) → List (Numbered ResolvedTimed) → ℕ → Type 0
+BreaksOrder again statements line =
+    ((has_begun statements ≡ false) × (line ≡ 0))
+    ⊎ PassesBehind (is_misplaced again) [] statements line
 
 -- the line of the first statement of a kind behind so many of it, if there is one
 abbrev pub line_behind : (ResolvedTimed → Bool) → ℕ → List (Numbered ResolvedTimed) → Option ℕ
@@ -154,27 +170,27 @@ are_one_assumption _ _ = false
 abbrev pub is_stated : List ResolvedTimed → ResolvedTimed → Bool
 is_stated before statement = list_any (are_one_assumption statement) before
 
--- the fault stands in the text
-abbrev pub HasTimedFault : Netlist → List ℕ → TimedFault → Type 0
-HasTimedFault netlist bytes (Text (text.Form line)) = meaning_at timed_statement_of bytes line ≡ Malformed
-HasTimedFault netlist bytes (Text (text.Unknown line)) =
+-- the fault stands in the text, in which a start may stand again or not
+abbrev pub HasTimedFault : (again : Bool) → Netlist → List ℕ → TimedFault → Type 0
+HasTimedFault again netlist bytes (Text (text.Form line)) = meaning_at timed_statement_of bytes line ≡ Malformed
+HasTimedFault again netlist bytes (Text (text.Unknown line)) =
     PassesOn (names_unknown netlist) (resolved_timed_statements netlist bytes) line
-HasTimedFault netlist bytes (Text (text.Twice line)) = PassesOn names_twice (timed_statements_of bytes) line
-HasTimedFault netlist bytes (Text (text.Missing node)) =
-    IsMissing (primary_inputs netlist) (resolved_timed_statements netlist bytes) node
-HasTimedFault netlist bytes (Text (text.Bit line)) =
+HasTimedFault again netlist bytes (Text (text.Twice line)) = PassesOn names_twice (timed_statements_of bytes) line
+HasTimedFault again netlist bytes (Text (text.Missing node)) =
+    IsMissing (primary_inputs netlist) (counted again (resolved_timed_statements netlist bytes)) node
+HasTimedFault again netlist bytes (Text (text.Bit line)) =
     PassesOn lacks_bit (resolved_timed_statements netlist bytes) line
-HasTimedFault netlist bytes (Text (text.Order line)) =
-    BreaksOrder (resolved_timed_statements netlist bytes) line
-HasTimedFault netlist bytes (Text (text.TooMany line)) =
+HasTimedFault again netlist bytes (Text (text.Order line)) =
+    BreaksOrder again (resolved_timed_statements netlist bytes) line
+HasTimedFault again netlist bytes (Text (text.TooMany line)) =
     IsBeyond (resolved_timed_statements netlist bytes) line
-HasTimedFault netlist bytes (Text text.Memory) = ⊥
-HasTimedFault netlist bytes (Text (text.Mismatch line told real)) = ⊥
-HasTimedFault netlist bytes (Wires line) =
+HasTimedFault again netlist bytes (Text text.Memory) = ⊥
+HasTimedFault again netlist bytes (Text (text.Mismatch line told real)) = ⊥
+HasTimedFault again netlist bytes (Wires line) =
     PassesOn (is_unpaired netlist) (resolved_timed_statements netlist bytes) line
-HasTimedFault netlist bytes (Number line) =
+HasTimedFault again netlist bytes (Number line) =
     PassesOn lacks_number (resolved_timed_statements netlist bytes) line
-HasTimedFault netlist bytes (Again line) =
+HasTimedFault again netlist bytes (Again line) =
     PassesBehind is_stated [] (resolved_timed_statements netlist bytes) line
 
 -- the fault's number: those of all texts come first
@@ -208,14 +224,14 @@ abbrev pub IsLeastTimedFaultOf : (TimedFault → Type 0) → TimedFault → Type
 IsLeastTimedFaultOf holds fault = IsLeastOfAll (timed_faults_that holds) fault
 
 -- the fault stands in the text and comes before each other that does
-abbrev pub IsLeastTimedFault : Netlist → List ℕ → TimedFault → Type 0
-IsLeastTimedFault netlist bytes fault = IsLeastTimedFaultOf (HasTimedFault netlist bytes) fault
+abbrev pub IsLeastTimedFault : (again : Bool) → Netlist → List ℕ → TimedFault → Type 0
+IsLeastTimedFault again netlist bytes fault = IsLeastTimedFaultOf (HasTimedFault again netlist bytes) fault
 
 -- no fault stands in the text
-abbrev pub IsTimedFaultless : Netlist → List ℕ → Type 0
-IsTimedFaultless netlist bytes = (fault : TimedFault) → ¬ HasTimedFault netlist bytes fault
+abbrev pub IsTimedFaultless : (again : Bool) → Netlist → List ℕ → Type 0
+IsTimedFaultless again netlist bytes = (fault : TimedFault) → ¬ HasTimedFault again netlist bytes fault
 
 -- the fault is the least that stands in the text; memory may always run out
-abbrev pub IsTimedRefusal : Netlist → List ℕ → TimedFault → Type 0
-IsTimedRefusal netlist bytes fault =
-    OrThat (Text text.Memory) (IsLeastTimedFault netlist bytes) fault
+abbrev pub IsTimedRefusal : (again : Bool) → Netlist → List ℕ → TimedFault → Type 0
+IsTimedRefusal again netlist bytes fault =
+    OrThat (Text text.Memory) (IsLeastTimedFault again netlist bytes) fault

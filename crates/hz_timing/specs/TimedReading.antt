@@ -1,5 +1,5 @@
 -- What the reader of scripts with assumptions of time answers.
-use Rattle.std.specs.Prelude.{◌≡◌, ℕ, ◌≤◌, List, [], ◌∷◌, ◌++◌, length, All, filter}
+use Rattle.std.specs.Prelude.{◌≡◌, ℕ, ◌≤◌, Bool, false, List, [], ◌∷◌, ◌++◌, length, All, filter}
 use Rattle.hz_core.specs.Netlist.{Netlist, IsCircuit, IsWhole}
 use Rattle.hz_line.specs.Statement.{Numbered}
 use Rattle.hz_text.specs.Assignment.{Assigned}
@@ -22,16 +22,19 @@ abbrev pub AreFewChanges : List (Numbered ResolvedTimed) → Type 0
 AreFewChanges statements =
     length (filter (λ numbered. is_change numbered.statement) statements) ≤ most_changes
 
--- the statements of a text in which no fault stands
-pub record IsAcceptedTimed (netlist : Netlist) (text : List ℕ)
+-- the statements of a text in which no fault stands; a start may stand in it again or not
+pub record IsAcceptedTimed (again : Bool) (netlist : Netlist) (text : List ℕ)
     (entries : List TimedEntry) : Type 0 where
   pub statements : numbered_timed_resolutions entries ≡ resolved_timed_statements netlist text
   pub few : AreFewChanges (numbered_timed_resolutions entries)
   pub sound : All (λ entry. IsSoundTimed (length netlist.names) (timed_resolution_of entry.held)) entries
-  pub faultless : IsTimedFaultless netlist text
+  pub faultless : IsTimedFaultless again netlist text
   pub usable : IsCircuit netlist → IsWhole netlist → (script : TimedScriptOf) →
       IsTimedScriptBy (length netlist.names) (resolved_timed_statements netlist text) script →
       IsTimedScriptFor netlist script
+  pub one : again ≡ false → (script : TimedScriptOf) →
+      IsTimedScriptBy (length netlist.names) (resolved_timed_statements netlist text) script →
+      length script.parts ≡ 1
 
 -- what a statement assigns, alone, if it is a change
 abbrev pub changes_of : ResolvedTimed → List (List Assigned)

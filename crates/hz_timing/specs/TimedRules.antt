@@ -13,7 +13,7 @@ use Rattle.hz_timing.specs.TimedKeyword.{TimedKeyword}
 use Rattle.hz_timing.specs.TimedKeyword as keyword
 use Rattle.hz_timing.specs.TimedStatement.{Ordered, Ideal, Start, Change}
 use Rattle.hz_timing.specs.TimedResolution.{ResolvedTimed}
-use Rattle.hz_timing.specs.TimedFault.{assignments_in, names_unknown, lacks_bit, is_order, is_ideal, is_start, is_change, has_begun, is_unpaired, lacks_number, is_stated}
+use Rattle.hz_timing.specs.TimedFault.{assignments_in, names_unknown, lacks_bit, is_order, is_ideal, is_start, is_change, counted, has_begun, is_unpaired, lacks_number, is_stated}
 use Rattle.hz_timing.specs.Limits.{most_orders, most_ideals, most_starts}
 
 -- the statement assigns a node twice
@@ -44,24 +44,24 @@ abbrev pub least_missing : ℕ → List (Numbered ResolvedTimed) → Option ℕ
 least_missing inputs statements = if_below inputs (left_out_by_any inputs statements)
 
 -- whether a statement is out of order, where a start stands before it or not, and a change stands before it or not
-abbrev pub misplaced_behind : Bool → Bool → ResolvedTimed → Bool
-misplaced_behind started changed (Ordered first second number) = changed
-misplaced_behind started changed (Ideal wire) = changed
-misplaced_behind started changed (Start assigned) = false
-misplaced_behind started changed (Change assigned) = not started
+abbrev pub misplaced_behind : (again : Bool) → Bool → Bool → ResolvedTimed → Bool
+misplaced_behind again started changed (Ordered first second number) = changed
+misplaced_behind again started changed (Ideal wire) = changed
+misplaced_behind again started changed (Start assigned) = not again && started
+misplaced_behind again started changed (Change assigned) = not started
 
 -- the first line out of order, where a start stands before or not, and a change stands before or not
-abbrev pub misplaced_from : Bool → Bool → List (Numbered ResolvedTimed) → Option ℕ
-misplaced_from started changed [] = None
-misplaced_from started changed (first ∷ later) =
-    if misplaced_behind started changed first.statement then Some first.line
-    else misplaced_from (started || is_start first.statement) (changed || is_change first.statement)
-    later
+abbrev pub misplaced_from : (again : Bool) → Bool → Bool → List (Numbered ResolvedTimed) → Option ℕ
+misplaced_from again started changed [] = None
+misplaced_from again started changed (first ∷ later) =
+    if misplaced_behind again started changed first.statement then Some first.line
+    else misplaced_from again (started || is_start first.statement)
+    (changed || is_change first.statement) later
 
 -- the line that breaks the order
-abbrev pub first_out_of_order : List (Numbered ResolvedTimed) → Option ℕ
-first_out_of_order statements =
-    if has_begun statements then misplaced_from false false statements else Some 0
+abbrev pub first_out_of_order : (again : Bool) → List (Numbered ResolvedTimed) → Option ℕ
+first_out_of_order again statements =
+    if has_begun statements then misplaced_from again false false statements else Some 0
 
 -- the statement begins with this keyword
 abbrev pub is_of : TimedKeyword → ResolvedTimed → Bool
@@ -85,14 +85,14 @@ first_beyond statements =
     (option_min (line_from is_start most_starts statements)
     (line_from is_change most_changes statements)))
 
--- the passes over a script with assumptions of a network
-abbrev pub timed_rules : Netlist → Rules ResolvedTimed
-timed_rules netlist = record {
+-- the passes over a script with assumptions of a network, in which a start may stand again or not
+abbrev pub timed_rules : (again : Bool) → Netlist → Rules ResolvedTimed
+timed_rules again netlist = record {
   unknown = names_unknown netlist;
   assigned = assignments_in;
   bitless = lacks_bit;
-  missing = least_missing (primary_inputs netlist);
-  order = first_out_of_order;
+  missing = λ statements. least_missing (primary_inputs netlist) (counted again statements);
+  order = first_out_of_order again;
   beyond = first_beyond;
   mismatch = λ statements. None;
 }

@@ -1,4 +1,5 @@
-// The order of the statements: a start before the first change, assumptions before the first change.
+// The order of the statements: a start before the first change, assumptions before the first change, and one start if a
+// start may not stand again.
 
 ghost use Rattle.std.specs.Prelude.{◌≡◌, false};
 ghost use Rattle.hz_timing.specs.TimedResolution.{timed_resolution_of, numbered_timed_resolutions};
@@ -7,12 +8,12 @@ ghost use Rattle.hz_timing.specs.TimedRules.{misplaced_behind, misplaced_from, f
 
 use crate::statement::{TimedEntry, TimedHeld};
 
-// The line that breaks the order.
-pub(crate) fn first_out_of_order(entries: &[TimedEntry]) -> Option<u32>
-    ensures { result ≡ first_out_of_order (numbered_timed_resolutions entries.now) }
+// The line that breaks the order, where a start may stand again or not.
+pub(crate) fn first_out_of_order(entries: &[TimedEntry], again: bool) -> Option<u32>
+    ensures { result ≡ first_out_of_order again (numbered_timed_resolutions entries.now) }
 {
     if has_begun(entries) {
-        first_misplaced(entries)
+        first_misplaced(entries, again)
     } else {
         Some(0)
     }
@@ -31,13 +32,13 @@ fn has_begun(entries: &[TimedEntry]) -> bool
 }
 
 // The first line of a statement that is out of order.
-fn first_misplaced(entries: &[TimedEntry]) -> Option<u32>
-    ensures { result ≡ misplaced_from false false (numbered_timed_resolutions entries.now) }
+fn first_misplaced(entries: &[TimedEntry], again: bool) -> Option<u32>
+    ensures { result ≡ misplaced_from again false false (numbered_timed_resolutions entries.now) }
 {
     let mut started = false;
     let mut changed = false;
     for entry in entries {
-        if is_misplaced(&entry.held, started, changed) {
+        if is_misplaced(&entry.held, again, started, changed) {
             return Some(entry.line);
         }
         started |= is_start(&entry.held);
@@ -47,13 +48,13 @@ fn first_misplaced(entries: &[TimedEntry]) -> Option<u32>
 }
 
 // Whether a statement is out of order, where a start stands before it or not, and a change stands before it or not.
-fn is_misplaced(held: &TimedHeld, started: bool, changed: bool) -> bool
-    ensures { result ≡ misplaced_behind started changed (timed_resolution_of held.now) }
+fn is_misplaced(held: &TimedHeld, again: bool, started: bool, changed: bool) -> bool
+    ensures { result ≡ misplaced_behind again started changed (timed_resolution_of held.now) }
 {
     match held {
         TimedHeld::Order(_, _, _) => changed,
         TimedHeld::Ideal(_) => changed,
-        TimedHeld::Start(_) => false,
+        TimedHeld::Start(_) => !again && started,
         TimedHeld::Change(_) => !started,
     }
 }

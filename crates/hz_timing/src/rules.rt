@@ -2,7 +2,7 @@
 
 ghost use Rattle.std.specs.Prelude.{◌≡◌, ◌≤◌, ◌-◌, true, Some, IfOk, if◌then◌else◌};
 ghost use Rattle.hz_timing.specs.TimedResolution.{timed_keyword_by, timed_resolution_of, numbered_timed_resolutions};
-ghost use Rattle.hz_timing.specs.TimedFault.{assignments_in, gate_into, names_unknown};
+ghost use Rattle.hz_timing.specs.TimedFault.{assignments_in, counted, counts_behind, gate_into, names_unknown};
 ghost use Rattle.hz_timing.specs.TimedRules.{left_out, left_out_by_any, least_missing, is_of, line_from, first_beyond};
 
 use crate::keyword::TimedKeyword;
@@ -74,17 +74,19 @@ fn gate_of(net: &Net, variable: u32) -> Option<u32>
     }
 }
 
-// The least primary input that some start leaves out.
+// The least primary input that some start leaves out. If a start may not stand again, those behind the first start or change
+// do not count.
 pub(crate) fn least_missing(
     alloc: Global,
     entries: &[TimedEntry],
+    again: bool,
     primary_inputs: u32,
 ) -> Result<Option<u32>, Memory>
     ensures { IfOk result
         (λ missing. missing ≡ least_missing primary_inputs
-        (numbered_timed_resolutions entries.now)) }
+        (counted again (numbered_timed_resolutions entries.now))) }
 {
-    let least = least_left_out(alloc, entries, primary_inputs)?;
+    let least = least_left_out(alloc, entries, again, primary_inputs)?;
     if least < primary_inputs {
         Ok(Some(least))
     } else {
@@ -94,15 +96,35 @@ pub(crate) fn least_missing(
 
 // The least of so many inputs that some start leaves out, or that many. What a start leaves out bounds the work on the
 // next one, so that all starts take time linear in the text.
-fn least_left_out(alloc: Global, entries: &[TimedEntry], inputs: u32) -> Result<u32, Memory>
+fn least_left_out(
+    alloc: Global,
+    entries: &[TimedEntry],
+    again: bool,
+    inputs: u32,
+) -> Result<u32, Memory>
     ensures { IfOk result
-        (λ least. least ≡ left_out_by_any inputs (numbered_timed_resolutions entries.now)) }
+        (λ least. least ≡ left_out_by_any inputs
+        (counted again (numbered_timed_resolutions entries.now))) }
 {
     let mut least = inputs;
     for entry in entries {
         least = left_out(alloc, &entry.held, least)?;
+        if !counts_behind(&entry.held, again) {
+            return Ok(least);
+        }
     }
     Ok(least)
+}
+
+// Whether a start behind this statement may be what leaves an input out.
+fn counts_behind(held: &TimedHeld, again: bool) -> bool
+    ensures { result ≡ counts_behind again (timed_resolution_of held.now) }
+{
+    match held {
+        TimedHeld::Start(_) => again,
+        TimedHeld::Change(_) => again,
+        _ => true,
+    }
 }
 
 // The least of so many inputs that a statement leaves out, if it is a start, or that many.

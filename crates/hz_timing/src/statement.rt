@@ -42,34 +42,35 @@ pub(crate) enum TimedHeld {
 /// A statement with its line.
 pub(crate) type TimedEntry = Numbered<TimedHeld>;
 
-/// The statements of a script with assumptions of time, of a network.
+/// The statements of a script with assumptions of time, of a network, in which a start may stand again or not.
 #[derive(Drop)]
 pub(crate) struct TimedStatements<'n> {
     pub(crate) alloc: Global,
+    pub(crate) again: bool,
     pub(crate) net: &'n Net,
 }
 
 impl<'n, 't> Text<'t> for TimedStatements<'n> {
-    ghost use Rattle.std.specs.Prelude.{length};
+    ghost use Rattle.std.specs.Prelude.{Bool, length};
     ghost use Rattle.hz_core.specs.Netlist.{Netlist};
     ghost use Rattle.hz_timing.specs.TimedResolution.{ResolvedTimed, timed_resolution_of, resolve_timed_tokens};
     ghost use Rattle.hz_timing.specs.TimedRules.{timed_rules};
 
     type Held = TimedHeld;
 
-    ghost Context = { Netlist };
+    ghost Context = { Bool × Netlist };
 
-    ghost context = { λ reader. reader.net.now };
+    ghost context = { λ reader. (reader.again, reader.net.now) };
 
     ghost Stated = { ResolvedTimed };
 
     ghost stated = { timed_resolution_of };
 
-    ghost grammar = { resolve_timed_tokens };
+    ghost grammar = { λ context. resolve_timed_tokens context.1 };
 
-    ghost rules = { timed_rules };
+    ghost rules = { λ context. timed_rules context.0 context.1 };
 
-    ghost node_count = { λ netlist. length netlist.names };
+    ghost node_count = { λ context. length context.1.names };
 
     fn statement(&mut self, first: Token<'t>, rest: &'t [u8]) -> Result<TimedHeld, StatementFault> {
         let Token::Word(word) = first else {
@@ -103,11 +104,16 @@ impl<'n, 't> Text<'t> for TimedStatements<'n> {
     }
 
     fn least_missing(&self, alloc: Global, entries: &[TimedEntry]) -> Result<Option<u32>, Memory> {
-        least_missing(alloc, entries, self.net.circuit().primary_inputs())
+        least_missing(
+            alloc,
+            entries,
+            self.again,
+            self.net.circuit().primary_inputs(),
+        )
     }
 
     fn first_out_of_order(&self, entries: &[TimedEntry]) -> Option<u32> {
-        first_out_of_order(entries)
+        first_out_of_order(entries, self.again)
     }
 
     fn line_beyond(&self, entries: &[TimedEntry]) -> Option<u32> {

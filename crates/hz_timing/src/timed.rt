@@ -1,6 +1,6 @@
 //! A script with assumptions of time: it is read, and then a job does its part with it, or its least fault is written.
 
-ghost use Rattle.std.specs.Prelude.{◌≡◌, ◌≤◌, ℕ, List, length, codes};
+ghost use Rattle.std.specs.Prelude.{◌≡◌, ◌≤◌, ℕ, Bool, false, List, length, codes};
 ghost use Rattle.hz_core.specs.Netlist.{Netlist, IsCircuit};
 ghost use Rattle.hz_line.specs.Line.{most_text_bytes};
 ghost use Rattle.hz_refusal.specs.Answer.{Prints};
@@ -22,9 +22,16 @@ use hz_refusal::{Ending, Status, put_at, refuse_text, status_after};
 use hz_text::TextFault;
 use std::alloc::Global;
 
-/// What a job does with a script with assumptions of time. `judges` says which text comes with which status.
+/// What a job does with a script with assumptions of time. `judges` says which text comes with which status, and
+/// `may_restart` whether a start may stand again in the script.
 pub trait OnTimed {
     ghost judges: { Self → Netlist → TimedScriptOf → Status → List ℕ → Type 0 };
+
+    ghost may_restart: { Bool };
+
+    /// Whether a start may stand again in the script.
+    fn restarts(&self) -> bool
+        ensures { result ≡ may_restart };
 
     /// Does the job's part with a script that is read.
     fn with_timed<K: Sink>(
@@ -36,6 +43,7 @@ pub trait OnTimed {
     ) -> Status
         requires circuit { IsCircuit net.now }
         requires script { IsTimedScriptFor net.now script.now }
+        requires one { may_restart ≡ false → length script.now.parts ≡ 1 }
         ensures { Ends K.output K.faults (judges self.now net.now script.now) out.old out.new
             result };
 }
@@ -49,12 +57,13 @@ pub fn on_timed<J: OnTimed, K: Sink>(
     out: &mut K,
 ) -> Ending
     requires { length text.now ≤ most_text_bytes }
-    ensures ends { Ends K.output K.faults (OfTimed (J.judges job.now) net.now text.now)
+    ensures ends { Ends K.output K.faults
+        (OfTimed J.may_restart (J.judges job.now) net.now text.now)
         out.old out.new result.status }
-    ensures line { IsToldTimedLine (HasTimedFault net.now text.now) result.status result.line }
+    ensures line { IsToldTimedLine (HasTimedFault J.may_restart net.now text.now) result.status result.line }
 {
     net.keeps_shape();
-    match read_timed(alloc, net, text) {
+    match read_timed(alloc, job.restarts(), net, text) {
         Ok(script) => Ending {
             status: job.with_timed(alloc, net, &script, out),
             line: 0,

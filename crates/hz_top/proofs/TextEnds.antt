@@ -1,5 +1,5 @@
 -- How a task ends on a second text of which nothing is to be refused.
-use Rattle.std.proofs.Common.{◌≡◌, ◌∙◌, sym, ℕ, inl, inr, Bool, List, [], ◌∷◌, All, codes}
+use Rattle.std.proofs.Common.{◌≡◌, ◌∙◌, sym, ℕ, inl, inr, Bool, true, List, [], ◌∷◌, All, codes}
 use Rattle.std.proofs.lemmas.List.Elements.{All-head, All-tail}
 use Rattle.hz_core.specs.Netlist.{Netlist}
 use Rattle.hz_gen.specs.Starts.{IsCompletable}
@@ -56,13 +56,13 @@ none-refused netlist (part ∷ parts) said good (inl (inr (gate, unstable, line)
 none-refused netlist (part ∷ parts) said good (inr (start, accepted, later)) = none-refused netlist parts said (All-tail (λ (part : ScriptOf). IsCompletable netlist part.start) part parts good) later
 
 -- a script with assumptions of time comes to what the judge says, which has no other status
-timed-ends : (judge : Netlist → List (List Bool) → TimedScriptOf → Status → List ℕ → Type 0)
+timed-ends : (again : Bool) (judge : Netlist → List (List Bool) → TimedScriptOf → Status → List ℕ → Type 0)
     → ((netlist : Netlist) (starts : List (List Bool)) (script : TimedScriptOf) (own : Status) (said : List ℕ) → judge netlist starts script own said → own ≡ status.Done)
-    → (netlist : Netlist) (text : List ℕ) (wanted own : Status) (said : List ℕ) → IsGoodTimed (λ netlist script own. All (λ part. IsCompletable netlist part.start) script.parts × (own ≡ status.Done)) netlist text wanted
-    → OfTimed (TimedStarted judge) netlist text own said → own ≡ wanted
-timed-ends judge done netlist text wanted own said good (inl (fault, least, says)) = absurd (good.faultless fault least.stands)
-timed-ends judge done netlist text wanted own said good (inr (value, faultless, is, inl (own_is, refused))) = absurd (none-refused netlist value.parts said (good.each value is).0 refused)
-timed-ends judge done netlist text wanted own said good (inr (value, faultless, is, inr (starts, accepted, says))) = done netlist starts value own said says ∙ sym (good.each value is).1
+    → (netlist : Netlist) (text : List ℕ) (wanted own : Status) (said : List ℕ) → IsGoodTimed again (λ netlist script own. All (λ part. IsCompletable netlist part.start) script.parts × (own ≡ status.Done)) netlist text wanted
+    → OfTimed again (TimedStarted judge) netlist text own said → own ≡ wanted
+timed-ends again judge done netlist text wanted own said good (inl (fault, least, says)) = absurd (good.faultless fault least.stands)
+timed-ends again judge done netlist text wanted own said good (inr (value, faultless, is, inl (own_is, refused))) = absurd (none-refused netlist value.parts said (good.each value is).0 refused)
+timed-ends again judge done netlist text wanted own said good (inr (value, faultless, is, inr (starts, accepted, says))) = done netlist starts value own said says ∙ sym (good.each value is).1
 
 -- a replay comes to the one of both ends that it has, where the judge of runs that are accepted has no other status
 replay-ends : (judge : Netlist → RunTextOf → Status → List ℕ → Type 0)
@@ -89,7 +89,7 @@ reset-ends netlist value wanted own said is says = says.0 ∙ sym is
 pub text-ends : (options : Options) (task : Task) (netlist : Netlist) (text : List ℕ) (wanted own : Status) (said : List ℕ) → good_of task netlist text wanted → comes_of options task netlist text own said → own ≡ wanted
 text-ends options Analyse =
     good-ends (codes "script") HasScriptFault IsValue (Started (Reports options)) (λ netlist script own. IsCompletable netlist script.start × (own ≡ status.Done)) (script-ends (Reports options) (λ netlist start changes own said says. says.0))
-text-ends options Edges = timed-ends (ReportsEdges options) (λ netlist starts script own said says. says.0)
+text-ends options Edges = timed-ends true (ReportsEdges options) (λ netlist starts script own said says. says.0)
 text-ends options Explore =
     good-ends (codes "script") HasScriptFault IsValue (Started (ReportsExploring options)) (λ netlist script own. IsCompletable netlist script.start × (own ≡ status.Done)) (script-ends (ReportsExploring options) (λ netlist start changes own said says. says.0))
 text-ends options Split =

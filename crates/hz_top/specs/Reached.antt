@@ -1,5 +1,5 @@
 -- How far a call came: the file that it worked on last, and the line of its text that a refusal names.
-use Rattle.std.specs.Prelude.{◌≡◌, ◌≢◌, ℕ, ◌⊎◌, List, Option, Some, None, IfSome, IsSomeAnd}
+use Rattle.std.specs.Prelude.{◌≡◌, ◌≢◌, ℕ, ◌⊎◌, true, List, Option, Some, None, IfSome, IsSomeAnd}
 use Rattle.hz_outside.specs.declared.fault.Place.TheVariants.{First, Second}
 use Rattle.hz_core.specs.Netlist.{Netlist}
 use Rattle.hz_script.specs.ScriptFault.{HasScriptFault}
@@ -21,7 +21,7 @@ use Rattle.hz_top.specs.declared.reached.Reached.{Reached}
 -- the line that is told of the second text of a task, by the faults that it may have
 abbrev pub tells_line : Task → Netlist → List ℕ → Status → (line : ℕ) → Type 0
 tells_line Analyse netlist text = IsToldLine (HasScriptFault netlist text)
-tells_line Edges netlist text = IsToldTimedLine (HasTimedFault netlist text)
+tells_line Edges netlist text = IsToldTimedLine (HasTimedFault true netlist text)
 tells_line Explore netlist text = IsToldLine (HasScriptFault netlist text)
 tells_line Split netlist text = IsToldLine (HasScriptFault netlist text)
 tells_line Replay netlist text = IsToldLine (HasRunFault netlist text)

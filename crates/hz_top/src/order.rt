@@ -175,11 +175,11 @@ fn work_on_timed<J: OnTimed, F: Files, K: Sink>(
     requires { F.granted files.old Second second.now most_text_bytes }
     ensures ends { Ends K.output K.faults
         (IsSecondFileOutcome (observation_of F.held F.faults F.longs files.old files.new)
-        (OfTimed (J.judges job.now) net.now) second.now)
+        (OfTimed J.may_restart (J.judges job.now) net.now) second.now)
         out.old out.new result.status }
     ensures stay { CountsStay (observation_of F.held F.faults F.longs files.old files.new) First }
     ensures line { IsLineOnCircuit (F.held files.old)
-        (λ text. IsToldTimedLine (HasTimedFault net.now text)) second.now result.status
+        (λ text. IsToldTimedLine (HasTimedFault J.may_restart net.now text)) second.now result.status
         result.line }
 {
     match files.load(alloc, Place::Second, second, MAX_TEXT) {

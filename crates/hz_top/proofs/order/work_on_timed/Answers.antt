@@ -12,7 +12,7 @@ use Rattle.hz_top.proofs.order.work_on_timed.Goals as goal
 pub returns-in-Ok-clause-ends : goal.returns-in-Ok-clause-ends
 returns-in-Ok-clause-ends g c =
     let told = observation_of g.F.Files.held g.F.Files.faults g.F.Files.longs c.args.files.now c.load.new.self in
-    let comes = OfTimed (g.J.OnTimed.judges c.args.job.now) c.args.net.now in
+    let comes = OfTimed g.J.OnTimed.may_restart (g.J.OnTimed.judges c.args.job.now) c.args.net.now in
     Ends-more g.K.Sink.output g.K.Sink.faults (comes c.in-Ok.text.items) (IsSecondFileOutcome told comes c.args.second.now)
     c.args.out.now c.on_timed.new.out c.on_timed.result.status
     (λ own text says. inr (
@@ -24,7 +24,7 @@ returns-in-Ok-clause-ends g c =
 pub returns-in-Err-clause-ends : goal.returns-in-Err-clause-ends
 returns-in-Err-clause-ends g c =
     let told = observation_of g.F.Files.held g.F.Files.faults g.F.Files.longs c.args.files.now c.load.new.self in
-    let comes = OfTimed (g.J.OnTimed.judges c.args.job.now) c.args.net.now in
+    let comes = OfTimed g.J.OnTimed.may_restart (g.J.OnTimed.judges c.args.job.now) c.args.net.now in
     rw c.without_line.ensures
     (Ends-more g.K.Sink.output g.K.Sink.faults (LoadPrints Second c.in-Err.fault) (IsSecondFileOutcome told comes c.args.second.now)
     c.args.out.now c.refuse_load.new.out c.refuse_load.result
@@ -34,7 +34,7 @@ returns-in-Err-clause-ends g c =
 
 pub returns-in-Ok-clause-line : goal.returns-in-Ok-clause-line
 returns-in-Ok-clause-line g c =
-    inr (of-file (g.F.Files.held c.args.files.now) c.args.second.now c.in-Ok.text.items (λ bytes. IsToldTimedLine (HasTimedFault c.args.net.now bytes) c.on_timed.result.status c.on_timed.result.line)
+    inr (of-file (g.F.Files.held c.args.files.now) c.args.second.now c.in-Ok.text.items (λ bytes. IsToldTimedLine (HasTimedFault g.J.OnTimed.may_restart c.args.net.now bytes) c.on_timed.result.status c.on_timed.result.line)
     c.in-Ok.ensures.bytes (rw c.as_slice.ensures.value at c.on_timed.ensures.line))
 
 pub returns-in-Err-clause-line : goal.returns-in-Err-clause-line
