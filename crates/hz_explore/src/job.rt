@@ -22,7 +22,7 @@ impl OnTimed for Explores {
     ghost use Rattle.hz_timing.specs.Timed.{TimedStarted};
     ghost use Rattle.hz_explore.specs.ExploreReports.{ReportsExploring};
 
-    ghost may_restart = { λ job. false };
+    ghost may_restart = { false };
 
     ghost judges = { λ job. TimedStarted (ReportsExploring job.options) };
 

@@ -97,7 +97,7 @@ module _ (flush : Result (Unit {0}) PutFault) (own : Status) where
   task-flushed : (task : Task) (netlist : Netlist) (text : List ℕ) (line : ℕ) → tells_line task netlist text own line → tells_line task netlist text (status_flushed flush own) line
   task-flushed Analyse netlist text line = text-flushed _ line
   task-flushed Edges netlist text line = timed-flushed _ line
-  task-flushed Explore netlist text line = text-flushed _ line
+  task-flushed Explore netlist text line = timed-flushed _ line
   task-flushed Split netlist text line = text-flushed _ line
   task-flushed Replay netlist text line = text-flushed _ line
   task-flushed Convert netlist text line = text-flushed _ line

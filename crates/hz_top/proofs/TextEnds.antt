@@ -90,8 +90,7 @@ pub text-ends : (options : Options) (task : Task) (netlist : Netlist) (text : Li
 text-ends options Analyse =
     good-ends (codes "script") HasScriptFault IsValue (Started (Reports options)) (λ netlist script own. IsCompletable netlist script.start × (own ≡ status.Done)) (script-ends (Reports options) (λ netlist start changes own said says. says.0))
 text-ends options Edges = timed-ends true (ReportsEdges options) (λ netlist starts script own said says. says.0)
-text-ends options Explore =
-    good-ends (codes "script") HasScriptFault IsValue (Started (ReportsExploring options)) (λ netlist script own. IsCompletable netlist script.start × (own ≡ status.Done)) (script-ends (ReportsExploring options) (λ netlist start changes own said says. says.0))
+text-ends options Explore = timed-ends false (ReportsExploring options) (λ netlist starts script own said says. says.0)
 text-ends options Split =
     good-ends (codes "script") HasScriptFault IsValue (Started (SplitsChanges options.cap)) (λ netlist script own. IsCompletable netlist script.start × (own ≡ status.Done)) (script-ends (SplitsChanges options.cap) (λ netlist start changes own said says. says.0))
 text-ends options Replay =

@@ -1,5 +1,5 @@
 -- How far a call came: the file that it worked on last, and the line of its text that a refusal names.
-use Rattle.std.specs.Prelude.{◌≡◌, ◌≢◌, ℕ, ◌⊎◌, true, List, Option, Some, None, IfSome, IsSomeAnd}
+use Rattle.std.specs.Prelude.{◌≡◌, ◌≢◌, ℕ, ◌⊎◌, true, false, List, Option, Some, None, IfSome, IsSomeAnd}
 use Rattle.hz_outside.specs.declared.fault.Place.TheVariants.{First, Second}
 use Rattle.hz_core.specs.Netlist.{Netlist}
 use Rattle.hz_script.specs.ScriptFault.{HasScriptFault}
@@ -22,7 +22,7 @@ use Rattle.hz_top.specs.declared.reached.Reached.{Reached}
 abbrev pub tells_line : Task → Netlist → List ℕ → Status → (line : ℕ) → Type 0
 tells_line Analyse netlist text = IsToldLine (HasScriptFault netlist text)
 tells_line Edges netlist text = IsToldTimedLine (HasTimedFault true netlist text)
-tells_line Explore netlist text = IsToldLine (HasScriptFault netlist text)
+tells_line Explore netlist text = IsToldTimedLine (HasTimedFault false netlist text)
 tells_line Split netlist text = IsToldLine (HasScriptFault netlist text)
 tells_line Replay netlist text = IsToldLine (HasRunFault netlist text)
 tells_line Convert netlist text = IsToldLine (HasRunFault netlist text)

@@ -1,5 +1,5 @@
 -- The tasks on two files: what the second text comes to, and when which status must come.
-use Rattle.std.specs.Prelude.{◌≡◌, ℕ, true, List, All}
+use Rattle.std.specs.Prelude.{◌≡◌, ℕ, true, false, List, All}
 use Rattle.hz_core.specs.Netlist.{Netlist}
 use Rattle.hz_gen.specs.Starts.{IsCompletable}
 use Rattle.hz_options.specs.declared.options.Options.{Options}
@@ -29,7 +29,7 @@ use Rattle.hz_replay.specs.Verdict.{IsReplayOutcome}
 abbrev pub comes_of : Options → Task → Netlist → List ℕ → Status → List ℕ → Type 0
 comes_of options Analyse = OfScript (Started (Reports options))
 comes_of options Edges = OfTimed true (TimedStarted (ReportsEdges options))
-comes_of options Explore = OfScript (Started (ReportsExploring options))
+comes_of options Explore = OfTimed false (TimedStarted (ReportsExploring options))
 comes_of options Split = OfScript (Started (SplitsChanges options.cap))
 comes_of options Replay = OfRuns IsReplayOutcome
 comes_of options Convert = OfRuns IsConvertOutcome
@@ -47,8 +47,9 @@ good_of Edges =
     (λ netlist script own.
     All (λ part. IsCompletable netlist part.start) script.parts × (own ≡ Done))
 good_of Explore =
-    IsGoodText HasScriptFault IsValue
-    (λ netlist script own. IsCompletable netlist script.start × (own ≡ Done))
+    IsGoodTimed false
+    (λ netlist script own.
+    All (λ part. IsCompletable netlist part.start) script.parts × (own ≡ Done))
 good_of Split =
     IsGoodText HasScriptFault IsValue
     (λ netlist script own. IsCompletable netlist script.start × (own ≡ Done))

@@ -128,7 +128,7 @@ fn work_on_second<F: Files, K: Sink>(
     match work.task {
         Task::Analyse => work_on_script(alloc, &Analyses { options }, net, second, files, out),
         Task::Edges => work_on_timed(alloc, &Edges { options }, net, second, files, out),
-        Task::Explore => work_on_script(alloc, &Explores { options }, net, second, files, out),
+        Task::Explore => work_on_timed(alloc, &Explores { options }, net, second, files, out),
         Task::Split => work_on_script(alloc, &Splits { options }, net, second, files, out),
         Task::Replay => work_on_runs(alloc, &Replays, net, second, files, out),
         Task::Convert => work_on_runs(alloc, &Converts, net, second, files, out),

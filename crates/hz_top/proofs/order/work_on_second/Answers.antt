@@ -20,9 +20,9 @@ returns-in-Edges-clause-ends g c =
 
 pub returns-in-Explore-clause-ends : goal.returns-in-Explore-clause-ends
 returns-in-Explore-clause-ends g c =
-    let told = observation_of g.F.Files.held g.F.Files.faults g.F.Files.longs c.args.files.now c.work_on_script-in-Explore.new.files in
-    subst (λ (task : Task). Ends g.K.Sink.output g.K.Sink.faults (IsSecondFileOutcome told (comes_of c.args.work.options task c.args.net.now) c.args.second.now) c.args.out.now c.work_on_script-in-Explore.new.out c.work_on_script-in-Explore.result.status)
-    (sym c.in-Explore.is) c.work_on_script-in-Explore.ensures.ends
+    let told = observation_of g.F.Files.held g.F.Files.faults g.F.Files.longs c.args.files.now c.work_on_timed-in-Explore.new.files in
+    subst (λ (task : Task). Ends g.K.Sink.output g.K.Sink.faults (IsSecondFileOutcome told (comes_of c.args.work.options task c.args.net.now) c.args.second.now) c.args.out.now c.work_on_timed-in-Explore.new.out c.work_on_timed-in-Explore.result.status)
+    (sym c.in-Explore.is) c.work_on_timed-in-Explore.ensures.ends
 
 pub returns-in-Split-clause-ends : goal.returns-in-Split-clause-ends
 returns-in-Split-clause-ends g c =
@@ -72,8 +72,8 @@ returns-in-Edges-clause-line g c =
 
 pub returns-in-Explore-clause-line : goal.returns-in-Explore-clause-line
 returns-in-Explore-clause-line g c =
-    subst (λ (task : Task). IsLineOnCircuit (g.F.Files.held c.args.files.now) (tells_line task c.args.net.now) c.args.second.now c.work_on_script-in-Explore.result.status c.work_on_script-in-Explore.result.line)
-    (sym c.in-Explore.is) c.work_on_script-in-Explore.ensures.line
+    subst (λ (task : Task). IsLineOnCircuit (g.F.Files.held c.args.files.now) (tells_line task c.args.net.now) c.args.second.now c.work_on_timed-in-Explore.result.status c.work_on_timed-in-Explore.result.line)
+    (sym c.in-Explore.is) c.work_on_timed-in-Explore.ensures.line
 
 pub returns-in-Split-clause-line : goal.returns-in-Split-clause-line
 returns-in-Split-clause-line g c =
