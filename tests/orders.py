@@ -541,4 +541,60 @@ def orders(program, folder):
     yield from tally.checks()
 
 
-PARTS = (orders,)
+def rests_on(words, used):
+    """Whether an assumption is one of the orders that are used, or has the wire of one as its first."""
+    if words[0] == "ideal":
+        return any(words[1] == first for first, _, _ in used)
+    return (words[1], words[2], int(words[3]) if words[3:] else 1) in used
+
+
+class Exploration:
+    """A plain search over the job `edges`: the states to which bursts lead, and the lines of the job `explore`."""
+
+    def __init__(self, program, folder, circuit, script, bursts):
+        self.program, self.folder, self.circuit, self.script, self.bursts = program, folder, circuit, script, bursts
+        self.states, self.kinds, self.lines = [circuit.start], [], []
+        for number, state in enumerate(self.states, 1):
+            self.lines.append(f"state {number}" + "".join(f" {name}={bit}" for name, bit in zip(circuit.names, state)))
+            self.lines += [self.line(number, state, *made) for made in self.changes(state)]
+        counts = " ".join(f"{kind} {self.kinds.count(kind)}" for kind in ("clean", "hazards", "unsettled"))
+        self.lines.append(f"all states {len(self.states)} changes {len(self.kinds)} {counts}")
+
+    def changes(self, state):
+        """The bursts that apply to a state, each with its change in a report that begins it there."""
+        bursts = [burst for burst in self.bursts if burst and all(state[i] != bit for i, bit in burst)]
+        script = Script(self.script.assumptions, [(state, [burst]) for burst in bursts], self.script.options[2:])
+        if not bursts:
+            return []
+        files = [write(self.folder, "f.bench", self.circuit.netlist()), write(self.folder, "f.txt", script.text(self.circuit))]
+        return zip(bursts, [change for _, (change,) in parts_of(run(self.program, ["edges"] + script.options + files, self.folder)[1])[1]])
+
+    def line(self, number, state, burst, change):
+        words = "".join(f" {self.circuit.names[i]}={bit}" for i, bit in burst)
+        place, stopped = next_start(self.circuit.moved(state, burst), "".join(change.column(2)))
+        stated = [str(count) for count, one in enumerate(self.script.assumptions, 1) if rests_on(one, change.used)]
+        used = " ".join(["", "used", *stated]) + " not shown" * (change.kept == "not shown") if change.used else ""
+        if stopped:
+            self.kinds.append("unsettled")
+            return f"{number} unsettled{words} {stopped}{used}"
+        if place not in self.states:
+            self.states.append(place)
+        kinds = change.column(5)[:len(self.circuit.names)]
+        self.kinds.append("clean" if {*kinds} <= {"steady", "single"} and change.kept != "not shown" else "hazards")
+        counts = "".join(f" {kind} {kinds.count(kind)}" for kind in ("single", "static", "dynamic", "maybe-dynamic", "maybe-static"))
+        return f"{number} to {self.states.index(place) + 1}{words}{counts}{used}"
+
+
+def explorations_under(program, folder):
+    """The job `explore` under assumptions, against a plain search over the job `edges`."""
+    for number, (circuit, script) in enumerate(random_scripts(120, 9)):
+        alone = number % 2
+        bursts = circuit.single_bursts() if alone else script.parts[0][1]
+        text = Script(script.assumptions, [(script.parts[0][0], [] if alone else bursts)]).text(circuit)
+        files = [write(folder, "o.bench", circuit.netlist()), write(folder, "o.txt", text)]
+        status, found = run(program, ["explore"] + script.options[2:] + files, folder)
+        lines = re.sub(r"(?s)\A.*?(?=^state 1 )", "", found, flags=re.M).splitlines()
+        yield f"exploration {number} under assumptions", (status, lines), (0, Exploration(program, folder, circuit, script, bursts).lines)
+
+
+PARTS = (orders, explorations_under)

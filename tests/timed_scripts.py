@@ -255,10 +255,58 @@ def hazards_in(text):
 
 def other_jobs(program, folder):
     """The jobs that know no assumption refuse them, and a second start."""
-    for job in ("analyse", "explore", "split"):
+    for job in ("analyse", "split"):
         for script, line in (("order g(1) g(2)\n" + START, "1: form"), (START + "ideal g(1)\n", "2: form"), (START + START, "2: order"), (START + "change a=1\n" + START, "3: order")):
             done = call(program, [job, write(folder, "j.bench", TWO), write(folder, "j.txt", script)], folder)
             yield f"{job} {script!r}", (done.returncode, done.stdout.decode()), (4, f"refused: script line {line}\n")
+
+
+# Scripts whose start may not stand again, on the gates above, and what is refused of them.
+ONE_START = (
+    (START + START, "line 2: order"),
+    (START + "change a=1\n" + START, "line 3: order"),
+    ("change a=1\n" + START, "line 1: order"),
+    (START + "change a=1\norder g(1) g(2)\n", "line 3: order"),
+    (START + "start a=0\n", "line 2: order"),
+    ("start a=0\n" + START, "no value for b"),
+    ("order g(1) h(1)\n" + START + START, "line 3: order"),
+    ("order g(1) g(2) 0\n" + START, "line 1: number"),
+    ("ideal g(1)\n" + START + "ideal g(1)\n", "line 3: stated twice"),
+    ("ideal g(1)\n", "no value for a"),
+)
+# Explorations by hand, behind the line of the netlist: a name, the netlist, the script, and the report.
+EXPLORED = (
+    ("orders both ways", XOR, "order y(1) y(2)\nstart x=0\norder y(2) y(1)\n",
+     "start x=0 y=0\nstate 1 x=0 y=0\n1 to 2 x=1 single 1 static 0 dynamic 0 maybe-dynamic 0 maybe-static 0 used 1 2\n"
+     "state 2 x=1 y=0\n2 to 1 x=0 single 1 static 0 dynamic 0 maybe-dynamic 0 maybe-static 0 used 1 2\n"
+     "all states 2 changes 2 clean 2 hazards 0 unsettled 0\n"),
+    ("the second of two assumptions", XOR, "start x=0\nideal y(2)\norder y(1) y(2)\nchange x=1\n",
+     "start x=0 y=0\nstate 1 x=0 y=0\n1 to 2 x=1 single 1 static 1 dynamic 0 maybe-dynamic 0 maybe-static 0 used 1 2\n"
+     "state 2 x=1 y=0\nall states 2 changes 1 clean 0 hazards 1 unsettled 0\n"),
+    ("an idle order", "INPUT(a)\nINPUT(b)\ng = AND(a, b)\n", "order g(2) g(1)\nstart a=0 b=1\nchange a=1\n",
+     "start a=0 b=1 g=0\nstate 1 a=0 b=1 g=0\n1 to 2 a=1 single 2 static 0 dynamic 0 maybe-dynamic 0 maybe-static 0\n"
+     "state 2 a=1 b=1 g=1\nall states 2 changes 1 clean 1 hazards 0 unsettled 0\n"),
+    ("an order that no run keeps", BLOCKED, "order y(2) y(1)\nstart a=0 y=0\nchange a=1\nchange a=0\n",
+     "feedback y z(1) z y(2)\nstart a=0 y=0 z=0\nstate 1 a=0 y=0 z=0\n1 unsettled a=1 y used 1 not shown\n"
+     "all states 1 changes 1 clean 0 hazards 0 unsettled 1\n"),
+)
+
+
+def explored_rows(program, folder):
+    """The job `explore`: its starts, and explorations by hand."""
+    def explore(netlist, script):
+        done = call(program, ["explore", write(folder, "x.bench", netlist), write(folder, "x.txt", script)], folder)
+        return done.returncode, done.stdout.decode()
+    for script, told in ONE_START:
+        yield f"explore {script!r}", explore(TWO, script), (4, f"refused: script{':' if told.startswith('no') else ''} {told}\n")
+    for name, netlist, script, told in EXPLORED:
+        status, text = explore(netlist, script)
+        yield f"exploration, {name}", (status, text.partition("\n")[2]), (0, told)
+    with open(os.path.join(EXAMPLES, "flipflop.txt"), encoding="utf-8") as file:
+        start = next(line for line in file if line.startswith("start"))
+    with open(os.path.join(EXAMPLES, "flipflop.bench"), encoding="utf-8") as file:
+        netlist = file.read()
+    yield "exploration of the flip-flop under an order", explore(netlist, "order r(2) r(1)\n" + start)[1].splitlines()[-1:], ["all states 12 changes 36 clean 35 hazards 0 unsettled 1"]
 
 
 def timed_scripts(program, folder):
@@ -267,6 +315,7 @@ def timed_scripts(program, folder):
     yield from start_rows(program, folder)
     yield from report_rows(program, folder)
     yield from other_jobs(program, folder)
+    yield from explored_rows(program, folder)
 
 
 PARTS = (timed_scripts,)

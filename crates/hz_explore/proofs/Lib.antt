@@ -28,3 +28,5 @@ pub mod CountLemmas
 pub mod ChangeLemmas
 -- The only part of a script
 pub mod OnlyParts
+-- The numbers of assumptions, one after the other
+pub mod NumberLemmas

@@ -214,9 +214,16 @@ fn rest_on(used: &[Order], given: Assumption) -> bool
     ensures { result ≡ rest_on used.now given }
 {
     match given {
-        Assumption::Order(order) => used.contains(&order),
-        Assumption::Ideal(wire) => used.iter().any(|order| order.first == wire),
+        Assumption::Order(order) => used.iter().any(|other| is_same(order, *other)),
+        Assumption::Ideal(wire) => used.iter().any(|other| other.first == wire),
     }
+}
+
+// Whether two orders are the same.
+fn is_same(order: Order, other: Order) -> bool
+    ensures { result ≡ same_order order other }
+{
+    order.first == other.first && order.second == other.second && order.nth == other.nth
 }
 
 // Gives how many states and changes there are, and how many changes are of each kind.
