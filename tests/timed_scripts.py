@@ -272,7 +272,7 @@ ONE_START = (
     ("order g(1) h(1)\n" + START + START, "line 3: order"),
     ("order g(1) g(2) 0\n" + START, "line 1: number"),
     ("ideal g(1)\n" + START + "ideal g(1)\n", "line 3: stated twice"),
-    ("ideal g(1)\n", "no value for a"),
+    ("ideal g(1)\n", "line 0: order"),
 )
 # Explorations by hand, behind the line of the netlist: a name, the netlist, the script, and the report.
 EXPLORED = (
@@ -280,9 +280,9 @@ EXPLORED = (
      "start x=0 y=0\nstate 1 x=0 y=0\n1 to 2 x=1 single 1 static 0 dynamic 0 maybe-dynamic 0 maybe-static 0 used 1 2\n"
      "state 2 x=1 y=0\n2 to 1 x=0 single 1 static 0 dynamic 0 maybe-dynamic 0 maybe-static 0 used 1 2\n"
      "all states 2 changes 2 clean 2 hazards 0 unsettled 0\n"),
-    ("the second of two assumptions", XOR, "start x=0\nideal y(2)\norder y(1) y(2)\nchange x=1\n",
-     "start x=0 y=0\nstate 1 x=0 y=0\n1 to 2 x=1 single 1 static 1 dynamic 0 maybe-dynamic 0 maybe-static 0 used 1 2\n"
-     "state 2 x=1 y=0\nall states 2 changes 1 clean 0 hazards 1 unsettled 0\n"),
+    ("an order of one way, behind a wire that stands still", XOR + "INPUT(c)\nv = AND(c, y)\n", "ideal v(1)\nstart x=0 c=0\norder y(1) y(2)\nchange x=1\n",
+     "start x=0 c=0 y=0 v=0\nstate 1 x=0 c=0 y=0 v=0\n1 to 2 x=1 single 1 static 1 dynamic 0 maybe-dynamic 0 maybe-static 0 used 2\n"
+     "state 2 x=1 c=0 y=0 v=0\nall states 2 changes 1 clean 0 hazards 1 unsettled 0\n"),
     ("an idle order", "INPUT(a)\nINPUT(b)\ng = AND(a, b)\n", "order g(2) g(1)\nstart a=0 b=1\nchange a=1\n",
      "start a=0 b=1 g=0\nstate 1 a=0 b=1 g=0\n1 to 2 a=1 single 2 static 0 dynamic 0 maybe-dynamic 0 maybe-static 0\n"
      "state 2 a=1 b=1 g=1\nall states 2 changes 1 clean 1 hazards 0 unsettled 0\n"),
