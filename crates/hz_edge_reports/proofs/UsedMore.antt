@@ -11,16 +11,16 @@ use Rattle.hz_orders.specs.Orders.{IsUsed}
 use Rattle.hz_timing.specs.declared.script.Assumption.{Assumption}
 use Rattle.hz_timing.specs.declared.script.Assumption.TheVariants as assumed
 use Rattle.hz_edge_reports.specs.declared.using.Known.{Known}
-use Rattle.hz_edge_reports.specs.UsedOrders.{AreUsed}
-use Rattle.hz_edge_reports.specs.Using.{AddsUsed}
+use Rattle.hz_edge_reports.specs.UsedOrders.{AreFound}
+use Rattle.hz_edge_reports.specs.Using.{AddsFound}
 
 module _ (net : List Driver) (input start : List Bool) where
   -- what is used by earlier assumptions, and then by later ones, is used by all
-  pub used-append : (earlier later : List Assumption) (used more : List Order) (idle rest : ℕ) → AreUsed net input start earlier used idle → AreUsed net input start later more rest →
-      AreUsed net input start (earlier ++ later) (used ++ more) (idle + rest)
+  pub used-append : (earlier later : List Assumption) (used more : List Order) (idle rest : ℕ) → AreFound net input start earlier used idle → AreFound net input start later more rest →
+      AreFound net input start (earlier ++ later) (used ++ more) (idle + rest)
   used-append [] later used more idle rest are then =
-      subst (λ (orders : List Order). AreUsed net input start later (orders ++ more) (idle + rest)) (sym are.0)
-      (subst (λ (n : ℕ). AreUsed net input start later more n) (none rest ∙ ap (λ (n : ℕ). n + rest) (sym are.1)) then)
+      subst (λ (orders : List Order). AreFound net input start later (orders ++ more) (idle + rest)) (sym are.0)
+      (subst (λ (n : ℕ). AreFound net input start later more n) (none rest ∙ ap (λ (n : ℕ). n + rest) (sym are.1)) then)
     where
       none : (n : ℕ) → n ≡ 0 + n
       none n = omega arith
@@ -41,7 +41,7 @@ wire-inside netlist gate wire circuit into =
     reads-inside (network_of netlist) gate wire (wired-network_of netlist circuit) (subst (λ (driver : Driver). Reads driver wire) (sym into.driven) (into.above, into.below))
 
 -- by one assumption at most one order is idle
-one-idle : (net : List Driver) (input start : List Bool) (given : Assumption) (own : List Order) (idle : ℕ) → AreUsed net input start (given ∷ []) own idle → idle ≤ 1
+one-idle : (net : List Driver) (input start : List Bool) (given : Assumption) (own : List Order) (idle : ℕ) → AreFound net input start (given ∷ []) own idle → idle ≤ 1
 one-idle net input start (assumed.Order order) own idle are =
     elim are [
       | inl by ↦ none idle by.1.2.1
@@ -58,32 +58,32 @@ one-idle net input start (assumed.Ideal wire) own idle are = none idle are.4.1
     none : (n : ℕ) → n ≡ 0 → n ≤ 1
     none n e = omega arith
 
-pub few-idle : (known : Known) (given : Assumption) (old new : List Order) (idle : ℕ) → AddsUsed known given old new idle → idle ≤ 1
-few-idle known given old new idle adds = one-idle (network_of known.net.now) known.input.now known.start.now given adds.own idle adds.are_used
+pub few-idle : (known : Known) (given : Assumption) (old new : List Order) (idle : ℕ) → AddsFound known given old new idle → idle ≤ 1
+few-idle known given old new idle adds = one-idle (network_of known.net.now) known.input.now known.start.now given adds.own idle adds.are_found
 
 -- one assumption more
 pub used-more : (known : Known) (assumptions : List Assumption) (i : ℕ) (d : Assumption) (old new : List Order) (idle one : ℕ) → i < length assumptions →
-    AreUsed (network_of known.net.now) known.input.now known.start.now (take i assumptions) old idle → AddsUsed known (get_or assumptions i d) old new one →
-    AreUsed (network_of known.net.now) known.input.now known.start.now (take (i + 1) assumptions) new (idle + one)
+    AreFound (network_of known.net.now) known.input.now known.start.now (take i assumptions) old idle → AddsFound known (get_or assumptions i d) old new one →
+    AreFound (network_of known.net.now) known.input.now known.start.now (take (i + 1) assumptions) new (idle + one)
 used-more known assumptions i d old new idle one inside are adds =
     let net : List Driver = network_of known.net.now in
-    subst (λ (done : List Assumption). AreUsed net known.input.now known.start.now done new (idle + one)) (sym (take_more assumptions i d inside))
-    (subst (λ (orders : List Order). AreUsed net known.input.now known.start.now (take i assumptions ++ get_or assumptions i d ∷ []) orders (idle + one)) (sym adds.grown)
-    (used-append net known.input.now known.start.now (take i assumptions) (get_or assumptions i d ∷ []) old adds.own idle one are adds.are_used))
+    subst (λ (done : List Assumption). AreFound net known.input.now known.start.now done new (idle + one)) (sym (take_more assumptions i d inside))
+    (subst (λ (orders : List Order). AreFound net known.input.now known.start.now (take i assumptions ++ get_or assumptions i d ∷ []) orders (idle + one)) (sym adds.grown)
+    (used-append net known.input.now known.start.now (take i assumptions) (get_or assumptions i d ∷ []) old adds.own idle one are adds.are_found))
 
 -- an order that is used, and one that is idle
-pub used-order : (known : Known) (order : Order) (old new : List Order) → new ≡ old ++ order ∷ [] → IsUsed (network_of known.net.now) known.input.now known.start.now order → AddsUsed known (assumed.Order order) old new 0
+pub used-order : (known : Known) (order : Order) (old new : List Order) → new ≡ old ++ order ∷ [] → IsUsed (network_of known.net.now) known.input.now known.start.now order → AddsFound known (assumed.Order order) old new 0
 used-order known order old new grown is = record {
   own = order ∷ [];
   grown = grown;
-  are_used = inl (is, ([], refl, (refl, refl)));
+  are_found = inl (is, ([], refl, (refl, refl)));
 }
 
-pub idle-order : (known : Known) (order : Order) (old : List Order) → (IsUsed (network_of known.net.now) known.input.now known.start.now order → ⊥) → AddsUsed known (assumed.Order order) old old 1
+pub idle-order : (known : Known) (order : Order) (old : List Order) → (IsUsed (network_of known.net.now) known.input.now known.start.now order → ⊥) → AddsFound known (assumed.Order order) old old 1
 idle-order known order old not_so = record {
   own = [];
   grown = sym (append-nil old);
-  are_used = inr (not_so, (0, refl, (refl, refl)));
+  are_found = inr (not_so, (0, refl, (refl, refl)));
 }
 
 -- a test that holds does not fail

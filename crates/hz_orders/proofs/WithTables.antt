@@ -6,10 +6,12 @@ use Rattle.std.proofs.lemmas.List.{length-map, take_more}
 use Rattle.std.proofs.lemmas.List.Elements.{All-nil, All-cons, All-head, All-tail}
 use Rattle.hz_core.specs.declared.kind.Kind.{Kind}
 use Rattle.hz_core.specs.Gate.{takes}
-use Rattle.hz_core.specs.Netlist.{Netlist, IsCircuit}
-use Rattle.hz_net.specs.Network.{Driver, Function, network_of, driver_at}
-use Rattle.hz_net.specs.Reads.{IsWireInto}
-use Rattle.hz_net.proofs.Wired.{wired-network_of}
+use Rattle.hz_core.specs.Netlist.{Netlist, IsCircuit, gate_at}
+use Rattle.hz_net.specs.Network.{Driver, Function, Source, network_of, driver_at}
+use Rattle.hz_net.specs.Variables.{first_wire}
+use Rattle.hz_net.specs.Reads.{IsWireInto, Reads}
+use Rattle.hz_net.proofs.Wired.{is_gate_of, wired-network_of}
+use Rattle.hz_free.proofs.Chains.{reads-inside}
 use Rattle.hz_word.specs.declared.count.Count.{Count}
 use Rattle.hz_word.specs.declared.count.Count.TheVariants.{Exact, Many}
 use Rattle.hz_word.specs.declared.word.Word.{Word}
@@ -154,3 +156,36 @@ tabled-exist netlist told (order ∷ orders) circuit all =
       | inl has ↦ (order ∷ rest.0, inl (has, (rest.0, refl, rest.1)))
       | inr none ↦ (rest.0, inr (none, rest.1))
     ]
+
+module _ (netlist : Netlist) (circuit : IsCircuit netlist) (told : List Word) (order : Order) where
+  -- an order has no gate if its first wire is no variable, or no wire
+  pub none-outside : length (network_of netlist) ≤ order.first → HasTableAt (network_of netlist) told order → ⊥
+  none-outside above has =
+      let into = has.into in
+      let inside = reads-inside (network_of netlist) has.gate order.first (wired-network_of netlist circuit) (subst (λ (driver : Driver). Reads driver order.first) (sym into.driven) (into.above, into.below)) in
+      omega (arith, above, inside)
+
+  pub none-at-node : (driver : Driver) → driver_at (network_of netlist) order.first ≡ driver → ((source : ℕ) → driver ≢ Source source) → HasTableAt (network_of netlist) told order → ⊥
+  none-at-node driver is node has =
+      let from = (wired-network_of netlist circuit).source has.gate order.first has.into in
+      node from.0 (sym is ∙ from.1)
+
+  -- the wires of the gate are those that its function is taken of
+  module _ (gate wire count : ℕ) (into : IsWireInto (network_of netlist) gate order.first) (first_is : wire ≡ first_wire netlist gate) (pins_are : count ≡ length (gate_at netlist gate).sources) where
+    same-wire : wire ≡ into.first
+    same-wire = first_is ∙ (is_gate_of netlist circuit gate into.kind into.first into.pins into.driven).first_is
+
+    same-count : count ≡ into.pins
+    same-count = pins_are ∙ (is_gate_of netlist circuit gate into.kind into.first into.pins into.driven).pins_are
+
+    pub has-at : HaveTable (slice_range told wire (wire + count)) → HasTableAt (network_of netlist) told order
+    has-at table = record {
+      gate = gate;
+      into = into;
+      table = subst (λ (n : ℕ). HaveTable (slice_range told into.first (into.first + n))) same-count (subst (λ (n : ℕ). HaveTable (slice_range told n (n + count))) same-wire table);
+    }
+
+    pub at-has : HasTableAt (network_of netlist) told order → HaveTable (slice_range told wire (wire + count))
+    at-has has =
+        subst (λ (n : ℕ). HaveTable (slice_range told n (n + count))) (sym same-wire)
+        (subst (λ (n : ℕ). HaveTable (slice_range told into.first (into.first + n))) (sym same-count) (table-of netlist told order gate circuit into has))
