@@ -1,17 +1,22 @@
--- Orders that are found to be used, one assumption after the other.
-use Rattle.std.proofs.Common.{◌≡◌, ℕ, suc, ◌+◌, ◌<◌, ◌≤◌, Bool, List, [], ◌∷◌, ◌++◌, length, take, get_or, refl, sym, ap, ◌∙◌, subst, inl, inr, arith, append_assoc, append-nil, true, false, IsTrue}
+-- Orders that are found, one assumption after the other, and those of them that are used.
+use Rattle.std.proofs.Common.{◌≡◌, ℕ, suc, ◌+◌, ◌<◌, ◌≤◌, Bool, List, [], ◌∷◌, ◌++◌, length, take, get_or, refl, sym, ap, ◌∙◌, subst, inl, inr, arith, append_assoc, append-nil, true, false, All, IsTrue}
 use Rattle.std.proofs.lemmas.List.{take_more}
+use Rattle.std.proofs.lemmas.List.Elements.{All-nil, All-cons, All-append, All-head, All-tail, All-weaker}
 use Rattle.hz_core.specs.Netlist.{Netlist, IsCircuit}
 use Rattle.hz_net.specs.Network.{Driver, network_of}
 use Rattle.hz_net.specs.Reads.{IsWireInto, Reads}
 use Rattle.hz_net.proofs.Wired.{wired-network_of}
 use Rattle.hz_free.proofs.Chains.{reads-inside}
 use Rattle.hz_orders.specs.declared.order.Order.{Order}
-use Rattle.hz_orders.specs.Orders.{IsUsed}
+use Rattle.hz_orders.specs.Orders.{IsOrderOf, IsUsed}
+use Rattle.hz_orders.specs.Inductive.{IsInductiveUnder}
+use Rattle.hz_orders.specs.Tabled.{AreTabled}
 use Rattle.hz_timing.specs.declared.script.Assumption.{Assumption}
 use Rattle.hz_timing.specs.declared.script.Assumption.TheVariants as assumed
+use Rattle.hz_timing.specs.TimedText.{IsAssumptionOf}
+use Rattle.hz_word.specs.declared.word.Word.{Word}
 use Rattle.hz_edge_reports.specs.declared.using.Known.{Known}
-use Rattle.hz_edge_reports.specs.UsedOrders.{AreFound}
+use Rattle.hz_edge_reports.specs.UsedOrders.{AreFound, AreUsed, FollowsFrom}
 use Rattle.hz_edge_reports.specs.Using.{AddsFound}
 
 module _ (net : List Driver) (input start : List Bool) where
@@ -90,3 +95,42 @@ idle-order known order old not_so = record {
 pub not-both : (test : Bool) → IsTrue test → test ≡ false → ⊥
 not-both false holds fails = absurd cc
 not-both true holds fails = absurd cc
+
+-- the orders that are found are orders of the network
+pub found-orders : (netlist : Netlist) (input start : List Bool) (assumptions : List Assumption) (found : List Order) (idle : ℕ) → All (IsAssumptionOf netlist) assumptions → AreFound (network_of netlist) input start assumptions found idle → All (IsOrderOf (network_of netlist)) found
+found-orders netlist input start [] found idle all (none, no_idle) = subst (All (IsOrderOf (network_of netlist))) (sym none) (All-nil (IsOrderOf (network_of netlist)))
+found-orders netlist input start (assumed.Order order ∷ later) found idle all (inl (is_used, (rest, is, more))) =
+    subst (All (IsOrderOf (network_of netlist))) (sym is)
+    (All-cons (IsOrderOf (network_of netlist)) order rest (All-head (IsAssumptionOf netlist) (assumed.Order order) later all).0
+    (found-orders netlist input start later rest idle (All-tail (IsAssumptionOf netlist) (assumed.Order order) later all) more))
+found-orders netlist input start (assumed.Order order ∷ later) found idle all (inr (not_used, (rest, is, more))) =
+    found-orders netlist input start later found rest (All-tail (IsAssumptionOf netlist) (assumed.Order order) later all) more
+found-orders netlist input start (assumed.Ideal wire ∷ later) found idle all (own, rest, is, follows, more) =
+    subst (All (IsOrderOf (network_of netlist))) (sym is)
+    (All-append (IsOrderOf (network_of netlist)) own rest
+    (All-weaker (FollowsFrom (network_of netlist) input start wire) (IsOrderOf (network_of netlist)) (λ order from. from.is_order) own follows)
+    (found-orders netlist input start later rest idle (All-tail (IsAssumptionOf netlist) (assumed.Ideal wire) later all) more))
+
+-- by words that are told of the change the orders that are found come to those that are used
+pub used-told : (net : List Driver) (input start : List Bool) (cap : ℕ) (assumptions : List Assumption) (told : List Word) (found used : List Order) (idle : ℕ) → AreFound net input start assumptions found idle → AreTabled net told found used → IsInductiveUnder used net input start cap told →
+    AreUsed net input start cap assumptions told used idle
+used-told net input start cap assumptions told found used idle are_found tabled inductive = record {
+  found = found;
+  are_found = are_found;
+  words = told;
+  tabled = tabled;
+  inductive = inductive;
+  are_told = λ some. refl;
+}
+
+-- if none is used, the words may be others
+pub none-used : (net : List Driver) (input start : List Bool) (cap : ℕ) (assumptions : List Assumption) (words told : List Word) (found used : List Order) (idle : ℕ) → AreFound net input start assumptions found idle → used ≡ [] → AreTabled net words found [] → IsInductiveUnder [] net input start cap words →
+    AreUsed net input start cap assumptions told used idle
+none-used net input start cap assumptions words told found used idle are_found none tabled inductive = record {
+  found = found;
+  are_found = are_found;
+  words = words;
+  tabled = subst (AreTabled net words found) (sym none) tabled;
+  inductive = subst (λ (orders : List Order). IsInductiveUnder orders net input start cap words) (sym none) inductive;
+  are_told = λ some. absurd (some none);
+}
