@@ -134,3 +134,9 @@ none-used net input start cap assumptions words told found used idle are_found n
   inductive = subst (λ (orders : List Order). IsInductiveUnder orders net input start cap words) (sym none) inductive;
   are_told = λ some. absurd (some none);
 }
+
+-- if none is found, none is used
+pub none-found : (net : List Driver) (input start : List Bool) (cap : ℕ) (assumptions : List Assumption) (words told : List Word) (found : List Order) (idle : ℕ) → AreFound net input start assumptions found idle → found ≡ [] → IsInductiveUnder [] net input start cap words →
+    AreUsed net input start cap assumptions told found idle
+none-found net input start cap assumptions words told found idle are none inductive =
+    none-used net input start cap assumptions words told found found idle are none (subst (λ (list : List Order). AreTabled net words list []) (sym none) refl) inductive

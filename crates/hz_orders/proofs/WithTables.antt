@@ -28,18 +28,22 @@ pub if-both : {T E : Type 0} (r : Result T E) (P Q R : T → Type 0) → ((x : T
 if-both (Ok x) P Q R each one two = each x one two
 if-both (Err e) P Q R each one two = tt
 
--- numbers of changes are exact, or one is not
+-- a number of changes is exact, or it is not
+is-exact-or-not : (count : Count) → IsExact count ⊎ (IsExact count → ⊥)
+is-exact-or-not (Exact n) = inl tt
+is-exact-or-not Many = inr (λ exact. exact)
+
 exact-or-not : (pins : List Word) → AreExact pins ⊎ (AreExact pins → ⊥)
 exact-or-not [] = inl tt
-exact-or-not (pin ∷ pins) = first pin.changes refl
-  where
-    first : (count : Count) → pin.changes ≡ count → AreExact (pin ∷ pins) ⊎ (AreExact (pin ∷ pins) → ⊥)
-    first (Exact n) is =
-        elim (exact-or-not pins) [
-          | inl are ↦ inl (subst IsExact (sym is) tt, are)
-          | inr not_so ↦ inr (λ all. not_so all.1)
-        ]
-    first Many is = inr (λ all. subst IsExact is all.0)
+exact-or-not (pin ∷ pins) =
+    elim (is-exact-or-not pin.changes) [
+      | inr not_so ↦ inr (λ all. not_so all.0)
+      | inl first ↦
+          elim (exact-or-not pins) [
+            | inl are ↦ inl (first, are)
+            | inr not_all ↦ inr (λ all. not_all all.1)
+          ]
+    ]
 
 -- pins have a table, or they have none
 pub table-or-not : (pins : List Word) → HaveTable pins ⊎ (HaveTable pins → ⊥)
