@@ -331,25 +331,36 @@ def random_assumptions(chance, circuit, pairs):
     return [words for place, words in enumerate(found) if words not in found[:place]][:5]
 
 
-def split_used(assumptions, used, b, start, names):
+def ways_of(circuit, most):
+    """In how many ways the wires of each wire's gate can stand, if variables change at most so often."""
+    found = {}
+    for wires in circuit.reads()[len(circuit.inputs):len(circuit.names)]:
+        ways = math.prod(math.inf if most[wire] is None else most[wire] + 1 for wire in wires)
+        found.update(dict.fromkeys(wires, ways))
+    return found
+
+
+def split_used(assumptions, used, b, start, names, ways):
     """The used orders that follow from each ideal wire, and how many orders are idle, if these are the orders that a change uses; else None.
-    A given order is used if its first wire comes to the other value by Algorithm B."""
+    A given order is used if its first wire comes to the other value by Algorithm B, unless the wires can stand in too many ways."""
     if not assumptions:
         return None if used else ([], 0)
     (keyword, wire, *more), *later = assumptions
     if keyword == "ideal":
         own = [order for order in used if order[0] == wire]
         for count in range(len(own) + 1):
-            rest = split_used(later, used[count:], b, start, names) if used[:count] == own[:count] else None
+            rest = split_used(later, used[count:], b, start, names, ways) if used[:count] == own[:count] else None
             if rest:
                 return [(wire, order) for order in used[:count]] + rest[0], rest[1]
         return None
     i = names.index(wire)
     if b[i] != model.other(start[i]):
-        rest = split_used(later, used, b, start, names)
+        rest = split_used(later, used, b, start, names, ways)
         return rest and (rest[0], rest[1] + 1)
+    if ways[i] > MOST_POSITIONS:
+        return split_used(later, used, b, start, names, ways)
     given = (wire, more[0], int(more[1]) if more[1:] else 1)
-    return split_used(later, used[1:], b, start, names) if used[:1] == [given] else None
+    return split_used(later, used[1:], b, start, names, ways) if used[:1] == [given] else None
 
 
 def most_of_walks(kind, letters, counts, orders):
@@ -461,8 +472,10 @@ def walk_checks(name, circuit, orders, most, cap):
 def change_checks(name, circuit, script, change, tally):
     """All that is said of a change that is made."""
     names, b = circuit.variables(), circuit.algorithm_b()[-1]
-    split = split_used(script.assumptions, change.used, b, circuit.start, names)
+    ways = ways_of(circuit, change.column(4))
+    split = split_used(script.assumptions, change.used, b, circuit.start, names, ways)
     yield f"used orders of {name}", split is not None, True
+    yield f"tables of {name}", [order for order in change.used if ways[names.index(order[0])] > MOST_POSITIONS], []
     following, idle = split or ([], 0)
     yield f"number of orders of {name}", change.counts, f"orders used {len(change.used)} idle {idle}"
     yield from row_checks(name, circuit, change)
@@ -539,6 +552,31 @@ def orders(program, folder):
             yield from script_checks(number, circuit, script, text, tally)
             yield from call_checks(number, program, folder, circuit, text, script)
     yield from tally.checks()
+    yield from wide_gates(program, folder)
+
+
+def wide_gates(program, folder):
+    """A gate whose wires can each move once stands in 2 to their number ways. Up to the most that have a table its order is used, and the
+    gate stays. Else the order is neither used nor idle, and the change is as without it. An order of the wire that stays is idle."""
+    for pins in (3, 9, 10, 12):
+        gates = f"INPUT(a)\nINPUT(b)\nn = NOT(a)\nz = AND({'a, ' * (pins - 1)}n, b)\ny = AND(a, n)\n"
+        own, other, idle = f"order z({pins}) z(1)", "order y(2) y(1)", f"order z({pins + 1}) z(1)"
+        found, without = wide_change(program, folder, gates, [own, idle]), wide_change(program, folder, gates, [])
+        both = wide_change(program, folder, gates, [own, other, idle])
+        fits = 2 ** pins <= MOST_POSITIONS
+        used = [(f"z({pins})", "z(1)", 1)] if fits else []
+        yield f"order of {pins} pins", (found.used, found.counts), (used, f"orders used {len(used)} idle 1")
+        yield f"kept run of {pins} pins", found.kept, "yes" if fits else None
+        yield f"order of {pins} pins beside another", (both.used, both.counts), (used + [("y(2)", "y(1)", 1)], f"orders used {len(used) + 1} idle 1")
+        yield f"gate of {pins} pins", [row[5] for row in found.rows if row[0] == "z"], ["steady" if fits else "static"]
+        yield f"{pins} pins as without assumptions", found.text() == without.text(), not fits
+
+
+def wide_change(program, folder, gates, statements):
+    """What the program says of the one change of a wide gate under some orders."""
+    script = "".join(line + "\n" for line in [*statements, "start a=0 b=1", "change a=1"])
+    _, text = run(program, ["edges", write(folder, "w.bench", gates), write(folder, "w.txt", script)], folder)
+    return parts_of(text)[1][0][1][0]
 
 
 def rests_on(words, used):

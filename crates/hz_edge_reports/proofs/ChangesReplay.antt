@@ -37,7 +37,7 @@ pub right-change :
     ChangeLaws →
     (netlist : Netlist) (cap : ℕ) (assumptions : List Assumption) (found : ChangeOf) → IsCircuit netlist → IsStableStart netlist found.start → length found.input ≡ netlist.inputs →
     IsResult (algorithm_a (network_of netlist) found.input found.start) found.a → IsResult (algorithm_b (network_of netlist) found.input found.a) found.b →
-    AreUsed (network_of netlist) found.input found.start assumptions found.used found.idle → AreRightUnder found.used (network_of netlist) cap found → IsRightChange netlist cap assumptions found
+    AreUsed (network_of netlist) found.input found.start cap assumptions found.edges.told found.used found.idle → AreRightUnder found.used (network_of netlist) cap found → IsRightChange netlist cap assumptions found
 right-change laws netlist cap assumptions found circuit begins input of_a of_b are_used right = record {
   a = of_a;
   b = of_b;

@@ -1,5 +1,5 @@
 -- Every change comes to something.
-use Rattle.std.proofs.Common.{◌≡◌, ◌∙◌, refl, subst, ℕ, suc, ◌<◌, ◌≤◌, Bool, true, false, not, List, [], ◌∷◌, length, replicate, ◌↔◌, ◌⊎◌, inl, inr}
+use Rattle.std.proofs.Common.{◌≡◌, ◌∙◌, refl, subst, ℕ, suc, ◌<◌, ◌≤◌, Bool, true, false, not, List, [], ◌∷◌, length, replicate, All, ◌↔◌, ◌⊎◌, inl, inr}
 use Rattle.std.proofs.lemmas.List.{length-replicate}
 use Rattle.hz_core.specs.declared.tri.Tri.{Tri}
 use Rattle.hz_core.specs.declared.tri.Tri.TheVariants.{Zero, One, Unknown}
@@ -19,16 +19,20 @@ use Rattle.hz_bounds.specs.Existence.{WordsAreTold}
 use Rattle.hz_orders.specs.declared.order.Order.{Order}
 use Rattle.hz_orders.specs.Orders.{IsUsed, Keeps}
 use Rattle.hz_orders.specs.Inductive.{IsInductiveUnder}
+use Rattle.hz_orders.specs.Tabled.{AreTabled}
+use Rattle.hz_orders.proofs.WithTables.{tabled-exist}
 use Rattle.hz_timing.specs.declared.script.Assumption.{Assumption}
 use Rattle.hz_timing.specs.declared.script.Assumption.TheVariants as assumed
+use Rattle.hz_timing.specs.TimedText.{IsAssumptionOf}
 use Rattle.hz_edges.specs.Edges.{EdgesOf}
 use Rattle.hz_edges.specs.EdgesExist.{EdgesExist}
-use Rattle.hz_edge_reports.specs.UsedOrders.{AreUsed, FollowsFrom}
+use Rattle.hz_edge_reports.specs.UsedOrders.{AreFound, FollowsFrom}
 use Rattle.hz_edge_reports.specs.EdgeChanges.{ChangeOf, IsRightChange}
 use Rattle.hz_edge_reports.specs.OrderedEdges.{AreEdgesUnder}
 use Rattle.hz_edge_reports.specs.ChangesExist.{ChangesExist}
 use Rattle.hz_edge_reports.proofs.OrderedRight.{edges-under, long-outcome}
 use Rattle.hz_edge_reports.proofs.ChangesReplay.{ChangeLaws, right-change}
+use Rattle.hz_edge_reports.proofs.UsedMore.{found-orders, none-used, used-told}
 use Rattle.std.proofs.lemmas.List.Elements.{All-nil}
 
 -- what the laws of hz_orders say
@@ -65,18 +69,18 @@ all-unknown [] = tt
 all-unknown (false ∷ state) = (refl, all-unknown state)
 all-unknown (true ∷ state) = (refl, all-unknown state)
 
--- which orders are used can be told
-used-exist : (net : List Driver) (input start : List Bool) → ((order : Order) → IsUsed net input start order ⊎ (IsUsed net input start order → ⊥)) → (assumptions : List Assumption) →
-    (used : List Order) × (idle : ℕ) × AreUsed net input start assumptions used idle
-used-exist net input start tells [] = ([], 0, (refl, refl))
-used-exist net input start tells (assumed.Order order ∷ later) =
-    let rest = used-exist net input start tells later in
+-- which orders are found can be told
+found-exist : (net : List Driver) (input start : List Bool) → ((order : Order) → IsUsed net input start order ⊎ (IsUsed net input start order → ⊥)) → (assumptions : List Assumption) →
+    (found : List Order) × (idle : ℕ) × AreFound net input start assumptions found idle
+found-exist net input start tells [] = ([], 0, (refl, refl))
+found-exist net input start tells (assumed.Order order ∷ later) =
+    let rest = found-exist net input start tells later in
     elim (tells order) [
       | inl is ↦ (order ∷ rest.0, rest.1, inl (is, (rest.0, refl, rest.2)))
       | inr not_so ↦ (rest.0, suc rest.1, inr (not_so, (rest.1, refl, rest.2)))
     ]
-used-exist net input start tells (assumed.Ideal wire ∷ later) =
-    let rest = used-exist net input start tells later in
+found-exist net input start tells (assumed.Ideal wire ∷ later) =
+    let rest = found-exist net input start tells later in
     (rest.0, rest.1, ([], rest.0, refl, All-nil (FollowsFrom net input start wire), rest.2))
 
 module _ (netlist : Netlist) (input start : List Bool) (cap : ℕ) (circuit : IsCircuit netlist) (whole : IsWhole netlist) (begins : IsStableStart netlist start) where
@@ -104,27 +108,40 @@ module _ (netlist : Netlist) (input start : List Bool) (cap : ℕ) (circuit : Is
       (λ e. refl)
       (λ i few. refl)
 
-  change-exists : ChangeLaws → EdgesExist → WordsAreTold → InductiveUnderAny → OrderedCovers → (assumptions : List Assumption) → length input ≡ netlist.inputs → 1 ≤ cap → cap ≤ greatest_cap →
-      (a b : List Tri) → IsResult (algorithm_a net input start) a → IsResult (algorithm_b net input a) b → (used : List Order) (idle : ℕ) → AreUsed net input start assumptions used idle →
-      (found : ChangeOf) × (found.start ≡ start) × (found.input ≡ input) × IsRightChange netlist cap assumptions found
-  change-exists laws exist words under covers assumptions given low high a b of_a of_b [] idle are =
+  -- words that are inductive without orders tell which orders are used; if none is, there are edges without orders, and else these words are right
+  change-exists : ChangeLaws → EdgesExist → InductiveUnderAny → OrderedCovers → (assumptions : List Assumption) → length input ≡ netlist.inputs → 1 ≤ cap → cap ≤ greatest_cap →
+      (a b : List Tri) → IsResult (algorithm_a net input start) a → IsResult (algorithm_b net input a) b → (told : List Word) → IsInductive net input start cap told → (found : List Order) (idle : ℕ) → AreFound net input start assumptions found idle →
+      (used : List Order) → AreTabled net told found used → (made : ChangeOf) × (made.start ≡ start) × (made.input ≡ input) × IsRightChange netlist cap assumptions made
+  change-exists laws exist under covers assumptions given low high a b of_a of_b told inductive found idle are [] tabled =
       let edges = exist netlist input start cap a b circuit whole begins low high of_a of_b in
-      let found : ChangeOf = record { input = input; start = start; a = a; b = b; used = []; idle = idle; ends = b; kept = false; edges = edges.0 } in
-      (found, refl, refl, right-change laws netlist cap assumptions found circuit begins given of_a of_b are (refl, edges.1))
-  change-exists laws exist words under covers assumptions given low high a b of_a of_b (order ∷ orders) idle are =
-      let told = words netlist input start a cap circuit whole begins of_a in
-      let edges : EdgesOf = record { told = told.0; steps = []; counts = [] } in
-      let found : ChangeOf = record { input = input; start = start; a = a; b = b; used = order ∷ orders; idle = idle; ends = replicate (length start) Unknown; kept = false; edges = edges } in
-      (found, refl, refl, right-change laws netlist cap assumptions found circuit begins given of_a of_b are (edges-of-words under covers told.0 told.1 (order ∷ orders)))
+      let made : ChangeOf = record { input = input; start = start; a = a; b = b; used = []; idle = idle; ends = b; kept = false; edges = edges.0 } in (
+        made,
+        refl,
+        refl,
+        right-change laws netlist cap assumptions made circuit begins given of_a of_b
+            (none-used net input start cap assumptions told edges.0.told found [] idle are refl tabled (under [] netlist input start cap told circuit whole inductive)) (refl, edges.1),
+      )
+  change-exists laws exist under covers assumptions given low high a b of_a of_b told inductive found idle are (order ∷ orders) tabled =
+      let edges : EdgesOf = record { told = told; steps = []; counts = [] } in
+      let made : ChangeOf = record { input = input; start = start; a = a; b = b; used = order ∷ orders; idle = idle; ends = replicate (length start) Unknown; kept = false; edges = edges } in (
+        made,
+        refl,
+        refl,
+        right-change laws netlist cap assumptions made circuit begins given of_a of_b
+            (used-told net input start cap assumptions told found (order ∷ orders) idle are tabled (under (order ∷ orders) netlist input start cap told circuit whole inductive))
+            (edges-of-words under covers told inductive (order ∷ orders)),
+      )
 
-  pub change-there : ChangeLaws → ResultOfAExists → ResultOfBExists → EdgesExist → WordsAreTold → UsedByB → InductiveUnderAny → OrderedCovers → (assumptions : List Assumption) → length input ≡ netlist.inputs → 1 ≤ cap → cap ≤ greatest_cap →
+  pub change-there : ChangeLaws → ResultOfAExists → ResultOfBExists → EdgesExist → WordsAreTold → UsedByB → InductiveUnderAny → OrderedCovers → (assumptions : List Assumption) → All (IsAssumptionOf netlist) assumptions → length input ≡ netlist.inputs → 1 ≤ cap → cap ≤ greatest_cap →
       (found : ChangeOf) × (found.start ≡ start) × (found.input ≡ input) × IsRightChange netlist cap assumptions found
-  change-there laws a_exists b_exists exist words by_b under covers assumptions given low high =
+  change-there laws a_exists b_exists exist words by_b under covers assumptions all given low high =
       let a = a_exists net input start begins.long in
       let b = b_exists net input start a.0 begins.long a.1 in
-      let used = used-exist net input start (tells-used by_b a.0 b.0 a.1 b.1) assumptions in
-      change-exists laws exist words under covers assumptions given low high a.0 b.0 a.1 b.1 used.0 used.1 used.2
+      let told = words netlist input start a.0 cap circuit whole begins a.1 in
+      let found = found-exist net input start (tells-used by_b a.0 b.0 a.1 b.1) assumptions in
+      let used = tabled-exist netlist told.0 found.0 circuit (found-orders netlist input start assumptions found.0 found.1 all found.2) in
+      change-exists laws exist under covers assumptions given low high a.0 b.0 a.1 b.1 told.0 told.1 found.0 found.1 found.2 used.0 used.1
 
 pub changes_exist : ChangeLaws → ResultOfAExists → ResultOfBExists → EdgesExist → WordsAreTold → UsedByB → InductiveUnderAny → OrderedCovers → ChangesExist
-changes_exist laws a_exists b_exists exist words by_b under covers netlist assumptions input start cap circuit whole are begins given low high =
-    change-there netlist input start cap circuit whole begins laws a_exists b_exists exist words by_b under covers assumptions given low high
+changes_exist laws a_exists b_exists exist words by_b under covers netlist assumptions input start cap circuit whole all begins given low high =
+    change-there netlist input start cap circuit whole begins laws a_exists b_exists exist words by_b under covers assumptions all given low high

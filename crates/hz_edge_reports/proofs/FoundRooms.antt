@@ -1,5 +1,5 @@
 -- What a room holds is found of the same change, by other names.
-use Rattle.std.proofs.Common.{◌≡◌, ◌∙◌, sym, subst, ap, ℕ, Bool, List, length}
+use Rattle.std.proofs.Common.{◌≡◌, ◌∙◌, sym, subst, ap, ℕ, Bool, List, [], length}
 use Rattle.std.specs.Prelude.{Vec}
 use Rattle.hz_core.specs.declared.tri.Tri.{Tri}
 use Rattle.hz_net.specs.Network.{Driver, network_of}
@@ -9,13 +9,16 @@ use Rattle.hz_word.specs.declared.word.Word.{Word}
 use Rattle.hz_free.specs.Inductive.{IsInductive}
 use Rattle.hz_core.specs.Netlist.{IsCircuit, IsWhole}
 use Rattle.hz_orders.specs.declared.order.Order.{Order}
+use Rattle.hz_orders.specs.Inductive.{IsInductiveUnder}
+use Rattle.hz_orders.specs.Tabled.{AreTabled}
+use Rattle.hz_timing.specs.declared.script.Assumption.{Assumption}
 use Rattle.hz_edge_reports.specs.declared.finding.Making.{Making}
 use Rattle.hz_edge_reports.specs.declared.room.ChangeRoom.{ChangeRoom}
 use Rattle.hz_edge_reports.specs.declared.using.Known.{Known}
 use Rattle.hz_edge_reports.specs.Room.{CanBeMade, IsChangeRoom, change_of}
 use Rattle.hz_edge_reports.specs.Passed.{AreToldFree, HavePassed, PassesRest, RestsFor}
 use Rattle.hz_edge_reports.specs.Using.{IsKnown}
-use Rattle.hz_edge_reports.specs.UsedOrders.{AreUsed}
+use Rattle.hz_edge_reports.specs.UsedOrders.{AreFound, AreUsed}
 use Rattle.hz_edge_reports.specs.OrderedEdges.{AreEdgesUnder}
 use Rattle.hz_edge_reports.specs.EdgeChanges.{AreRightUnder, IsRightChange}
 use Rattle.hz_edge_reports.proofs.ChangesReplay.{ChangeLaws, right-change}
@@ -49,13 +52,31 @@ module _ {X Z : Type 0} where
   items-same : (v w : Vec X Z) → v ≡ w → v.items ≡ w.items
   items-same v w same = ap (λ (u : Vec X Z). u.items) same
 
+-- the orders that a room uses, by other names
+same-used : (net : List Driver) (input given start from : List Bool) (cap : ℕ) (assumptions : List Assumption) (told words : List Word) (used orders : List Order) (idle number : ℕ) →
+    given ≡ input → from ≡ start → orders ≡ used → number ≡ idle → ((used ≡ [] → ⊥) → words ≡ told) → AreUsed net input start cap assumptions told used idle → AreUsed net given from cap assumptions words orders number
+same-used net input given start from cap assumptions told words used orders idle number inputs starts same numbers words_are are = record {
+  found = are.found;
+  are_found =
+      subst (λ (n : ℕ). AreFound net given from assumptions are.found n) (sym numbers)
+      (subst (λ (bits : List Bool). AreFound net given bits assumptions are.found idle) (sym starts)
+      (subst (λ (bits : List Bool). AreFound net bits start assumptions are.found idle) (sym inputs) are.are_found));
+  words = are.words;
+  tabled = subst (AreTabled net are.words are.found) (sym same) are.tabled;
+  inductive =
+      subst (λ (list : List Order). IsInductiveUnder list net given from cap are.words) (sym same)
+      (subst (λ (bits : List Bool). IsInductiveUnder used net given bits cap are.words) (sym starts)
+      (subst (λ (bits : List Bool). IsInductiveUnder used net bits start cap are.words) (sym inputs) are.inductive));
+  are_told = λ some. are.are_told (λ none. some (same ∙ none)) ∙ sym (words_are (λ none. some (same ∙ none)));
+}
+
 -- what is found of a room's change, step by step, is right
 pub room-right :
     ChangeLaws →
     (making : Making) (was used now : ChangeRoom) → CanBeMade making → IsChangeRoom making.net.now was → HavePassed making.net.now was → PassesRest was used →
-    AreUsed (network_of making.net.now) was.input.items was.start.items making.assumptions.now used.used.items used.idle → RestsFor used now →
+    AreUsed (network_of making.net.now) was.input.items was.start.items making.cap making.assumptions.now used.edges.told.items used.used.items used.idle → RestsFor used now → ((used.used.items ≡ [] → ⊥) → now.edges.told ≡ used.edges.told) →
     AreRightUnder used.used.items (network_of making.net.now) making.cap (change_of now) → IsRightChange making.net.now making.cap making.assumptions.now (change_of now)
-room-right laws making was used now can there passed rests are_used after right =
+room-right laws making was used now can there passed rests are_used after words right =
     let net : List Driver = network_of making.net.now in
     let starts : now.start.items ≡ was.start.items = items-same now.start was.start (after.start ∙ rests.start) in
     let inputs : now.input.items ≡ was.input.items = items-same now.input was.input (after.input ∙ rests.input) in
@@ -71,10 +92,8 @@ room-right laws making was used now can there passed rests are_used after right 
     (subst (λ (values : List Tri). IsResult (algorithm_b net now.input.items now.edges.a.items) values) (sym b_is)
     (subst (λ (values : List Tri). IsResult (algorithm_b net now.input.items values) was.edges.b.items) (sym a_is)
     (subst (λ (bits : List Bool). IsResult (algorithm_b net bits was.edges.a.items) was.edges.b.items) (sym inputs) passed.b_result)))
-    (subst (λ (n : ℕ). AreUsed net now.input.items now.start.items making.assumptions.now now.used.items n) (sym after.idle)
-    (subst (λ (list : List Order). AreUsed net now.input.items now.start.items making.assumptions.now list used.idle) (sym orders)
-    (subst (λ (bits : List Bool). AreUsed net now.input.items bits making.assumptions.now used.used.items used.idle) (sym starts)
-    (subst (λ (bits : List Bool). AreUsed net bits was.start.items making.assumptions.now used.used.items used.idle) (sym inputs) are_used))))
+    (same-used net was.input.items now.input.items was.start.items now.start.items making.cap making.assumptions.now used.edges.told.items now.edges.told.items used.used.items now.used.items used.idle now.idle
+    inputs starts orders after.idle (λ some. items-same now.edges.told used.edges.told (words some)) are_used)
     (subst (λ (list : List Order). AreRightUnder list net making.cap (change_of now)) (sym orders) right)
 
 -- edges under orders, by other names

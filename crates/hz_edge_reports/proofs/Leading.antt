@@ -1,7 +1,7 @@
 -- What is found of a change names variables, and leads somewhere: to a next start, or to a variable that stops.
 use Rattle.std.proofs.Common.{◌≡◌, ◌∙◌, ℕ, zero, suc, ◌<◌, ◌≤◌, ◌⊎◌, Bool, true, false, List, [], ◌∷◌, ◌++◌, length, take, All, Some, None, refl, sym, ap, subst, arith, inl, inr}
 use Rattle.std.proofs.lemmas.Bool.{cases_lt}
-use Rattle.std.proofs.lemmas.List.Elements.{All-nil, All-cons, All-append, All-head, All-tail, All-weaker}
+use Rattle.std.proofs.lemmas.List.Elements.{All-nil, All-weaker}
 use Rattle.hz_core.specs.declared.tri.Tri.{Tri}
 use Rattle.hz_core.specs.Netlist.{Netlist, IsCircuit}
 use Rattle.hz_net.specs.Network.{Driver, network_of, bit_at, excitation, IsVariable}
@@ -13,8 +13,9 @@ use Rattle.hz_free.proofs.Chains.{reads-inside}
 use Rattle.hz_lists.specs.Least.{IsLeast}
 use Rattle.hz_orders.specs.declared.order.Order.{Order}
 use Rattle.hz_orders.specs.Orders.{IsOrderOf}
+use Rattle.hz_orders.proofs.WithTables.{tabled-of-all}
+use Rattle.hz_word.specs.declared.word.Word.{Word}
 use Rattle.hz_timing.specs.declared.script.Assumption.{Assumption}
-use Rattle.hz_timing.specs.declared.script.Assumption.TheVariants as assumed
 use Rattle.hz_timing.specs.TimedText.{IsAssumptionOf}
 use Rattle.hz_seq.specs.Sequence.{changed_input, IsFirstUnknown, IsSettledAt}
 use Rattle.hz_seq.proofs.FirstAnalyses.{input-long}
@@ -23,8 +24,9 @@ use Rattle.hz_replay.proofs.ReadBack.{run-inside}
 use Rattle.hz_changes.proofs.Writable.{first-inside}
 use Rattle.hz_edge_reports.specs.declared.room.ChangeRoom.{ChangeRoom}
 use Rattle.hz_edge_reports.specs.Room.{change_of}
-use Rattle.hz_edge_reports.specs.UsedOrders.{AreUsed, FollowsFrom}
+use Rattle.hz_edge_reports.specs.UsedOrders.{AreUsed}
 use Rattle.hz_edge_reports.specs.EdgeChanges.{ChangeOf, AreRightUnder, IsChangeFrom, IsNextStart, IsRightChange, IsStopper, IsUnstableVariable}
+use Rattle.hz_edge_reports.proofs.UsedMore.{found-orders}
 use Rattle.hz_edge_reports.proofs.NextStart.{next-start, first-unstable}
 
 -- the wires of an order are variables
@@ -39,19 +41,11 @@ names-wires : (netlist : Netlist) (order : Order) → IsCircuit netlist → IsOr
 names-wires netlist order circuit is = (wire-inside netlist is.gate order.first circuit is.first, wire-inside netlist is.gate order.second circuit is.second)
 
 -- so those of the orders that are used are
-used-inside : (netlist : Netlist) (input start : List Bool) (assumptions : List Assumption) (used : List Order) (idle : ℕ) → IsCircuit netlist → All (IsAssumptionOf netlist) assumptions → AreUsed (network_of netlist) input start assumptions used idle → All (NamesWires netlist) used
-used-inside netlist input start [] used idle circuit all (none, no_idle) = subst (All (NamesWires netlist)) (sym none) (All-nil (NamesWires netlist))
-used-inside netlist input start (assumed.Order order ∷ later) used idle circuit all (inl (is_used, (rest, is, more))) =
-    subst (All (NamesWires netlist)) (sym is)
-    (All-cons (NamesWires netlist) order rest (names-wires netlist order circuit (All-head (IsAssumptionOf netlist) (assumed.Order order) later all).0)
-    (used-inside netlist input start later rest idle circuit (All-tail (IsAssumptionOf netlist) (assumed.Order order) later all) more))
-used-inside netlist input start (assumed.Order order ∷ later) used idle circuit all (inr (not_used, (rest, is, more))) =
-    used-inside netlist input start later used rest circuit (All-tail (IsAssumptionOf netlist) (assumed.Order order) later all) more
-used-inside netlist input start (assumed.Ideal wire ∷ later) used idle circuit all (own, rest, is, follows, more) =
-    subst (All (NamesWires netlist)) (sym is)
-    (All-append (NamesWires netlist) own rest
-    (All-weaker (FollowsFrom (network_of netlist) input start wire) (NamesWires netlist) (λ order from. names-wires netlist order circuit from.is_order) own follows)
-    (used-inside netlist input start later rest idle circuit (All-tail (IsAssumptionOf netlist) (assumed.Ideal wire) later all) more))
+used-inside : (netlist : Netlist) (input start : List Bool) (cap : ℕ) (assumptions : List Assumption) (told : List Word) (used : List Order) (idle : ℕ) → IsCircuit netlist → All (IsAssumptionOf netlist) assumptions → AreUsed (network_of netlist) input start cap assumptions told used idle → All (NamesWires netlist) used
+used-inside netlist input start cap assumptions told used idle circuit all are =
+    All-weaker (IsOrderOf (network_of netlist)) (NamesWires netlist) (λ order is. names-wires netlist order circuit is) used
+    (tabled-of-all (network_of netlist) are.words (IsOrderOf (network_of netlist)) are.found used are.tabled
+    (found-orders netlist input start assumptions are.found idle all are.are_found))
 
 -- the steps that are shown change variables
 abbrev RunsInside : Netlist → ChangeOf → Type 0
@@ -133,7 +127,7 @@ module _ (netlist : Netlist) (cap : ℕ) (assumptions : List Assumption) (start 
   found-leads = ends-lead netlist found.input found.ends circuit found-input found-ends
 
   pub found-used : All (NamesWires netlist) found.used
-  found-used = used-inside netlist found.input found.start assumptions found.used found.idle circuit all right.used
+  found-used = used-inside netlist found.input found.start cap assumptions found.edges.told found.used found.idle circuit all right.used
 
   pub found-run : All (All (IsVariable netlist)) found.edges.steps
   found-run = run-under netlist cap found.used found right.edges

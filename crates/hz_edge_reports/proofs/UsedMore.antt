@@ -1,26 +1,31 @@
--- Orders that are found to be used, one assumption after the other.
-use Rattle.std.proofs.Common.{◌≡◌, ℕ, suc, ◌+◌, ◌<◌, ◌≤◌, Bool, List, [], ◌∷◌, ◌++◌, length, take, get_or, refl, sym, ap, ◌∙◌, subst, inl, inr, arith, append_assoc, append-nil, true, false, IsTrue}
+-- Orders that are found, one assumption after the other, and those of them that are used.
+use Rattle.std.proofs.Common.{◌≡◌, ℕ, suc, ◌+◌, ◌<◌, ◌≤◌, Bool, List, [], ◌∷◌, ◌++◌, length, take, get_or, refl, sym, ap, ◌∙◌, subst, inl, inr, arith, append_assoc, append-nil, true, false, All, IsTrue}
 use Rattle.std.proofs.lemmas.List.{take_more}
+use Rattle.std.proofs.lemmas.List.Elements.{All-nil, All-cons, All-append, All-head, All-tail, All-weaker}
 use Rattle.hz_core.specs.Netlist.{Netlist, IsCircuit}
 use Rattle.hz_net.specs.Network.{Driver, network_of}
 use Rattle.hz_net.specs.Reads.{IsWireInto, Reads}
 use Rattle.hz_net.proofs.Wired.{wired-network_of}
 use Rattle.hz_free.proofs.Chains.{reads-inside}
 use Rattle.hz_orders.specs.declared.order.Order.{Order}
-use Rattle.hz_orders.specs.Orders.{IsUsed}
+use Rattle.hz_orders.specs.Orders.{IsOrderOf, IsUsed}
+use Rattle.hz_orders.specs.Inductive.{IsInductiveUnder}
+use Rattle.hz_orders.specs.Tabled.{AreTabled}
 use Rattle.hz_timing.specs.declared.script.Assumption.{Assumption}
 use Rattle.hz_timing.specs.declared.script.Assumption.TheVariants as assumed
+use Rattle.hz_timing.specs.TimedText.{IsAssumptionOf}
+use Rattle.hz_word.specs.declared.word.Word.{Word}
 use Rattle.hz_edge_reports.specs.declared.using.Known.{Known}
-use Rattle.hz_edge_reports.specs.UsedOrders.{AreUsed}
-use Rattle.hz_edge_reports.specs.Using.{AddsUsed}
+use Rattle.hz_edge_reports.specs.UsedOrders.{AreFound, AreUsed, FollowsFrom}
+use Rattle.hz_edge_reports.specs.Using.{AddsFound}
 
 module _ (net : List Driver) (input start : List Bool) where
   -- what is used by earlier assumptions, and then by later ones, is used by all
-  pub used-append : (earlier later : List Assumption) (used more : List Order) (idle rest : ℕ) → AreUsed net input start earlier used idle → AreUsed net input start later more rest →
-      AreUsed net input start (earlier ++ later) (used ++ more) (idle + rest)
+  pub used-append : (earlier later : List Assumption) (used more : List Order) (idle rest : ℕ) → AreFound net input start earlier used idle → AreFound net input start later more rest →
+      AreFound net input start (earlier ++ later) (used ++ more) (idle + rest)
   used-append [] later used more idle rest are then =
-      subst (λ (orders : List Order). AreUsed net input start later (orders ++ more) (idle + rest)) (sym are.0)
-      (subst (λ (n : ℕ). AreUsed net input start later more n) (none rest ∙ ap (λ (n : ℕ). n + rest) (sym are.1)) then)
+      subst (λ (orders : List Order). AreFound net input start later (orders ++ more) (idle + rest)) (sym are.0)
+      (subst (λ (n : ℕ). AreFound net input start later more n) (none rest ∙ ap (λ (n : ℕ). n + rest) (sym are.1)) then)
     where
       none : (n : ℕ) → n ≡ 0 + n
       none n = omega arith
@@ -41,7 +46,7 @@ wire-inside netlist gate wire circuit into =
     reads-inside (network_of netlist) gate wire (wired-network_of netlist circuit) (subst (λ (driver : Driver). Reads driver wire) (sym into.driven) (into.above, into.below))
 
 -- by one assumption at most one order is idle
-one-idle : (net : List Driver) (input start : List Bool) (given : Assumption) (own : List Order) (idle : ℕ) → AreUsed net input start (given ∷ []) own idle → idle ≤ 1
+one-idle : (net : List Driver) (input start : List Bool) (given : Assumption) (own : List Order) (idle : ℕ) → AreFound net input start (given ∷ []) own idle → idle ≤ 1
 one-idle net input start (assumed.Order order) own idle are =
     elim are [
       | inl by ↦ none idle by.1.2.1
@@ -58,35 +63,80 @@ one-idle net input start (assumed.Ideal wire) own idle are = none idle are.4.1
     none : (n : ℕ) → n ≡ 0 → n ≤ 1
     none n e = omega arith
 
-pub few-idle : (known : Known) (given : Assumption) (old new : List Order) (idle : ℕ) → AddsUsed known given old new idle → idle ≤ 1
-few-idle known given old new idle adds = one-idle (network_of known.net.now) known.input.now known.start.now given adds.own idle adds.are_used
+pub few-idle : (known : Known) (given : Assumption) (old new : List Order) (idle : ℕ) → AddsFound known given old new idle → idle ≤ 1
+few-idle known given old new idle adds = one-idle (network_of known.net.now) known.input.now known.start.now given adds.own idle adds.are_found
 
 -- one assumption more
 pub used-more : (known : Known) (assumptions : List Assumption) (i : ℕ) (d : Assumption) (old new : List Order) (idle one : ℕ) → i < length assumptions →
-    AreUsed (network_of known.net.now) known.input.now known.start.now (take i assumptions) old idle → AddsUsed known (get_or assumptions i d) old new one →
-    AreUsed (network_of known.net.now) known.input.now known.start.now (take (i + 1) assumptions) new (idle + one)
+    AreFound (network_of known.net.now) known.input.now known.start.now (take i assumptions) old idle → AddsFound known (get_or assumptions i d) old new one →
+    AreFound (network_of known.net.now) known.input.now known.start.now (take (i + 1) assumptions) new (idle + one)
 used-more known assumptions i d old new idle one inside are adds =
     let net : List Driver = network_of known.net.now in
-    subst (λ (done : List Assumption). AreUsed net known.input.now known.start.now done new (idle + one)) (sym (take_more assumptions i d inside))
-    (subst (λ (orders : List Order). AreUsed net known.input.now known.start.now (take i assumptions ++ get_or assumptions i d ∷ []) orders (idle + one)) (sym adds.grown)
-    (used-append net known.input.now known.start.now (take i assumptions) (get_or assumptions i d ∷ []) old adds.own idle one are adds.are_used))
+    subst (λ (done : List Assumption). AreFound net known.input.now known.start.now done new (idle + one)) (sym (take_more assumptions i d inside))
+    (subst (λ (orders : List Order). AreFound net known.input.now known.start.now (take i assumptions ++ get_or assumptions i d ∷ []) orders (idle + one)) (sym adds.grown)
+    (used-append net known.input.now known.start.now (take i assumptions) (get_or assumptions i d ∷ []) old adds.own idle one are adds.are_found))
 
 -- an order that is used, and one that is idle
-pub used-order : (known : Known) (order : Order) (old new : List Order) → new ≡ old ++ order ∷ [] → IsUsed (network_of known.net.now) known.input.now known.start.now order → AddsUsed known (assumed.Order order) old new 0
+pub used-order : (known : Known) (order : Order) (old new : List Order) → new ≡ old ++ order ∷ [] → IsUsed (network_of known.net.now) known.input.now known.start.now order → AddsFound known (assumed.Order order) old new 0
 used-order known order old new grown is = record {
   own = order ∷ [];
   grown = grown;
-  are_used = inl (is, ([], refl, (refl, refl)));
+  are_found = inl (is, ([], refl, (refl, refl)));
 }
 
-pub idle-order : (known : Known) (order : Order) (old : List Order) → (IsUsed (network_of known.net.now) known.input.now known.start.now order → ⊥) → AddsUsed known (assumed.Order order) old old 1
+pub idle-order : (known : Known) (order : Order) (old : List Order) → (IsUsed (network_of known.net.now) known.input.now known.start.now order → ⊥) → AddsFound known (assumed.Order order) old old 1
 idle-order known order old not_so = record {
   own = [];
   grown = sym (append-nil old);
-  are_used = inr (not_so, (0, refl, (refl, refl)));
+  are_found = inr (not_so, (0, refl, (refl, refl)));
 }
 
 -- a test that holds does not fail
 pub not-both : (test : Bool) → IsTrue test → test ≡ false → ⊥
 not-both false holds fails = absurd cc
 not-both true holds fails = absurd cc
+
+-- the orders that are found are orders of the network
+pub found-orders : (netlist : Netlist) (input start : List Bool) (assumptions : List Assumption) (found : List Order) (idle : ℕ) → All (IsAssumptionOf netlist) assumptions → AreFound (network_of netlist) input start assumptions found idle → All (IsOrderOf (network_of netlist)) found
+found-orders netlist input start [] found idle all (none, no_idle) = subst (All (IsOrderOf (network_of netlist))) (sym none) (All-nil (IsOrderOf (network_of netlist)))
+found-orders netlist input start (assumed.Order order ∷ later) found idle all (inl (is_used, (rest, is, more))) =
+    subst (All (IsOrderOf (network_of netlist))) (sym is)
+    (All-cons (IsOrderOf (network_of netlist)) order rest (All-head (IsAssumptionOf netlist) (assumed.Order order) later all).0
+    (found-orders netlist input start later rest idle (All-tail (IsAssumptionOf netlist) (assumed.Order order) later all) more))
+found-orders netlist input start (assumed.Order order ∷ later) found idle all (inr (not_used, (rest, is, more))) =
+    found-orders netlist input start later found rest (All-tail (IsAssumptionOf netlist) (assumed.Order order) later all) more
+found-orders netlist input start (assumed.Ideal wire ∷ later) found idle all (own, rest, is, follows, more) =
+    subst (All (IsOrderOf (network_of netlist))) (sym is)
+    (All-append (IsOrderOf (network_of netlist)) own rest
+    (All-weaker (FollowsFrom (network_of netlist) input start wire) (IsOrderOf (network_of netlist)) (λ order from. from.is_order) own follows)
+    (found-orders netlist input start later rest idle (All-tail (IsAssumptionOf netlist) (assumed.Ideal wire) later all) more))
+
+-- by words that are told of the change the orders that are found come to those that are used
+pub used-told : (net : List Driver) (input start : List Bool) (cap : ℕ) (assumptions : List Assumption) (told : List Word) (found used : List Order) (idle : ℕ) → AreFound net input start assumptions found idle → AreTabled net told found used → IsInductiveUnder used net input start cap told →
+    AreUsed net input start cap assumptions told used idle
+used-told net input start cap assumptions told found used idle are_found tabled inductive = record {
+  found = found;
+  are_found = are_found;
+  words = told;
+  tabled = tabled;
+  inductive = inductive;
+  are_told = λ some. refl;
+}
+
+-- if none is used, the words may be others
+pub none-used : (net : List Driver) (input start : List Bool) (cap : ℕ) (assumptions : List Assumption) (words told : List Word) (found used : List Order) (idle : ℕ) → AreFound net input start assumptions found idle → used ≡ [] → AreTabled net words found [] → IsInductiveUnder [] net input start cap words →
+    AreUsed net input start cap assumptions told used idle
+none-used net input start cap assumptions words told found used idle are_found none tabled inductive = record {
+  found = found;
+  are_found = are_found;
+  words = words;
+  tabled = subst (AreTabled net words found) (sym none) tabled;
+  inductive = subst (λ (orders : List Order). IsInductiveUnder orders net input start cap words) (sym none) inductive;
+  are_told = λ some. absurd (some none);
+}
+
+-- if none is found, none is used
+pub none-found : (net : List Driver) (input start : List Bool) (cap : ℕ) (assumptions : List Assumption) (words told : List Word) (found : List Order) (idle : ℕ) → AreFound net input start assumptions found idle → found ≡ [] → IsInductiveUnder [] net input start cap words →
+    AreUsed net input start cap assumptions told found idle
+none-found net input start cap assumptions words told found idle are none inductive =
+    none-used net input start cap assumptions words told found found idle are none (subst (λ (list : List Order). AreTabled net words list []) (sym none) refl) inductive

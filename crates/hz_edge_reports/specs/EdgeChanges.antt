@@ -61,8 +61,8 @@ pub record IsRightChange (netlist : Netlist) (cap : ℕ) (assumptions : List Ass
       JoinsTo (IsReachable (network_of netlist) found.input found.start) i (value_at found.a i)
   pub b_exact : (i : ℕ) → i < length (network_of netlist) →
       JoinsTo (IsOutcome (network_of netlist) found.input found.start) i (value_at found.b i)
-  pub used :
-      AreUsed (network_of netlist) found.input found.start assumptions found.used found.idle
+  pub used : AreUsed (network_of netlist) found.input found.start cap assumptions found.edges.told
+      found.used found.idle
   pub edges : AreRightUnder found.used (network_of netlist) cap found
   pub replays : length found.edges.steps ≤ most_steps → flip_count found.edges.steps ≤ most_steps →
       ReplaysAs netlist (run_text_printed netlist (run_of_change netlist found))

@@ -4,6 +4,7 @@ use Rattle.hz_core.specs.Netlist.{Netlist}
 use Rattle.hz_net.specs.Network.{network_of}
 use Rattle.hz_cycle.specs.Cycles.{AreResultsOfBoth}
 use Rattle.hz_free.specs.Inductive.{IsInductive}
+use Rattle.hz_orders.specs.Inductive.{IsInductiveUnder}
 use Rattle.hz_edge_reports.specs.declared.room.ChangeRoom.{ChangeRoom}
 
 -- the results are those of the passes from the start to the input
@@ -17,9 +18,12 @@ abbrev pub AreToldFree : Netlist → ℕ → ChangeRoom → Type 0
 AreToldFree netlist cap room =
     IsInductive (network_of netlist) room.input.items room.start.items cap room.edges.told.items
 
--- they are, if orders are used
+-- they are inductive under the orders that are used, if there is one
 abbrev pub AreToldIfUsed : Netlist → ℕ → ChangeRoom → Type 0
-AreToldIfUsed netlist cap room = (room.used.items ≡ [] → ⊥) → AreToldFree netlist cap room
+AreToldIfUsed netlist cap room =
+    (room.used.items ≡ [] → ⊥) →
+    IsInductiveUnder room.used.items (network_of netlist) room.input.items room.start.items cap
+    room.edges.told.items
 
 -- start, input, and the results of the algorithms stay
 pub record RestsFor (was now : ChangeRoom) : Type 0 where

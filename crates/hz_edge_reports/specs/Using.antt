@@ -1,4 +1,4 @@
--- What orders are found to be used by. Words about the inside of hz_edge_reports.
+-- What orders are found by. Words about the inside of hz_edge_reports.
 use Rattle.std.specs.Prelude.{◌≡◌, ℕ, ◌≤◌, List, [], ◌∷◌, ◌++◌}
 use Rattle.hz_core.specs.declared.tri.Tri.{Tri}
 use Rattle.hz_core.specs.Netlist.{IsCircuit, IsWhole}
@@ -10,7 +10,7 @@ use Rattle.hz_free.specs.Inductive.{IsInductive}
 use Rattle.hz_orders.specs.declared.order.Order.{Order}
 use Rattle.hz_timing.specs.declared.script.Assumption.{Assumption}
 use Rattle.hz_edge_reports.specs.declared.using.Known.{Known}
-use Rattle.hz_edge_reports.specs.UsedOrders.{AreUsed}
+use Rattle.hz_edge_reports.specs.UsedOrders.{AreFound}
 
 -- what is known of a change is so
 pub record IsKnown (known : Known) : Type 0 where
@@ -28,10 +28,10 @@ pub record IsKnown (known : Known) : Type 0 where
       IsInductive (network_of known.net.now) known.input.now known.start.now known.cap
       known.told.now
 
--- An assumption adds orders to those that are used: the orders that the change uses by this assumption alone, of which so many are idle.
-pub record AddsUsed (known : Known) (given : Assumption) (old new : List Order) (idle : ℕ)
+-- An assumption adds orders to those that are found: the orders that the change finds by this assumption alone, of which so many are idle.
+pub record AddsFound (known : Known) (given : Assumption) (old new : List Order) (idle : ℕ)
     : Type 0 where
   pub own : List Order
   pub grown : new ≡ old ++ own
-  pub are_used :
-      AreUsed (network_of known.net.now) known.input.now known.start.now (given ∷ []) own idle
+  pub are_found :
+      AreFound (network_of known.net.now) known.input.now known.start.now (given ∷ []) own idle

@@ -4,21 +4,19 @@ ghost use Rattle.hz_core.specs.Ternary.{Refines};
 ghost use Rattle.hz_net.specs.Network.{network_of};
 ghost use Rattle.hz_net.specs.Starts.{IsStableStart};
 ghost use Rattle.hz_edges.specs.Room.{edges_of};
-ghost use Rattle.hz_edge_reports.specs.UsedOrders.{AreUsed};
+ghost use Rattle.hz_orders.specs.Inductive.{IsInductiveUnder};
 ghost use Rattle.hz_edge_reports.specs.OrderedEdges.{AreEdgesUnder};
 ghost use Rattle.hz_edge_reports.specs.EdgeChanges.{AreRightUnder, IsRightChange};
 ghost use Rattle.hz_edge_reports.specs.Room.{CanBeMade, IsChangeRoom, change_of};
-ghost use Rattle.hz_edge_reports.specs.Passed.{AreToldFree, AreToldIfUsed, HavePassed, PassesRest, RestsFor};
+ghost use Rattle.hz_edge_reports.specs.Passed.{AreToldIfUsed, HavePassed, RestsFor};
 
 use crate::room::ChangeRoom;
-use crate::using::{Known, find_used};
-use hz_bounds::tell;
 use hz_core::{Memory, Tri};
 use hz_cycle::b_is_exact;
 use hz_free::Free;
 use hz_kept::kept_run;
 use hz_net::Net;
-use hz_orders::{OrderedChange, ends_under, ordered_covers, tell_under};
+use hz_orders::{OrderedChange, ends_under, ordered_covers};
 use hz_reach::{Change, a_is_exact};
 use hz_run_text::printed_runs_are_read;
 use hz_timing::Assumption;
@@ -73,6 +71,7 @@ impl ChangeRoom {
         requires told { AreToldIfUsed making.now.net.now making.now.cap self.old }
         ensures right { OnOk result (AreRightUnder self.old.used.items
             (network_of making.now.net.now) making.now.cap (change_of self.new)) }
+        ensures told { (self.old.used.items ≡ [] → ⊥) → self.new.edges.told ≡ self.old.edges.told }
         ensures rests { RestsFor self.old self.new }
         ensures room { IsChangeRoom making.now.net.now self.new }
     {
@@ -80,73 +79,6 @@ impl ChangeRoom {
             return self.find_free(making);
         }
         self.find_ordered(making)
-    }
-
-    // Finds the orders that the change uses. If there is one, what is told without orders is left in the room.
-    fn use_orders(&mut self, making: &Making) -> Result<(), Memory>
-        requires making { CanBeMade making.now }
-        requires room { IsChangeRoom making.now.net.now self.old }
-        requires passed { HavePassed making.now.net.now self.old }
-        ensures used { OnOk result (AreUsed (network_of making.now.net.now) self.old.input.items
-            self.old.start.items making.now.assumptions.now self.new.used.items self.new.idle) }
-        ensures told { OnOk result
-            (AreToldIfUsed making.now.net.now making.now.cap self.new) }
-        ensures passes { PassesRest self.old self.new }
-        ensures room { IsChangeRoom making.now.net.now self.new }
-    {
-        if making.assumptions.is_empty() {
-            self.used.clear();
-            self.idle = 0;
-            return Ok(());
-        }
-        self.tell_free(making)?;
-        self.use_assumptions(making)
-    }
-
-    // Tells words without orders.
-    fn tell_free(&mut self, making: &Making) -> Result<(), Memory>
-        requires making { CanBeMade making.now }
-        requires room { IsChangeRoom making.now.net.now self.old }
-        requires passed { HavePassed making.now.net.now self.old }
-        ensures told { OnOk result (AreToldFree making.now.net.now making.now.cap self.new) }
-        ensures passes { PassesRest self.old self.new }
-        ensures room { IsChangeRoom making.now.net.now self.new }
-    {
-        tell(
-            making.alloc,
-            making.net,
-            making.free,
-            self.start.as_slice(),
-            self.input.as_slice(),
-            self.edges.a.as_slice(),
-            making.cap,
-            self.edges.told.as_mut_slice(),
-        )
-    }
-
-    // Finds the orders that the change uses, by what is told without orders.
-    fn use_assumptions(&mut self, making: &Making) -> Result<(), Memory>
-        requires making { CanBeMade making.now }
-        requires room { IsChangeRoom making.now.net.now self.old }
-        requires passed { HavePassed making.now.net.now self.old }
-        requires told { AreToldFree making.now.net.now making.now.cap self.old }
-        ensures used { OnOk result (AreUsed (network_of making.now.net.now) self.old.input.items
-            self.old.start.items making.now.assumptions.now self.new.used.items self.new.idle) }
-        ensures edges { self.new.edges ≡ self.old.edges }
-        ensures start { self.new.start ≡ self.old.start }
-        ensures input { self.new.input ≡ self.old.input }
-        ensures ends { self.new.ends ≡ self.old.ends }
-    {
-        let known = Known {
-            net: making.net,
-            start: self.start.as_slice(),
-            input: self.input.as_slice(),
-            b: self.edges.b.as_slice(),
-            told: self.edges.told.as_slice(),
-            cap: making.cap,
-        };
-        self.idle = find_used(making.alloc, &known, making.assumptions, &mut self.used)?;
-        Ok(())
     }
 
     // Finds the edges of a change that uses no order. Each variable comes to what Algorithm B says.
@@ -171,15 +103,17 @@ impl ChangeRoom {
         Ok(())
     }
 
-    // Finds the edges of a change under its orders, by what is told without orders.
+    // Finds the edges of a change under its orders, by what is told under them.
     fn find_ordered(&mut self, making: &Making) -> Result<(), Memory>
         requires making { CanBeMade making.now }
         requires room { IsChangeRoom making.now.net.now self.old }
         requires passed { HavePassed making.now.net.now self.old }
-        requires told { AreToldFree making.now.net.now making.now.cap self.old }
+        requires told { IsInductiveUnder self.old.used.items (network_of making.now.net.now)
+            self.old.input.items self.old.start.items making.now.cap self.old.edges.told.items }
         ensures right { OnOk result (AreEdgesUnder self.old.used.items
             (network_of making.now.net.now) self.new.input.items self.new.start.items
             self.new.ends.items self.new.kept (edges_of self.new.edges)) }
+        ensures told { self.new.edges.told ≡ self.old.edges.told }
         ensures rests { RestsFor self.old self.new }
         ensures room { IsChangeRoom making.now.net.now self.new }
     {
@@ -193,7 +127,6 @@ impl ChangeRoom {
             held: &[],
             cap: making.cap,
         };
-        tell_under(making.alloc, &change, self.edges.told.as_mut_slice())?;
         let ends = ends_under(making.alloc, &change, self.edges.told.as_slice())?;
         write_ends(ends.as_slice(), self.ends.as_mut_slice());
         self.kept = kept_run(

@@ -6,7 +6,8 @@
 //! | `job` | [`Edges`]: the job, from the script on |
 //! | `reporting` | the report of a script's parts and changes |
 //! | `finding` | [`Making`]: what all changes have in common; what is found of a change |
-//! | `using` | the orders that a change uses |
+//! | `telling` | the words that are told of a change, and the orders that it uses |
+//! | `using` | the orders that assumptions come to |
 //! | `settling` | where the next change starts |
 //! | `room` | [`ChangeRoom`]: the memory in which a change is made |
 //! | `lines` | the lines of one change |
@@ -20,6 +21,7 @@ mod lines;
 mod reporting;
 mod room;
 mod settling;
+mod telling;
 mod using;
 
 pub use existence::changes_exist;

@@ -15,8 +15,8 @@ use Rattle.hz_gmw.proofs.CoverB.{covers_outcomes}
 use Rattle.hz_lists.specs.Least.{IsLeast}
 use Rattle.hz_edges.specs.Edges.{AreEdgesOfChange}
 use Rattle.hz_orders.specs.declared.order.Order.{Order}
+use Rattle.hz_orders.specs.Tabled.{AreTabled}
 use Rattle.hz_seq.specs.Sequence.{IsFirstUnknown, IsSettledAt}
-use Rattle.hz_edge_reports.specs.UsedOrders.{AreUsed}
 use Rattle.hz_edge_reports.specs.EdgeChanges.{ChangeOf, AreRightUnder, IsChangeFrom, IsNextStart, IsRightChange, IsStopper, IsUnstableVariable}
 use Rattle.hz_explore.specs.Exploration.{IsOutcomeUnder}
 use Rattle.hz_explore.specs.Reached.{AreResults, Settles, SettlesUnder}
@@ -28,7 +28,7 @@ pub record IsPlain (netlist : Netlist) (cap : ℕ) (found : ChangeOf) : Type 0 w
 
 -- if nothing is assumed, no order is used
 pub none-used : (netlist : Netlist) (cap : ℕ) (found : ChangeOf) → IsRightChange netlist cap [] found → found.used ≡ []
-none-used netlist cap found right = right.used.0
+none-used netlist cap found right = subst (λ (orders : List Order). AreTabled (network_of netlist) right.used.words orders found.used) right.used.are_found.0 right.used.tabled
 
 pub plain : (netlist : Netlist) (cap : ℕ) (found : ChangeOf) → IsRightChange netlist cap [] found → IsPlain netlist cap found
 plain netlist cap found right =

@@ -1,11 +1,11 @@
 -- Numbers of changes that are enough for a variable under orders, by what drives it, and words that are told so far.
-use Rattle.std.proofs.Common.{◌≡◌, ℕ, ◌+◌, ◌≤◌, Bool, true, false, List, length, set, sym, subst, ◌∙◌, arith}
+use Rattle.std.proofs.Common.{◌≡◌, ℕ, ◌+◌, ◌<◌, ◌≤◌, Bool, true, false, List, length, set, sym, subst, ◌∙◌, arith}
 use Rattle.std.specs.Prelude.{slice_range}
 use Rattle.std.proofs.lemmas.List.{length-set}
 use Rattle.std.proofs.lemmas.List.Elements.{All-set}
 use Rattle.hz_core.specs.declared.kind.Kind.{Kind}
 use Rattle.hz_lists.proofs.PartLemmas.{length-part, at-part}
-use Rattle.hz_net.specs.Network.{Driver, External, Function, Source, driver_at, bit_at}
+use Rattle.hz_net.specs.Network.{Driver, External, Function, Source, network_of, driver_at, bit_at}
 use Rattle.hz_word.specs.declared.count.Count.{Count}
 use Rattle.hz_word.specs.declared.count.Count.TheVariants.{Exact, Many}
 use Rattle.hz_word.specs.declared.word.Word.{Word}
@@ -19,8 +19,9 @@ use Rattle.hz_free.specs.Inductive.{told_at, AreCounted}
 use Rattle.hz_orders.specs.declared.order.Order.{Order}
 use Rattle.hz_orders.specs.declared.telling.Telling.{Telling}
 use Rattle.hz_orders.specs.Parts.{IsBoundUnder}
-use Rattle.hz_orders.specs.Inductive.{IsEnoughUnder}
-use Rattle.hz_orders.specs.Telling.{input_count, AreToldSoFar}
+use Rattle.hz_orders.specs.Inductive.{IsEnoughUnder, IsInductiveHolding}
+use Rattle.hz_orders.specs.Tabled.{AreTabled}
+use Rattle.hz_orders.specs.Telling.{input_count, AreToldSoFar, IsEnoughFor, IsToldEnough}
 
 input-enough : (old new : Bool) → IsAtMost (Exact (change_count (input_word old new))) (input_count old new)
 input-enough true true = omega arith
@@ -70,3 +71,33 @@ told-raised telling told var word so_far within =
       long = length-set told var word ∙ so_far.long;
       counted = All-set (λ (w : Word). IsWithinCap telling.cap w.changes) told var word within so_far.counted;
     }
+
+-- what is enough under any orders is enough
+pub enough-for : (telling : Telling) (told : List Word) (var : ℕ) (count : Count) → ((orders : List Order) → IsEnoughUnder orders telling.input.now telling.start.now telling.cap told var (driver_at (network_of telling.net.now) var) count) → IsEnoughFor telling told var count
+enough-for telling told var count enough = record { all = enough telling.orders.now; tabled = λ orders are. enough orders }
+
+-- more is enough too
+pub more-is-enough : (telling : Telling) (told : List Word) (var : ℕ) (count more : Count) → IsEnoughFor telling told var count → IsAtMost count more → IsEnoughFor telling told var more
+more-is-enough telling told var count more enough below =
+    let net : List Driver = network_of telling.net.now in record {
+      all = enough-more telling.orders.now net telling.input.now telling.start.now telling.cap told var (driver_at net var) count more enough.all below;
+      tabled = λ orders are. enough-more orders net telling.input.now telling.start.now telling.cap told var (driver_at net var) count more (enough.tabled orders are) below;
+    }
+
+-- words that are told enough are inductive, under all orders and under those whose gates have tables
+module _ (telling : Telling) (told : List Word) (so_far : AreToldSoFar telling told) (each : (i : ℕ) → i < length (network_of telling.net.now) → IsToldEnough telling told i) where
+  pub inductive-all : IsInductiveHolding telling.held.now telling.orders.now (network_of telling.net.now) telling.input.now telling.start.now telling.cap told
+  inductive-all = record {
+    long = so_far.long;
+    counted = so_far.counted;
+    begins = λ i few. (each i few).begins;
+    enough = λ i few free. ((each i few).enough free).all;
+  }
+
+  pub inductive-tabled : (tabled : List Order) → AreTabled (network_of telling.net.now) told telling.orders.now tabled → IsInductiveHolding telling.held.now tabled (network_of telling.net.now) telling.input.now telling.start.now telling.cap told
+  inductive-tabled tabled are = record {
+    long = so_far.long;
+    counted = so_far.counted;
+    begins = λ i few. (each i few).begins;
+    enough = λ i few free. ((each i few).enough free).tabled tabled are;
+  }

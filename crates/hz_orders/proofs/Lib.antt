@@ -30,3 +30,5 @@ pub mod Used
 pub mod Enough
 -- What all kept outcomes refine, they refine if an X takes its excitation
 pub mod Narrowed
+-- Pins have a table or not, the orders whose gates have tables, and what they bound
+pub mod WithTables

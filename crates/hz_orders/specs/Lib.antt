@@ -17,6 +17,8 @@
 -- GrowsByFollowing change wire old new: orders that follow from a wire being ideal are added
 -- positions_of pins: how often each pin's word may have advanced
 -- HaveTable pins: there are few positions
+-- HasTableAt net told order: the gate of an order has a table
+-- AreTabled net told orders tabled: the orders of a list whose gates have tables
 -- IsWay orders wire pins position way: a way through positions that keep the orders
 -- IsMostFrom orders kind wire pins position most: how often a gate changes at most along the ways from a position
 -- AreToldSoFar telling told: words in the making, one for each variable
@@ -30,6 +32,7 @@ pub mod Outcomes
 pub mod Ideal
 pub mod Following
 pub mod Positions
+pub mod Tabled
 pub mod Tables
 pub mod Telling
 pub mod Ends

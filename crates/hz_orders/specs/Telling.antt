@@ -10,7 +10,9 @@ use Rattle.hz_word.specs.declared.count.Count.TheVariants.{Exact}
 use Rattle.hz_word.specs.declared.word.Word.{Word}
 use Rattle.hz_word.specs.Capped.{greatest_cap}
 use Rattle.hz_free.specs.Inductive.{told_at, AreCounted}
+use Rattle.hz_orders.specs.declared.order.Order.{Order}
 use Rattle.hz_orders.specs.Inductive.{IsEnoughUnder}
+use Rattle.hz_orders.specs.Tabled.{AreTabled}
 use Rattle.hz_orders.specs.declared.telling.Telling.{Telling}
 
 -- words can be told from a start of a network under an input, up to a cap
@@ -31,11 +33,14 @@ pub record AreToldSoFar (telling : Telling) (told : List Word) : Type 0 where
 abbrev pub input_count : Bool → Bool → Count
 input_count old new = Exact (if beq old new then 0 else 1)
 
--- a number of changes is enough for variable i by the words that are told
-abbrev pub IsEnoughFor : Telling → List Word → ℕ → Count → Type 0
-IsEnoughFor telling told i count =
-    IsEnoughUnder telling.orders.now telling.input.now telling.start.now telling.cap told i
-    (driver_at (network_of telling.net.now) i) count
+-- a number of changes is enough for variable i by the words that are told, under all orders and under those whose gates have tables
+pub record IsEnoughFor (telling : Telling) (told : List Word) (i : ℕ) (count : Count) : Type 0 where
+  pub all : IsEnoughUnder telling.orders.now telling.input.now telling.start.now telling.cap told i
+      (driver_at (network_of telling.net.now) i) count
+  pub tabled : (tabled : List Order) →
+      AreTabled (network_of telling.net.now) told telling.orders.now tabled →
+      IsEnoughUnder tabled telling.input.now telling.start.now telling.cap told i
+      (driver_at (network_of telling.net.now) i) count
 
 -- variable i begins as at the start, and if it is not held, it is told enough changes
 pub record IsToldEnough (telling : Telling) (told : List Word) (i : ℕ) : Type 0 where

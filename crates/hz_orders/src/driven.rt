@@ -1,11 +1,14 @@
 //! How many changes are enough for a variable by the words that are told, and whether what it is told is enough.
-ghost use Rattle.std.specs.Prelude.{◌≡◌, ◌+◌, ◌≤◌, IfOk, IsTrue, length, slice_range};
+ghost use Rattle.std.specs.Prelude.{◌≡◌, ◌+◌, ◌≤◌, List, IfOk, IsTrue, length, slice_range};
 ghost use Rattle.hz_core.specs.Gate.{takes};
 ghost use Rattle.hz_net.specs.Network.{network_of, IsVariable};
 ghost use Rattle.hz_lists.specs.Listed.{is_listed};
 ghost use Rattle.hz_word.specs.Capped.{IsAtMost, IsWithinCap};
 ghost use Rattle.hz_orders.specs.Parts.{IsBoundUnder};
 ghost use Rattle.hz_orders.specs.Inductive.{IsInductiveHolding};
+ghost use Rattle.hz_orders.specs.declared.order.Order.{Order};
+ghost use Rattle.hz_orders.specs.Positions.{HaveTable};
+ghost use Rattle.hz_orders.specs.Tabled.{AreTabled, HoldAlike};
 ghost use Rattle.hz_orders.specs.Telling.{input_count, AreToldSoFar, CanBeTold, IsEnoughFor, IsToldEnough};
 ghost use Rattle.hz_free.specs.Inductive.{AreCounted};
 
@@ -76,6 +79,9 @@ fn gate_changes(
     requires counted { AreCounted telling.now.cap pins.now }
     ensures bound { IfOk result (λ count.
         IsBoundUnder telling.now.orders.now kind wire pins.now telling.now.cap count) }
+    ensures tabled { IfOk result (λ count. (tabled : List Order) →
+        (HaveTable pins.now → HoldAlike wire (length pins.now) telling.now.orders.now tabled) →
+        IsBoundUnder tabled kind wire pins.now telling.now.cap count) }
     ensures counted { IfOk result (λ count. IsWithinCap telling.now.cap count) }
 {
     if !has_orders(telling, var) {
@@ -139,9 +145,13 @@ fn is_enough(alloc: Global, telling: &Telling, told: &[Word], var: u32) -> Resul
 pub(crate) fn are_inductive(alloc: Global, telling: &Telling, told: &[Word]) -> Result<bool, Memory>
     requires telling { CanBeTold telling.now }
     requires told { AreToldSoFar telling.now told.now }
-    ensures { IfOk result (λ yes. IsTrue yes → IsInductiveHolding telling.now.held.now
+    ensures inductive { IfOk result (λ yes. IsTrue yes → IsInductiveHolding telling.now.held.now
         telling.now.orders.now (network_of telling.now.net.now) telling.now.input.now
         telling.now.start.now telling.now.cap told.now) }
+    ensures tabled { IfOk result (λ yes. IsTrue yes → (tabled : List Order) →
+        AreTabled (network_of telling.now.net.now) told.now telling.now.orders.now tabled →
+        IsInductiveHolding telling.now.held.now tabled (network_of telling.now.net.now)
+        telling.now.input.now telling.now.start.now telling.now.cap told.now) }
 {
     for var in 0..telling.net.len() {
         if !is_enough(alloc, telling, told, var)? {

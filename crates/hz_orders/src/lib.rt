@@ -5,6 +5,7 @@
 //! | `order` | [`Order`]: the second wire does not change for the n-th time before the first has changed |
 //! | `table` | [`count_under`]: how often a gate changes at most along what keeps its orders |
 //! | `positions` | a list of positions |
+//! | `tabled` | [`with_tables`]: the orders whose gates have tables |
 //! | `telling` | [`tell_under`]: words of all variables under orders |
 //! | `driven` | how many changes are enough for a variable, and whether what it is told is enough |
 //! | `component` | the order in which words are raised |
@@ -21,6 +22,7 @@ mod laws;
 mod order;
 mod positions;
 mod table;
+mod tabled;
 mod telling;
 
 pub use ends::ends_under;
@@ -31,4 +33,5 @@ pub use laws::{
 };
 pub use order::{Order, is_used};
 pub use table::{OrderedGate, count_under};
+pub use tabled::{has_table, with_tables};
 pub use telling::{OrderedChange, tell_under};

@@ -77,8 +77,8 @@ fn capped(changes: u64, cap: u64) -> Count
     }
 }
 
-// Whether pins have a table.
-fn have_table(pins: &[Word]) -> bool
+/// Whether pins have a table.
+pub(crate) fn have_table(pins: &[Word]) -> bool
     ensures some { IsTrue result → HaveTable pins.now }
     ensures none { HaveTable pins.now → IsTrue result }
 {

@@ -1,10 +1,12 @@
 //! Words of all variables under orders: told by iteration from no change on, and looked at afterwards.
-ghost use Rattle.std.specs.Prelude.{◌≡◌, ◌≤◌, false, IfOk, OnOk, IsTrue, length};
+ghost use Rattle.std.specs.Prelude.{◌≡◌, ◌≤◌, false, List, IfOk, OnOk, IsTrue, length};
 ghost use Rattle.hz_net.specs.Network.{network_of, IsInput, IsVariable};
 ghost use Rattle.hz_net.specs.Starts.{IsStableStart};
 ghost use Rattle.hz_word.specs.Capped.{greatest_cap};
 ghost use Rattle.hz_free.specs.Inductive.{IsInductive};
+ghost use Rattle.hz_orders.specs.declared.order.Order.{Order};
 ghost use Rattle.hz_orders.specs.Inductive.{IsInductiveHolding};
+ghost use Rattle.hz_orders.specs.Tabled.{AreTabled};
 ghost use Rattle.hz_orders.specs.Telling.{AreToldSoFar, CanBeTold};
 
 use crate::component::{by_component, raise_in_order};
@@ -44,7 +46,8 @@ const MOST_RISES: u8 = 3;
 /// Tells each variable how often it changes at most along the runs that keep the orders, given words that are inductive without orders.
 ///
 /// The words grow from no change on, component by component, until each is enough. If one that has grown three times is not enough, it is
-/// told many changes. If the words are not inductive in the end, those that were given stay.
+/// told many changes. If the words are not inductive in the end, those that were given stay. The orders whose gates have no table play no
+/// part: without them the words are inductive too.
 pub fn tell_under(alloc: Global, change: &OrderedChange, told: &mut [Word]) -> Result<(), Memory>
     requires start { IsStableStart change.now.net.now change.now.start.now }
     requires input { IsInput change.now.net.now change.now.input.now }
@@ -52,9 +55,13 @@ pub fn tell_under(alloc: Global, change: &OrderedChange, told: &mut [Word]) -> R
     requires cap_high { change.now.cap ≤ greatest_cap }
     requires told { IsInductive (network_of change.now.net.now) change.now.input.now
         change.now.start.now change.now.cap told.old }
-    ensures { OnOk result (IsInductiveHolding change.now.held.now change.now.orders.now
+    ensures inductive { OnOk result (IsInductiveHolding change.now.held.now change.now.orders.now
         (network_of change.now.net.now) change.now.input.now change.now.start.now change.now.cap
         told.new) }
+    ensures tabled { OnOk result ((tabled : List Order) →
+        AreTabled (network_of change.now.net.now) told.new change.now.orders.now tabled →
+        IsInductiveHolding change.now.held.now tabled (network_of change.now.net.now)
+        change.now.input.now change.now.start.now change.now.cap told.new) }
 {
     change.net.keeps_shape();
     let ordered = ordered_gates(alloc, change)?;
@@ -75,9 +82,13 @@ fn tell_all(alloc: Global, telling: &Telling, told: &mut [Word]) -> Result<(), M
     requires telling { CanBeTold telling.now }
     requires told { IsInductive (network_of telling.now.net.now) telling.now.input.now
         telling.now.start.now telling.now.cap told.old }
-    ensures { OnOk result (IsInductiveHolding telling.now.held.now telling.now.orders.now
+    ensures inductive { OnOk result (IsInductiveHolding telling.now.held.now telling.now.orders.now
         (network_of telling.now.net.now) telling.now.input.now telling.now.start.now
         telling.now.cap told.new) }
+    ensures tabled { OnOk result ((tabled : List Order) →
+        AreTabled (network_of telling.now.net.now) told.new telling.now.orders.now tabled →
+        IsInductiveHolding telling.now.held.now tabled (network_of telling.now.net.now)
+        telling.now.input.now telling.now.start.now telling.now.cap told.new) }
 {
     let mut words = no_changes(alloc, telling)?;
     let order = by_component(alloc, telling, told)?;

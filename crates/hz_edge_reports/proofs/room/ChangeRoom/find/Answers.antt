@@ -20,5 +20,5 @@ returns-clause-right c =
     on_ok_weaker c.find_edges.result
     (λ right. room-right (record { read = c.printed_runs_are_read.ensures; a_exact = c.a_is_exact.ensures; b_exact = c.b_is_exact.ensures.exact }) c.args.making.now was c.use_orders.new.self c.find_edges.new.self c.requires.making
     (record { start = c.requires.room.start; input = c.requires.room.input; edges = c.make_passes.ensures.room; ends = c.requires.room.ends })
-    passed c.use_orders.ensures.passes c.in_ok-use_orders.ensures.used c.find_edges.ensures.rests right)
+    passed c.use_orders.ensures.passes c.in_ok-use_orders.ensures.used c.find_edges.ensures.rests c.find_edges.ensures.told right)
     c.find_edges.ensures.right

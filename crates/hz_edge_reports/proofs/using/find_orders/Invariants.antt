@@ -1,11 +1,11 @@
 -- The orders by the assumptions so far.
 use Rattle.std.proofs.Common.{◌≤◌, take}
 use Rattle.hz_net.specs.Network.{network_of}
-use Rattle.hz_edge_reports.specs.UsedOrders.{AreUsed}
-use Rattle.hz_edge_reports.proofs.using.find_used.Given as goal
+use Rattle.hz_edge_reports.specs.UsedOrders.{AreFound}
+use Rattle.hz_edge_reports.proofs.using.find_orders.Given as goal
 
 abbrev pub invariant-loop-assumption : goal.invariant-loop-assumption
 invariant-loop-assumption l = record {
-  are_used : AreUsed (network_of l.known.net.now) l.known.input.now l.known.start.now (take l.assumption-index l.assumptions) l.used.items l.idle;
+  are_found : AreFound (network_of l.known.net.now) l.known.input.now l.known.start.now (take l.assumption-index l.assumptions) l.found.items l.idle;
   few : l.idle ≤ l.assumption-index;
 }
