@@ -23,7 +23,7 @@ returns-in-Err-clause-ends g c =
     (λ own text says. inl (c.in-Err.fault, timed-refused g.J.OnTimed.may_restart c.args.net.now c.args.text.now c.in-Err.fault (rw c.restarts.ensures at c.in-Err.ensures.fault) says.0, says.1)) (rw c.circuit.ensures.same at c.refuse_timed.ensures.ends)
 
 pub returns-in-Ok-clause-line : goal.returns-in-Ok-clause-line
-returns-in-Ok-clause-line g c = inr (inl rw c.restarts.ensures at c.in-Ok.ensures.faultless, refl)
+returns-in-Ok-clause-line g c = inr (inl (rw c.restarts.ensures at c.in-Ok.ensures.faultless), refl)
 
 pub returns-in-Err-clause-line : goal.returns-in-Err-clause-line
 returns-in-Err-clause-line g c =
