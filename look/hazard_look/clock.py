@@ -114,9 +114,9 @@ class _Writer:
 
     def statement(self, statement):
         """Writes a line of the script, or the changes for which it stands."""
-        faults = statement.faults + self._clock_in_remark(statement)
-        if faults:
-            raise self._fault(statement, faults[0])
+        unread = script.edge_in_remark(statement, self.circuit.inputs)
+        if statement.faults or unread:
+            raise self._fault(statement, (statement.faults + [unread])[0])
         if statement.texts("clock") and not self.is_started:
             raise self._fault(statement, "an edge stands after the start")
         if statement.keyword == "start":
@@ -132,12 +132,6 @@ class _Writer:
 
     def _fault(self, statement, what):
         return script.fault_of(self.path, statement.number, what, SCRIPT_FAULT)
-
-    def _clock_in_remark(self, statement):
-        """That a line has nothing but a remark that is an edge of an input but for a blank."""
-        found = re.fullmatch(r"#\s+clock\s+([^\s=]+)(=[01])?", statement.remark.strip())
-        is_alone = not statement.keyword and not statement.marks
-        return ["`# clock` is read as a remark: write `#clock`, without a blank"] if found and is_alone and found[1] in self.circuit.inputs else []
 
     def _make(self, values, number):
         """Lets the circuit come to rest after a change."""

@@ -72,9 +72,13 @@ def _rows(lines):
         if state:
             yield state
         if word != "state":
+            # the program may end badly even so
+            if list(lines):
+                raise ValueError("lines behind the last one")
             yield Totals(word == "all", *map(int, words[1::2]))
             return
         state = State(int(words[0]), assignments(words[1:]), [])
+    raise ValueError("no last line")
 
 
 def _transition(state, words):

@@ -49,8 +49,10 @@ class Moves:
         if len(told) < 2:
             return told[0] if told else self.last[name]
         start, end, bounds = told[0].start, told[-1].end, [row.most for row in told]
-        kind = "unsettled" if end == "X" else "static" if end == start else "dynamic"
-        return Row(name, start, end, sum(row.least for row in told), None if None in bounds else sum(bounds), kind)
+        least, most = sum(row.least for row in told), None if None in bounds else sum(bounds)
+        kind, shown = ("static", 2) if end == start else ("dynamic", 3)
+        kind = "unsettled" if end == "X" else kind if least >= shown else f"maybe-{kind}"
+        return Row(name, start, end, least, most, kind)
 
     def pulses(self):
         """The nodes that make a clean edge in more than one of the changes, with the numbers of these changes."""

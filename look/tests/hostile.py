@@ -7,6 +7,9 @@ import os
 import signal
 import subprocess
 
+from hazard_look.program import find
+
+LOOK = os.path.dirname(os.path.dirname(os.path.abspath(__file__)))
 GATE = "INPUT(a)\ny = NOT(a)\n"
 # names that a shell, a page or a pattern could take for something else
 NAMES = ("</script><b>", '"q"', "'x'", "a\\b", "&amp;", "$_1_", "--x", "{{data}}", "*", "%d", "__proto__", "constructor")
@@ -59,9 +62,28 @@ def _programs(folder, run, write, files):
     made = {"killed": "#!/bin/sh\nkill -9 $$\n", "wrong": "#!/bin/sh\nexit 1\n", "strange": "no program\n", "early": "#!/bin/sh\necho netlist inputs 1 gates 1 wires 1 variables 3\necho start a=0 y=1\necho change 1 a=1\n"}
     for name, text in made.items():
         os.chmod(write(folder, name, text), 0o755)
+    yield from _cut(folder, run, write)
     for path, status, part in (("/bin/true", 127, "does not write a report"), ("/bin/echo", 127, "does not write a report"), ("./early", 127, "does not write a report"),
                                ("./killed", 137, "ended by signal 9"), ("./wrong", 70, "ended with status 1"), ("./strange", 127, "can't be started")):
         yield f"the program {path}", _ends(run(["summary", "--hazard", path] + files, folder), status, part), True
+
+
+def _cut(folder, run, write):
+    """A `hazard` whose text ends too early, or that is killed behind it or while it replays a run: no job takes the part for the whole."""
+    program = find(None, LOOK).path
+    for name, text in (("short", f"'{program}' \"$@\" | sed '/^change 2 /,$d; /^all /d'\n"), ("behind", f"'{program}' \"$@\" | sed '/^change 2 /,$d'\nkill -9 $$\n"),
+                       ("replayed", f"[ $1 = replay ] && kill -9 $$\nexec '{program}' \"$@\"\n")):
+        os.chmod(write(folder, name, f"#!/bin/sh\n{text}"), 0o755)
+    bench = write(folder, "cut.bench", "INPUT(a)\nn = NOT(a)\nz = AND(n, a)\n")
+    script = write(folder, "cut.txt", "start a=0 #expect n single\nchange a=1\nchange a=0 #expect z static\nchange a=1\n")
+    jobs = (["summary"], ["summary", "--fail"], ["summary", "--json"], ["expect"], ["expect", "--json"], ["clock"], ["orders"], ["page"], ["table"], ["table", "--fail"], ["table", "--page"])
+    for words in jobs:
+        for name, status, part in (("short", 70 if words[0] != "table" else 127, "ends before its end" if words[0] != "table" else "does not write a report"), ("behind", 137, "ended by signal 9")):
+            yield f"{name}: {words}", _ends(run(words + ["--hazard", f"./{name}", bench, script], folder), status, part), True
+    for words, more in (["why", ["z"]], ["page", []]):
+        yield f"replayed: {words}", _ends(run([words, "--hazard", "./replayed", bench, script] + more, folder), 137, "ended by signal 9"), True
+    write(folder, "never.txt", "start a=0\nchange a=1 #expect never z=1\n")
+    yield "replayed: expect", _ends(run(["expect", "--hazard", "./replayed", bench, "never.txt"], folder), 137, "ended by signal 9"), True
 
 
 def _names(folder, run, write):

@@ -85,7 +85,8 @@ def _jobs(folder, run, call, write, example):
     for name, kept_lines, status in (("with", lines, 0), ("without", lines[::2], 1)):
         yield f"a state {name} an order that bars it", call(["expect", gate, write(folder, "never.txt", "".join(kept_lines))])[0], status
     stuck = write(folder, "stuck.txt", "start r=0 s=1\norder q(2) q(1)\nchange r=1 s=0  #expect q steady\n")
-    yield "no run that keeps an order", call(["expect", bench, stuck]), (0, f"{stuck}:3: change 1 r=1 s=0: q steady: {summary_of.NOT_KEPT} ({bench}:7)\n1 expectation, 0 failed\n")
+    yield "no run that keeps an order", call(["expect", bench, stuck]), (
+        1, f"{stuck}:3: change 1 r=1 s=0: q steady: not checked: {summary_of.NOT_KEPT} ({bench}:7)\n1 expectation, 0 failed, 1 not checked\n")
     yield "no run to show", call(["why", bench, stuck, "s"])[1].splitlines()[1:], [
         "  under order q(2) q(1)", f"  {summary_of.NOT_KEPT}", "  no run that keeps the orders was found in which s moves so, which is no proof that there is none"]
     yield "a finding without a run", call(["summary", "--fail", bench, stuck])[:2], (1, f"{stuck}:3: change 1 r=1 s=0: {summary_of.NOT_KEPT}\n")
