@@ -190,7 +190,7 @@ def _hint(line, words):
     if text and text[1] == "netlist" and _is_line(netlist, int(text[2]), r"\s*(start|change)\s+\S+\s*=\s*[01?]"):
         return "; that is a line of a script, and the netlist comes before the script"
     if words[0] == "explore" and text and text[1] == "script" and _is_line(words[2], int(text[2]), r"\s*(order|ideal)\s"):
-        return "; a table is of all runs: it takes no orders and no wires without delay"
+        return "; this `hazard` is older than `hazard-look`: its tables are of all runs"
     if words[0] == "explore" and text and refusal.rstrip().endswith(": order") and _is_line(words[2], int(text[2]), r"\s*start\s"):
         return "; a table begins at one start"
     if refusal.startswith("netlist ") and netlist.lower().endswith((".v", ".sv")):

@@ -147,6 +147,11 @@ def without_repeats(path):
     return "\n".join(rows)
 
 
+def assumptions_of(statements):
+    """What a script assumes of delays, in its order, each as its line without a comment."""
+    return [f"{statement.keyword} {' '.join(statement.assumed)}" for statement in statements if statement.keyword in ASSUMING]
+
+
 def edges_of(statements):
     """The edges of a script that `hazard-look clock` wrote out: the number of the first change of each by that of its last one."""
     found, first, number = {}, None, 0

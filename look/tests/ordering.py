@@ -92,7 +92,6 @@ def _jobs(folder, run, call, write, example):
     yield "a finding without a run", call(["summary", "--fail", bench, stuck])[:2], (1, f"{stuck}:3: change 1 r=1 s=0: {summary_of.NOT_KEPT}\n")
     both = write(folder, "both.txt", "start r=1 s=1\nchange r=0\nstart r=1 s=1\nchange s=0 #expect q steady in 1..2\n")
     yield "a range over a start", run(["expect", bench, both], folder), (2, "", f"hazard-look: {both}:4: `q steady in 1..2`: a start stands between these changes\n")
-    yield "no table under orders", "a table is of all runs" in run(["table", bench, script], folder)[2], True
     yield "no table of two starts", "a table begins at one start" in run(["table", bench, both], folder)[2], True
     clocked = write(folder, "ck.bench", "INPUT(ck)\nn = NOT(q)\nq = DFF(n)  # clock ck rising\nz = AND(ck, q)\n")
     edges = write(folder, "ck.txt", "start ck=0 q=0\norder z(1) z(2)\n#clock ck\nstart ck=0 q=1\n#clock ck\n")
