@@ -143,7 +143,7 @@ def _under(folder, run, write, hazard):
     os.chmod(fake, 0o755)
     scripts = lambda state, burst: f"  start {state}\n  order z(2) z(1)\n  ideal y(1)\n  change {burst}\n"
     status, text, _ = run(["table", "--hazard", fake, bench, script], folder)
-    yield "a table under assumptions", (status, text), (0, (
+    yield "a table under assumptions", (status, text), (0, 
         "state          a=1      a=0    b=1   b=0\n1 a=0 b=0 z=0  2[1]     (1)    3     (1)\n2 a=1 b=0 z=0  (2)      1![1]  more  (2)\n"
         "3 a=0 b=1 z=0  4![1,2]  (3)    (3)   -\n4 a=1 b=1 z=0  (4)      ?[2]   (4)   3![1,2]\n"
         + f"{table.LEGEND}\n{table.UNDER}\n  1 order z(2) z(1): in 4 changes\n  2 ideal y(1): in 3 changes\n\n"
