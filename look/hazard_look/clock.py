@@ -9,6 +9,7 @@ same values at rest, and nothing is written if it does not.
 """
 import os
 import re
+import stat
 
 from . import script
 from .circuit import load
@@ -36,8 +37,25 @@ def run(words, out):
     text = "".join(line + "\n" for line in writer.lines)
     _check(words, circuit, writer, text)
     _warn(circuit)
-    out.write(text)
+    _write_whole(out, text)
     return DONE
+
+
+def _write_whole(out, text):
+    """Writes a text. If a file has no room for all of it, what was written is taken back: the first lines of a script are a script as well."""
+    try:
+        number = out.fileno()
+        size = os.fstat(number).st_size if stat.S_ISREG(os.fstat(number).st_mode) else None
+    except (AttributeError, OSError):
+        size = None
+    try:
+        out.write(text)
+        if size is not None:
+            out.flush()
+    except OSError:
+        if size is not None:
+            os.ftruncate(number, size)
+        raise
 
 
 def _warn(circuit):

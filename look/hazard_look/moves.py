@@ -59,3 +59,21 @@ class Moves:
         for name, told in self.found.items():
             if len(told) > 1 and all(is_clean(row) for _, row in told):
                 yield name, [number for number, _ in told]
+
+
+class Across:
+    """Finds the nodes that pulse across the edges of a script. `first_of` has the first change of each edge by its last one."""
+
+    def __init__(self, circuit, first_of):
+        self.circuit, self.first_of, self.firsts, self.moves = circuit, first_of, set(first_of.values()), None
+
+    def pulses(self, change):
+        """Takes up the next change that is analysed; of the last one of an edge the nodes, with the numbers of the changes in which they move."""
+        if change.number in self.firsts:
+            self.moves = Moves(self.circuit)
+        if self.moves:
+            self.moves.add(change)
+        if self.moves is None or change.number not in self.first_of:
+            return []
+        found, self.moves = list(self.moves.pulses()), None
+        return found

@@ -54,6 +54,7 @@ def rows(folder, call, write, example, hazard):
     yield from _expected(opened, call, write, folder)
     yield from _other_root(opened, call, write, folder)
     yield from _clean(opened, call, write, folder)
+    yield from _across(opened, call, write, folder)
     yield from _large(opened, call, write, folder)
     if exploring.is_known(hazard, example):
         yield from _states(opened, call, write, folder)
@@ -169,6 +170,15 @@ def _clean(opened, call, write, folder):
     told, errors = opened(page, 'tell("opened"); document.querySelector("nav .more").click(); tell("all"); press("faded"); told.faded = count(".box.faded");')
     yield "an input that changes", (errors, told["opened"]["chosen"], told["opened"]["step"], told["faded"]), ([], "d", "step 1 of 3", 2)
     yield "a long list", (told["opened"]["changes"], told["opened"]["nav"][:32], told["all"]["changes"]), (201, "changes 1 to 200 of 300: show al", 300)
+
+
+def _across(opened, call, write, folder):
+    """A node that moves once in both halves of a clock edge is no green one."""
+    bench = write(folder, "k.bench", week.RING)
+    script = write(folder, "k.txt", call(["clock", bench, write(folder, "k.clk", "start ck=0 t0=1 t1=0 t2=0\n#clock ck\n#clock ck=0\n")])[1])
+    told, errors = opened(call(["page", bench, script])[1], 'tell("opened"); told.look = document.querySelector("nav .chosen").className; told.said = document.querySelector("aside .failed").textContent; press("hidden"); tell("hidden");')
+    yield "a pulse across an edge", (errors, told["opened"]["nav"], told["opened"]["chosen"], told["look"], told["said"], told["hidden"]["changes"]), (
+        [], "1 ck=1clean2 t0=0 t1=11 pulses across the edge3 ck=0clean", "g0", "pulses chosen", "it pulses across the edge: it moves once in each of the changes 1 and 2", 1)
 
 
 def _large(opened, call, write, folder):

@@ -4,6 +4,7 @@ What `hazard` writes of a file by itself may stand before the line.
 """
 import functools
 import os
+import resource
 import signal
 import subprocess
 
@@ -117,12 +118,27 @@ def _outputs(folder, command, run, files):
             gone = subprocess.run([command] + words, stdout=unread, stderr=subprocess.PIPE, check=False)
         yield f"a pipe whose reader has gone, {words[0]}", (gone.returncode, b"hazard-look: standard" in gone.stderr), (8, False)
     yield from _errors(folder, command, files)
+    yield from _no_room(folder, command, write)
     for place in ("none/y.runs", "folder", ""):
         yield f"a run kept at {place!r}", _ends(run(["why"] + files + ["y", "--save", place], folder), 8, place), True
     spoilt = dict(os.environ, TMPDIR="/none", PYTHONPATH=folder)
     with open(os.path.join(folder, "sitecustomize.py"), "w", encoding="ascii") as file:
         file.write("import tempfile\ntempfile._candidate_tempdir_list = lambda: ['/none']\n")
     yield "no place for a short file", _ends(run(["start", files[0]], folder, env=spoilt), 8, "no file can be made"), True
+
+
+def _no_room(folder, command, write):
+    """A script that `clock` writes to a file without room for all of it is not there in part, and what stood before it is."""
+    bench, before = write(folder, "q.bench", "INPUT(ck)\nd = NOT(q)\nq = DFF(d)  # clock ck rising\nz = AND(ck, q)\n"), "# kept\n" * 2000
+    script, path = write(folder, "q.clk", "start ck=0 q=0\n" + "#clock ck\n" * 200), os.path.join(folder, "q.txt")
+    for more, wanted in ((10_000, 0), (5_000, 8)):
+        write(folder, "q.txt", before)
+        limited = lambda: resource.setrlimit(resource.RLIMIT_FSIZE, (len(before) + more, len(before) + more))
+        with open(path, "ab") as file:
+            done = subprocess.run([command, "clock", bench, script], stdout=file, stderr=subprocess.PIPE, preexec_fn=limited, check=False)
+        with open(path, encoding="utf-8") as file:
+            text = file.read()
+        yield f"room for {more} bytes", (done.returncode, text.startswith(before), text == before), (wanted, True, wanted != 0)
 
 
 def _errors(folder, command, files):
