@@ -25,6 +25,7 @@ def rows(folder, command, run, write):
     yield from _programs(folder, run, write, files)
     yield from _names(folder, run, write)
     yield from _outputs(folder, command, run, files)
+    yield from _no_room(folder, command, write)
     yield from _interrupted(folder, command, write)
 
 
@@ -118,7 +119,6 @@ def _outputs(folder, command, run, files):
             gone = subprocess.run([command] + words, stdout=unread, stderr=subprocess.PIPE, check=False)
         yield f"a pipe whose reader has gone, {words[0]}", (gone.returncode, b"hazard-look: standard" in gone.stderr), (8, False)
     yield from _errors(folder, command, files)
-    yield from _no_room(folder, command, write)
     for place in ("none/y.runs", "folder", ""):
         yield f"a run kept at {place!r}", _ends(run(["why"] + files + ["y", "--save", place], folder), 8, place), True
     spoilt = dict(os.environ, TMPDIR="/none", PYTHONPATH=folder)
