@@ -131,14 +131,15 @@ def _no_room(folder, command, write):
     """A script that `clock` writes to a file without room for all of it is not there in part, and what stood before it is."""
     bench, before = write(folder, "q.bench", "INPUT(ck)\nd = NOT(q)\nq = DFF(d)  # clock ck rising\nz = AND(ck, q)\n"), "# kept\n" * 2000
     script, path = write(folder, "q.clk", "start ck=0 q=0\n" + "#clock ck\n" * 200), os.path.join(folder, "q.txt")
-    for more, wanted in ((10_000, 0), (5_000, 8)):
+    for more, wanted, buffered in ((20_000, 0, ""), (10_000, 8, ""), (5_000, 8, ""), (10_000, 8, "1"), (5_000, 8, "1")):
         write(folder, "q.txt", before)
         limited = lambda: resource.setrlimit(resource.RLIMIT_FSIZE, (len(before) + more, len(before) + more))
         with open(path, "ab") as file:
-            done = subprocess.run([command, "clock", bench, script], stdout=file, stderr=subprocess.PIPE, preexec_fn=limited, check=False)
+            done = subprocess.run([command, "clock", bench, script], stdout=file, stderr=subprocess.PIPE, preexec_fn=limited,
+                                  env=dict(os.environ, PYTHONUNBUFFERED=buffered), check=False)
         with open(path, encoding="utf-8") as file:
             text = file.read()
-        yield f"room for {more} bytes", (done.returncode, text.startswith(before), text == before), (wanted, True, wanted != 0)
+        yield f"room for {more} bytes{buffered and ', unbuffered'}", (done.returncode, text.startswith(before), text == before), (wanted, True, wanted != 0)
 
 
 def _errors(folder, command, files):
