@@ -6,6 +6,7 @@ import shutil
 import subprocess
 
 import exploring
+import looking
 import week
 
 BROWSERS = ("chromium", "chromium-browser", "google-chrome")
@@ -56,17 +57,18 @@ def rows(folder, call, write, example, hazard):
     yield from _clean(opened, call, write, folder)
     yield from _across(opened, call, write, folder)
     yield from _large(opened, call, write, folder)
+    yield from looking.rows(opened, call, write, folder)
     if exploring.is_known(hazard, example):
         yield from _states(opened, call, write, folder)
 
 
-def _opened(folder, browser, write, page, actions, address="", size="1400,900"):
+def _opened(folder, browser, write, page, actions, address="", size="1400,900", scheme="light"):
     """What is told by some actions on a page, and the errors of its program."""
     before, after = page.split("</style>", 1)
     script = f"<script>{ACTIONS}</script>"
     after = after.replace("</body>", f"<script>{actions}{REPORT}</script></body>")
     path = write(folder, "page.html", f"{before}</style>{script}{after}")
-    options = ["--headless", "--no-sandbox", "--disable-gpu", "--dump-dom", f"--user-data-dir={folder}/browser", f"--window-size={size}"]
+    options = ["--headless", "--no-sandbox", "--disable-gpu", "--dump-dom", f"--user-data-dir={folder}/browser", f"--window-size={size}", f"--blink-settings=preferredColorScheme={int(scheme == 'light')}"]
     done = subprocess.run([browser] + options + [f"file://{path}{address}"],
                           stdout=subprocess.PIPE, stderr=subprocess.DEVNULL, timeout=900, check=False)
     found = re.search(r'<pre id="told">(.*?)</pre>', done.stdout.decode(), re.S)
