@@ -158,6 +158,12 @@ def _errors(folder, command, files):
         file.write("import json\njson.dumps = None\n")
     spoilt = subprocess.run([command, "summary", "--json"] + files, env=dict(os.environ, PYTHONPATH=folder), stdout=subprocess.DEVNULL, stderr=subprocess.PIPE, check=False)
     os.remove(module)
+    broken = os.path.join(folder, "argparse.py")
+    with open(broken, "w", encoding="ascii") as file:
+        file.write("raise SyntaxError('an old Python')\n")
+    unstarted = subprocess.run([command, "--version"], env=dict(os.environ, PYTHONPATH=folder), stdout=subprocess.DEVNULL, stderr=subprocess.PIPE, check=False)
+    os.remove(broken)
+    yield "a program that can't be started", (unstarted.returncode, unstarted.stderr), (70, b"hazard-look: it can't be started: SyntaxError: an old Python\n")
     yield "a fault of the program", (spoilt.returncode, spoilt.stderr.decode().startswith("hazard-look: a fault of this program: TypeError"), spoilt.stderr.count(b"\n")), (70, True, 1)
 
 

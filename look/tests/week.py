@@ -77,6 +77,7 @@ CIRCUITS = {
     "flags of a FIFO": (
         ("a flag of a FIFO with Gray code", "expect", GRAY, "start ck=0 w0=0 w1=0 r0=0 r1=0 #expect empty clean\n#clock\n#clock\n#clock\n", [], 0, ("0 failed",), ()),
         ("a reset makes a flag move more than once", "clock summary", CLEARED, "start ck=0 rst=0 w0=1 w1=1 r0=1 r1=0\nchange rst=1\n", [], 0, ("empty dynamic 0-1: it goes from 0 to 1, by 3 edges in some run",), ()),
+        ("what is expected of a reset is expected of its flip-flops too", "clock expect", CLEARED, "start ck=0 rst=0 w0=1 w1=1 r0=1 r1=0\nchange rst=1 #expect empty clean\n", [], 1, ("empty clean: its class is dynamic 0-1", "2 expectations, 1 failed"), ()),
     ),
     "a reset synchroniser": (
         ("a reset falls at once and rises clean", "expect", RESET, "start rst=0 one=1 f1=1 f2=1 #expect out clean\nchange rst=1 #expect out single\nchange f1=0 f2=0\nchange rst=0 #expect out steady\n#clock\n#clock #expect out single\n", [], 0, ("0 failed",), ()),
