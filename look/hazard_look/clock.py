@@ -9,6 +9,7 @@ same values at rest, and nothing is written if it does not.
 """
 import os
 import re
+import stat
 
 from . import script
 from .circuit import load
@@ -36,8 +37,25 @@ def run(words, out):
     text = "".join(line + "\n" for line in writer.lines)
     _check(words, circuit, writer, text)
     _warn(circuit)
-    out.write(text)
+    _write_whole(out, text)
     return DONE
+
+
+def _write_whole(out, text):
+    """Writes a text. If a file has no room for all of it, what was written is taken back: the first lines of a script are a script as well."""
+    try:
+        number = out.fileno()
+        size = os.fstat(number).st_size if stat.S_ISREG(os.fstat(number).st_mode) else None
+    except (AttributeError, OSError):
+        size = None
+    try:
+        out.write(text)
+        if size is not None:
+            out.flush()
+    except OSError:
+        if size is not None:
+            os.ftruncate(number, size)
+        raise
 
 
 def _warn(circuit):
@@ -114,9 +132,9 @@ class _Writer:
 
     def statement(self, statement):
         """Writes a line of the script, or the changes for which it stands."""
-        faults = statement.faults + self._clock_in_remark(statement)
-        if faults:
-            raise self._fault(statement, faults[0])
+        unread = script.edge_in_remark(statement, self.circuit.inputs)
+        if statement.faults or unread:
+            raise self._fault(statement, (statement.faults + [unread])[0])
         if statement.texts("clock") and not self.is_started:
             raise self._fault(statement, "an edge stands after the start")
         if statement.keyword == "start":
@@ -125,33 +143,33 @@ class _Writer:
         if statement.texts("clock"):
             self._edge(statement)
             return
+        begin = len(self.lines)
         self.lines.append(statement.line)
         if statement.keyword == "change":
             self._make(statement.values, statement.number)
-            self._reset(statement.number, "  # reset")
+            self._reset(statement.number)
+        if len(self.lines) > begin + 1:
+            # a reset is a part of the change that brings it about, so what is expected there is expected of both
+            self.lines[begin] = statement.line.partition("#")[0].rstrip()
+            self._mark(statement, begin, begin, spelt(statement.values)[1:])
+            self.lines[-1] += "  # reset"
 
     def _fault(self, statement, what):
         return script.fault_of(self.path, statement.number, what, SCRIPT_FAULT)
-
-    def _clock_in_remark(self, statement):
-        """That a line has nothing but a remark that is an edge of an input but for a blank."""
-        found = re.fullmatch(r"#\s+clock\s+([^\s=]+)(=[01])?", statement.remark.strip())
-        is_alone = not statement.keyword and not statement.marks
-        return ["`# clock` is read as a remark: write `#clock`, without a blank"] if found and is_alone and found[1] in self.circuit.inputs else []
 
     def _make(self, values, number):
         """Lets the circuit come to rest after a change."""
         self.made.append(_Made(number, values, self.resting.after(values), self.begin))
         self.begin = None
 
-    def _reset(self, number, end):
+    def _reset(self, number):
         """Writes the change of the flip-flops that a reset changes, if there is one."""
         values = self.resting.value
         resets = ((cut.name, _RESET.search(cut.comment)) for cut in self.circuit.cuts)
         acting = {name: int(found[3]) for name, found in resets if found and values.get(found[1]) == int(found[2])}
         moved = {name: bit for name, bit in acting.items() if values[name] != bit}
         if moved:
-            self.lines.append(f"change{spelt(moved)}{end}")
+            self.lines.append(f"change{spelt(moved)}")
             self._make(moved, number)
 
     def _edge(self, statement):
@@ -172,16 +190,16 @@ class _Writer:
         loaded = {cut.name: before[cut.data] for cut in self.circuit.cuts if not clock or self._follows(cut, before)}
         if loaded:
             self._written(loaded, statement.number)
-        self._mark(statement, begin, f"{clock}={bit}" if clock else "flip-flops")
+        self._mark(statement, begin, len(self.lines) - 1, f"{clock}={bit}" if clock else "flip-flops")
 
     def _written(self, values, number):
         """A change that has no line of its own in the script."""
         self.lines.append(f"change{spelt(values)}")
         self._make(values, number)
-        self._reset(number, "")
+        self._reset(number)
 
-    def _mark(self, statement, begin, name):
-        """Writes behind the changes of an edge that they are one, and what is expected of them."""
+    def _mark(self, statement, begin, remarked, name):
+        """Writes behind the changes of an edge that they are one, and what is expected of them; and the remark behind one of them."""
         count = len(self.lines) - begin
         expected = statement.texts("expect")
         own = [text for text in expected if not text.lower().startswith(EDGE)]
@@ -193,7 +211,7 @@ class _Writer:
         for at in range(begin, len(self.lines)):
             marks = [f"#edge {name if at == begin else script.GOES_ON}"] if count > 1 or of_edge else []
             marks += [f"#expect {text}" for text in own + (of_edge if at == len(self.lines) - 1 else [])]
-            marks += [statement.remark] if statement.remark and at == len(self.lines) - 1 else []
+            marks += [statement.remark] if statement.remark and at == remarked else []
             self.lines[at] = "  ".join([self.lines[at]] + marks)
 
     def _follows(self, cut, before):

@@ -70,14 +70,14 @@ def checked(words, changes, keeps_all=False):
         for one, first in plan.checks(change.number):
             tally.all += 1
             if change.stopped:
-                tally.not_checked += 1
                 missed += 1
                 answer = Answer(None, f"not checked: {change.stopped} did not settle before")
             else:
                 answer = bench.answer(one, first)
-                tally.failed += not answer.holds
                 if answer.remark:
                     tally.findings.append(_finding(words, bench, one, first, answer))
+            tally.not_checked += answer.holds is None
+            tally.failed += answer.holds is False
             if keeps_all:
                 tally.cases.append(_finding(words, bench, one, first, answer))
         if change.stopped:
@@ -111,25 +111,31 @@ class _Plan:
     def __init__(self, expected, statements):
         self.line_of = script.lines_of_changes(statements)
         self.edges, self.begins, self.missed = script.edges_of(statements), script.begins_of(statements), 0
-        self.defaults = [one for one in expected if one.first is None]
-        self.own = {}
+        self.own, self.defaults, self.begin = {}, {}, 1
         for one in expected:
-            if one.first is not None:
+            if one.begin is None:
                 self.own.setdefault(one.last, []).append(one)
+            else:
+                self.defaults.setdefault(one.begin, []).append(one)
         spans = {(one.first, one.last) for one in expected if one.first != one.last}
-        spans |= {(first, last) for last, first in self.edges.items() if any(one.of_edge for one in self.defaults)}
+        if any(one.of_edge for one in expected if one.begin):
+            spans.update((first, last) for last, first in self.edges.items())
         self.spans = sorted(spans)
 
     def checks(self, number):
         """The expectations of a change, each with the first change that it speaks of. What a change expects itself goes before the
-        defaults."""
-        own = self.own.get(number, [])
-        for one in self.defaults:
-            first = self.edges.get(number) if one.of_edge else number
-            if first and not any(mine.of_edge == one.of_edge and mine.first == first and mine.overrides(one) for mine in own):
-                yield one, first
-        for one in own:
-            yield one, one.first
+        defaults of its start, and these before those of all changes."""
+        self.begin = number if number in self.begins else self.begin
+        nearer = [(one, one.first) for one in self.own.get(number, [])]
+        for begin in dict.fromkeys((self.begin, 1)):
+            nearer[:0] = [(one, first) for one, first in self._of_defaults(begin, number) if not any(
+                mine.of_edge == one.of_edge and start == first and mine.overrides(one) for mine, start in nearer)]
+        return nearer
+
+    def _of_defaults(self, begin, number):
+        """The defaults behind a start, each with the first of the changes up to a number that it speaks of there."""
+        found = [(one, self.edges.get(number) if one.of_edge else number) for one in self.defaults.get(begin, [])]
+        return [(one, first) for one, first in found if first]
 
 
 class _Bench:
@@ -140,11 +146,12 @@ class _Bench:
         self.begin, self.end = {}, {}
         for first, last in spans:
             self.begin.setdefault(first, []).append((first, last))
-        self.open, self.change = {}, None
+        # the last change of which no run is known that keeps its orders
+        self.open, self.change, self.unkept = {}, None, 0
 
     def goes_on(self, change):
         """Takes up the next change."""
-        self.change = change
+        self.change, self.unkept = change, self.unkept if change.kept else change.number
         self.open = {span: moves for span, moves in self.open.items() if span[1] >= change.number}
         self.open.update((span, Moves(self.circuit)) for span in self.begin.get(change.number, ()))
         if not change.stopped:
@@ -152,9 +159,10 @@ class _Bench:
                 moves.add(change)
 
     def answer(self, one, first):
-        """Whether an expectation holds; if no run is known that keeps the orders which are used, that is remarked."""
+        """Whether an expectation holds. If no run is known that keeps the orders which are used, what holds of all such runs is no
+        answer."""
         found = self._answer(one, first)
-        return found if self.change.kept or found.remark else found._replace(remark=NOT_KEPT)
+        return Answer(None, f"not checked: {NOT_KEPT}", found.node) if found.holds and first <= self.unkept else found
 
     def _answer(self, one, first):
         if isinstance(one.what, (Class, Edges)):
@@ -182,7 +190,7 @@ class _Bench:
         if any(not rows[name].moves() and rows[name].start != str(bit) for name, bit in what.values.items()):
             return Answer(True, "")
         if not self.change.kept:
-            return Answer(True, "no run is known that keeps the orders, which is no proof")
+            return Answer(True, "")
         searcher = Searcher(self.network, self.change.run_lines, self.change.used)
         cone = set().union(*(self.network.cone(self.network.number[name]) for name in what.values))
         found = searcher.find(Values(self.network, what.values), cone)

@@ -1,4 +1,5 @@
 """What is expected of a circuit: the items behind `#expect` in the comments of a script, and the changes that each speaks of."""
+import bisect
 import re
 from typing import Dict, List, NamedTuple, Optional, Union
 
@@ -42,7 +43,8 @@ class Settled(NamedTuple):
 
 class Expectation(NamedTuple):
     """What is expected, its words, its line in the script, and the first and the last of the changes that it speaks of as a whole. A
-    default has None for both: it is meant for each change alone, or for each edge."""
+    default has None for both: it is meant for each change alone, or for each edge, behind the start before the change `begin`; all changes
+    are behind the first start."""
 
     what: Union[Class, Edges, Never, Settled]
     text: str
@@ -50,6 +52,7 @@ class Expectation(NamedTuple):
     first: Optional[int]
     last: Optional[int]
     of_edge: bool
+    begin: Optional[int] = None
 
     def overrides(self, default):
         """Whether a default is not asked in the change of this one: this one speaks of the same node, or wants a node unsettled."""
@@ -58,24 +61,49 @@ class Expectation(NamedTuple):
         return isinstance(default.what, Settled) and isinstance(self.what, Class) and self.what.kinds == ["unsettled"]
 
 
+class _Script:
+    """What reading an expectation has to know of the script besides its own line."""
+
+    def __init__(self, statements, circuit):
+        self.circuit, self.edges = circuit, script.edges_of(statements)
+        self.changes, self.lasts = len(script.lines_of_changes(statements)), script.begins_of(statements)
+        self.begins, self.ends = list(self.lasts), list(self.edges)
+        self.number, self.is_begun = 0, False
+
+    def goes_on(self, keyword):
+        """Takes up the next line."""
+        self.number += keyword == "change"
+        self.is_begun = keyword == "start" or self.is_begun and keyword != "change"
+
+    def begin(self):
+        """The first change that a default is meant for, if one stands on this line; else None."""
+        return 1 if self.number == 0 else self.number + 1 if self.is_begun else None
+
+    def last(self, begin):
+        """The last change that a default is meant for."""
+        return self.changes if begin == 1 else self.lasts.get(begin, 0)
+
+    def has_edge(self, begin):
+        """Whether an edge is among the changes that a default is meant for."""
+        return bisect.bisect_left(self.ends, begin) < bisect.bisect_right(self.ends, self.last(begin))
+
+    def has_start_between(self, first, last):
+        """Whether a change after the first one begins at a start."""
+        return bisect.bisect_right(self.begins, first) < bisect.bisect_right(self.begins, last)
+
+
 def read(path, statements, circuit):
     """The expectations of a script, each fault with its line."""
-    found, faults, number = [], [], None
-    edges, changes = script.edges_of(statements), len(script.lines_of_changes(statements))
+    found, faults, place = [], [], _Script(statements, circuit)
     for statement in statements:
-        told = list(statement.faults)
-        if statement.keyword == "change":
-            number = (number or 0) + 1
-        told += _hidden(statement.remark, circuit)
+        place.goes_on(statement.keyword)
+        told = statement.faults + list(_hidden(statement.remark, circuit))
         for text in statement.texts("expect"):
             of_edge = text.lower().startswith(EDGE)
-            place = (edges.get(number), number) if of_edge else (number, number)
             for item in text[len(EDGE):].split(",") if of_edge else text.split(","):
-                one = _expectation(item, statement.number, place, of_edge, changes, circuit)
+                one = _expectation(item, statement.number, of_edge, place)
                 (told if isinstance(one, str) else found).append(one)
         faults += [f"{path}:{statement.number}: {fault}" for fault in told]
-    begins = script.begins_of(statements)
-    faults += [f"{path}:{one.line}: `{one.text}`: a start stands between these changes" for one in found if one.first and any(one.first < begin <= one.last for begin in begins)]
     if faults:
         raise Failure("\n".join(faults), WRONG_WORDS)
     return found
@@ -83,26 +111,43 @@ def read(path, statements, circuit):
 
 def _hidden(remark, circuit):
     """That a remark has an expectation in its words, which nobody would check."""
-    for words in re.findall(r"\bexpect(?:s|ed)?\b:?\s+([^#,]*)", remark, re.I):
-        if not isinstance(_read_item(words.split(), circuit), str):
-            yield f"`expect {words.strip()}` stands in a remark, and so it is not read: write `#expect` in front of the remark"
+    for piece in remark.split("#"):
+        words = piece.split()
+        for at in [at for at, word in enumerate(words) if script.is_like(word, "expect")]:
+            item = " ".join(words[at + 1:]).partition(",")[0]
+            if not isinstance(_read_item(item.split(), circuit), str):
+                yield f"`{words[at]} {item}` stands in a remark, and so it is not read: write `#expect` in front of the remark"
 
 
-def _expectation(item, line, place, of_edge, changes, circuit):
-    """The expectation of an item at a place, which is its first and last change; or why it can't be read."""
-    text, (first, last), ranged = " ".join(item.split()), place, _RANGE.match(item.strip())
+def _expectation(item, line, of_edge, place):
+    """The expectation of an item on a line; or why it can't be read."""
+    text, ranged, begin = " ".join(item.split()), _RANGE.match(item.strip()), place.begin()
+    first = last = None if begin else place.number
     if ranged and not of_edge:
-        item, first, last = ranged[1], int(ranged[2]), int(ranged[3] or ranged[2])
-        if not 1 <= first <= last <= changes:
-            return f"`{text}`: the script has the changes 1 to {changes}"
-    elif first is None and last is not None:
-        return f"`{EDGE} {text}`: no edge ends here; it stands at the last change of an edge, where `hazard-look clock` writes it"
-    what = _read_item(item.split(), circuit)
-    if isinstance(what, str):
-        return what
+        item, first, last, begin = ranged[1], int(ranged[2]), int(ranged[3] or ranged[2]), None
+        if not 1 <= first <= last <= place.changes:
+            return f"`{text}`: the script has the changes 1 to {place.changes}"
+        if place.has_start_between(first, last):
+            return f"`{text}`: a start stands between these changes"
+    fault = _of_place(text, of_edge, begin, last, place)
+    what = _read_item(item.split(), place.circuit)
+    if fault or isinstance(what, str):
+        return fault or what
+    first = place.edges[last] if of_edge and last else first
     if (of_edge or first != last) and isinstance(what, (Never, Settled)):
         return f"`{text}` speaks of each change alone: write it without `{EDGE}` and without a range"
-    return Expectation(what, f"{EDGE} {text}" if of_edge else text, line, first, last, of_edge)
+    return Expectation(what, f"{EDGE} {text}" if of_edge else text, line, first, last, of_edge, begin)
+
+
+def _of_place(text, of_edge, begin, last, place):
+    """Why something expected at a place would never be asked: no change or no edge is there."""
+    if begin and begin > place.last(begin):
+        return f"`{text}`: no change stands behind this start"
+    if of_edge and begin and not place.has_edge(begin):
+        return f"`{EDGE} {text}`: no edge follows; it is expected of edges, which `hazard-look clock` writes"
+    if of_edge and last and last not in place.edges:
+        return f"`{EDGE} {text}`: no edge ends here; it stands at the last change of an edge, where `hazard-look clock` writes it"
+    return ""
 
 
 def _read_item(words, circuit):
@@ -126,6 +171,8 @@ def _read_item(words, circuit):
 def _read_never(words, circuit):
     """What words behind `never` expect, or why they can't be read."""
     values = assigned([token for word in words[1:] for token in word.partition("=")])
+    if values and len(values) < len(words) - 1:
+        return "after `never` stands each node once"
     strange = [name for name in values or () if name not in circuit.known]
     if not values:
         return "after `never` stand assignments, as in `never g1=1 g2=1`"

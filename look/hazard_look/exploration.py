@@ -1,29 +1,32 @@
 """The text of `hazard explore`, read state by state: what each burst of a script does in each state that bursts reach."""
-from typing import Dict, Iterator, List, NamedTuple, Optional
+from typing import Dict, Iterator, List, NamedTuple, Optional, Sequence
 
 from .lines import assignments
+from .report import CLASSES
 
-# The words of a line that settles which count nodes: a class and a number, four times.
-_COUNTS = 8
 MORE = "more"
+# Behind this word stand the numbers of the assumptions that a change uses, and behind them, if no run is printed that keeps these, two words.
+_USED, _NOT_SHOWN = "used", ["not", "shown"]
 
 
 class Transition(NamedTuple):
     """A burst in a state: the number of the state in which it settles, None if that one has no number; how many nodes have each class;
-    or the variable that it leaves unsettled."""
+    or the variable that it leaves unsettled; the numbers of the assumptions that it uses, and whether some run is known to keep them."""
 
     state: int
     burst: Dict[str, int]
     target: Optional[int]
     counts: Dict[str, int]
     unsettled: Optional[str]
+    used: Sequence[int] = ()
+    kept: bool = True
 
     def hazards(self):
         """How many nodes have each class that is not clean."""
         return {kind: count for kind, count in self.counts.items() if count and kind != "single"}
 
     def is_clean(self):
-        return self.unsettled is None and not self.hazards()
+        return self.unsettled is None and not self.hazards() and self.kept
 
 
 class State(NamedTuple):
@@ -72,15 +75,34 @@ def _rows(lines):
         if state:
             yield state
         if word != "state":
+            # the program may end badly even so
+            if list(lines):
+                raise ValueError("lines behind the last one")
             yield Totals(word == "all", *map(int, words[1::2]))
             return
         state = State(int(words[0]), assignments(words[1:]), [])
+    raise ValueError("no last line")
 
 
 def _transition(state, words):
     """The transition of a line, without the number of its state."""
-    if words[0] == "unsettled":
-        return Transition(state, assignments(words[1:-1]), None, {}, words[-1])
-    counts = words[-_COUNTS:]
-    target = None if words[1] == MORE else int(words[1])
-    return Transition(state, assignments(words[2:-_COUNTS]), target, dict(zip(counts[::2], map(int, counts[1::2]))), None)
+    begin = 1 if words[0] == "unsettled" else 2
+    end = next((at for at in range(begin, len(words)) if "=" not in words[at]), len(words))
+    burst, rest = assignments(words[begin:end]), words[end:]
+    told, used = (rest[:1], rest[1:]) if begin == 1 else _counted(rest)
+    kept = used[-2:] != _NOT_SHOWN
+    numbers = tuple(map(int, used[1:] if kept else used[1:-2]))
+    if used and used[0] != _USED:
+        raise ValueError(f"strange words {used}")
+    if begin == 1:
+        return Transition(state, burst, None, {}, told[0], numbers, kept)
+    return Transition(state, burst, None if words[1] == MORE else int(words[1]), told, None, numbers, kept)
+
+
+def _counted(words):
+    """How many nodes have each class, and the words behind that."""
+    found = {}
+    while len(words) > 1 and words[0] in CLASSES:
+        found[words[0]] = int(words[1])
+        words = words[2:]
+    return found, words

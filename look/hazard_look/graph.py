@@ -13,7 +13,7 @@ from .script import NO_CHANGE
 MOST_STATES, MOST_REPORTS = 300, 200
 
 
-def run(words, out, circuit, found):
+def run(words, out, circuit, found, assumed):
     """Writes the page of an exploration."""
     states, totals = {}, None
     for row in found.rows:
@@ -26,7 +26,7 @@ def run(words, out, circuit, found):
     listed, names = start.nodes_of(circuit), table.labelled(circuit)
     gathered = page.Changes(words, circuit)
     for trail in itertools.islice(trails(states), MOST_REPORTS):
-        _note(words, gathered, states, listed, trail)
+        _note(words, gathered, states, (listed, assumed), trail)
     gathered.found.sort(key=lambda change: change["from"])
     part = "" if len(gathered.found) == totals.changes else f"; here {len(states)} states and {len(gathered.found)} changes"
     page.write(words, out, gathered, states=[table.label(state, names) for state in states.values()], counted=table.counted(totals) + part)
@@ -44,7 +44,7 @@ def trails(states):
                 trail += [(one, False) for one in way]
                 at = way[-1].target if way else at
                 trail.append((left[at].pop(), True))
-                at = trail[-1][0].target
+                at = _next(trail[-1][0])
                 way = _way(states, left, at)
             yield trail
 
@@ -56,21 +56,27 @@ def _way(states, left, begin):
         if left[at]:
             return ways[at]
         for one in states[at].transitions:
-            if one.target and one.target not in ways:
+            if _next(one) and one.target not in ways:
                 ways[one.target] = ways[at] + [one]
                 waiting.append(one.target)
     return None
 
 
-def _note(words, gathered, states, listed, trail):
-    """Notes the changes of a walk for the page, by one report on the script that it is."""
-    text = "\n".join(table.script_of(listed, states[trail[0][0].state], [transition.burst for transition, _ in trail])) + "\n"
-    with file_of(text) as path:
+def _next(transition):
+    """The state from which a walk goes on: a report ends if no run is known that keeps the orders."""
+    return transition.target if transition.kept else None
+
+
+def _note(words, gathered, states, stated, trail):
+    """Notes the changes of a walk for the page, by one report on the script that it is. `stated`: what a script lists of a state, and what it
+    assumes."""
+    listed, assumed = stated
+    lines = lambda state, bursts: "\n".join(table.script_of(listed, states[state], bursts, assumed))
+    with file_of(lines(trail[0][0].state, [transition.burst for transition, _ in trail]) + "\n") as path:
         gathered.words = argparse.Namespace(**dict(vars(words), script=path))
         for (transition, is_new), change in zip(trail, words.program.edges(words.netlist, path).changes):
             if not is_new:
                 continue
             end = f"to {transition.target}" if transition.target else "unsettled"
             gathered.note(change, title=f"{transition.state} {end},{spelt(transition.burst)}", burst=spelt(transition.burst)[1:],
-                          script="\n".join(table.script_of(listed, states[transition.state], [transition.burst])),
-                          **{"from": transition.state, "to": transition.target or 0})
+                          script=lines(transition.state, [transition.burst]), **{"from": transition.state, "to": transition.target or 0})

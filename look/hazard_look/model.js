@@ -100,11 +100,12 @@ const edgesOf = node => steps().flatMap((step, at) => (step.includes(node) ? [at
 /** Where a run opens: at the first edge of the node, or at its start. */
 const opening = node => edgesOf(node)[0] ?? 0;
 
-/** The node that a change opens with: its worst root, or else an input that changes, or else what may move. */
+/** The node that a change opens with: its worst root, or else what pulses across its edge, or an input that changes, or else what may move. */
 function usualNode(at) {
   const one = DATA.changes[at];
   if (!one || one.stopped) return 0;
   if (one.hazards.length) return one.hazards[0];
+  if (one.across) return +Object.keys(one.across)[0];
   const changed = [...one.target].findIndex((bit, node) => bit !== one.start[node]);
   return Math.max(0, changed >= 0 ? changed : [...one.kind].findIndex(kind => DATA.kinds[+kind] !== "steady"));
 }

@@ -49,11 +49,31 @@ class Moves:
         if len(told) < 2:
             return told[0] if told else self.last[name]
         start, end, bounds = told[0].start, told[-1].end, [row.most for row in told]
-        kind = "unsettled" if end == "X" else "static" if end == start else "dynamic"
-        return Row(name, start, end, sum(row.least for row in told), None if None in bounds else sum(bounds), kind)
+        least, most = sum(row.least for row in told), None if None in bounds else sum(bounds)
+        kind, shown = ("static", 2) if end == start else ("dynamic", 3)
+        kind = "unsettled" if end == "X" else kind if least >= shown else f"maybe-{kind}"
+        return Row(name, start, end, least, most, kind)
 
     def pulses(self):
         """The nodes that make a clean edge in more than one of the changes, with the numbers of these changes."""
         for name, told in self.found.items():
             if len(told) > 1 and all(is_clean(row) for _, row in told):
                 yield name, [number for number, _ in told]
+
+
+class Across:
+    """Finds the nodes that pulse across the edges of a script. `first_of` has the first change of each edge by its last one."""
+
+    def __init__(self, circuit, first_of):
+        self.circuit, self.first_of, self.firsts, self.moves = circuit, first_of, set(first_of.values()), None
+
+    def pulses(self, change):
+        """Takes up the next change that is analysed; of the last one of an edge the nodes, with the numbers of the changes in which they move."""
+        if change.number in self.firsts:
+            self.moves = Moves(self.circuit)
+        if self.moves:
+            self.moves.add(change)
+        if self.moves is None or change.number not in self.first_of:
+            return []
+        found, self.moves = list(self.moves.pulses()), None
+        return found

@@ -83,7 +83,7 @@ function decoded(name) {
  */
 function open() {
   const [number, name, which, step] = location.hash.slice(1).split("/");
-  const failed = DATA.changes.findIndex(one => one.failed), hazardous = DATA.changes.findIndex(one => (one.hazards ?? []).length);
+  const failed = DATA.changes.findIndex(one => one.failed), hazardous = DATA.changes.findIndex(one => !one.stopped && isPulsing(one));
   const asked = Math.min(Math.max(0, (+number || 1) - 1), Math.max(0, DATA.changes.length - 1));
   view.change = number ? asked : Math.max(0, failed >= 0 ? failed : hazardous);
   const node = name ? DATA.names.indexOf(decoded(name)) : -1;

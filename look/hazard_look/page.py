@@ -10,7 +10,7 @@ import subprocess
 from . import cover, expect, runtext, script, why
 from .circuit import load
 from .errors import DONE, read_file
-from .moves import is_clean, kind_of
+from .moves import Across, is_clean, kind_of
 from .network import Network
 from .report import CLASSES
 from .summary import MEANINGS, UNDECIDED, roots, under
@@ -29,10 +29,10 @@ SEVERITY = ("unsettled", "dynamic", "static", "maybe-dynamic", "maybe-static")
 def run(words, out):
     """Writes the page of a netlist and a script."""
     report = words.program.edges(words.netlist, words.script)
-    line_of = script.lines_of_changes(script.must_be_written_out(words.script))
+    statements = script.must_be_written_out(words.script)
     circuit = load(words.netlist)
     gathered = Changes(words, circuit)
-    tally = expect.checked(words, gathered.each(report.changes, line_of))
+    tally = expect.checked(words, gathered.each(report.changes, statements))
     for finding in tally.findings:
         if not finding["holds"]:
             gathered.found[finding["number"] - 1].setdefault("failed", []).append(f"{finding['expectation']}: {finding['remark']}")
@@ -101,10 +101,12 @@ class Changes:
         data = {cut.data for cut in circuit.cuts}
         self.noise = data - {source for gate in circuit.gates for source in gate.sources} - set(circuit.outputs)
 
-    def each(self, changes, line_of):
+    def each(self, changes, statements):
         """The changes, each of which is noted first."""
+        line_of, across = script.lines_of_changes(statements), Across(self.circuit, script.edges_of(statements))
         for change in changes:
-            self.note(change, title=change.title(), line=line_of[change.number])
+            pulses = {} if change.stopped else {self.network.number[name]: numbers for name, numbers in across.pulses(change)}
+            self.note(change, title=change.title(), line=line_of[change.number], **({"across": pulses} if pulses else {}))
             yield change
 
     def note(self, change, **head):

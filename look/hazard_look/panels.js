@@ -12,18 +12,20 @@ const put = (room, tag, text, looks) => {
 
 // ---- the changes ----
 
-const lookOfChange = one => (one.failed ? "failed" : one.stopped ? "stopped" : one.end.includes("X") ? "open" : one.hazards.length ? "pulses" : "once");
+const isPulsing = one => one.hazards.length > 0 || Boolean(one.across);
+const lookOfChange = one => (one.failed ? "failed" : one.stopped ? "stopped" : one.end.includes("X") ? "open" : isPulsing(one) ? "pulses" : "once");
 const verdictOf = one => {
   if (one.stopped) return "not analysed";
-  const count = one.hazards.length, roots = one.roots;
-  if (!count) return one.kept === false ? "clean, if a run keeps the orders" : "clean";
-  return `${count} hazard${count > 1 ? "s" : ""}` + (roots < count ? `, ${roots} root${roots > 1 ? "s" : ""}` : "");
+  const count = one.hazards.length, roots = one.roots, across = Object.keys(one.across ?? {}).length;
+  const pulses = across ? `${across} pulse${across > 1 ? "" : "s"} across the edge` : "";
+  if (!count) return pulses || (one.kept === false ? "clean, if a run keeps the orders" : "clean");
+  return `${count} hazard${count > 1 ? "s" : ""}` + (roots < count ? `, ${roots} root${roots > 1 ? "s" : ""}` : "") + (pulses && `; ${pulses}`);
 };
 
 function drawChanges() {
   const list = byId("changes"), scrolled = list.scrollTop;
   list.replaceChildren();
-  const shown = DATA.changes.map((one, at) => at).filter(at => !view.hidden || DATA.changes[at].stopped || DATA.changes[at].hazards.length || DATA.changes[at].failed);
+  const shown = DATA.changes.map((one, at) => at).filter(at => !view.hidden || DATA.changes[at].stopped || isPulsing(DATA.changes[at]) || DATA.changes[at].failed);
   const most = opened.has("changes") ? shown.length : MOST_LISTED, begin = opened.has("changes") ? 0 : Math.max(0, Math.min(shown.indexOf(view.change) - 20, shown.length - most));
   const part = shown.slice(begin, begin + most);
   if (part.length < shown.length) more(list, "changes", `changes ${part[0] + 1} to ${part[part.length - 1] + 1} of ${DATA.changes.length}: show all`, drawChanges);
@@ -60,6 +62,8 @@ function drawRow() {
   put(room, "h2", DATA.names[node]);
   put(room, "div", meaning.replace(/\{(\w+)\}/g, (_, word) => values[word]));
   for (const text of change().under || []) put(room, "div", text, "under");
+  const across = change().across?.[node];
+  if (across) put(room, "div", `it pulses across the edge: it moves once in each of the changes ${across.join(" and ")}`, "failed");
   drawWhy(room, node);
   for (const text of change().failed || []) put(room, "div", `#expect failed: ${text}`, "failed");
   const lines = [["class", kindOf(node)], ["kind", DATA.gates[node]], ["start", values.start],
@@ -71,6 +75,7 @@ function drawRow() {
     put(line, "td", text);
   }
   listNodes(room, "hazards of this change, the roots first:", change().hazards);
+  if (change().across) listNodes(room, "pulse across the edge:", Object.keys(change().across).map(Number));
   listNodes(room, "reads", [...new Set(DATA.sources[node])]);
   listNodes(room, "read by", readers[node]);
 }

@@ -9,7 +9,7 @@ import tempfile
 
 from . import exploration, report
 from .errors import DOES_NOT_HOLD, NAME_NOT_READ, NO_PROGRAM, NOT_ACCEPTED, OUTPUT_FAILED, OWN_FAULT, SCRIPT_FAULT, SIGNALLED, Failure, begins_with_mark, read_file
-from .lines import spelt
+from .lines import lines_of, spelt
 from .terminal import Progress
 
 VARIABLE = "HAZARD"
@@ -74,13 +74,23 @@ class Program:
         """The report of two files. Its changes are read while the program writes them."""
         with self._understood():
             found = report.read(self.lines(["edges", netlist, script]))
-        return found._replace(changes=self._watched(found.changes, "change"))
+        return found._replace(changes=self._to_the_end(self._watched(found.changes, "change"), script))
 
     def explore(self, netlist, script):
         """The exploration of two files. Its states are read while the program writes them."""
         with self._understood():
             found = exploration.read(self.lines(["explore", netlist, script]))
         return found._replace(rows=self._watched(found.rows, "state"))
+
+    @staticmethod
+    def _to_the_end(changes, script):
+        """Some changes, after which a report without all changes of the script is a failure."""
+        count = 0
+        for count, change in enumerate(changes, 1):
+            yield change
+        wanted = sum(line.tokens[:1] != [] and line.tokens[0].lower() == "change" for line in lines_of(read_file(script)))
+        if count != wanted:
+            raise Failure(f"the report of `hazard` ends before its end: it has {count} of {wanted} changes", OWN_FAULT)
 
     def _watched(self, rows, what):
         """The rows of a report, with a line that says how far it is."""
@@ -129,6 +139,8 @@ class Program:
         """Whether the program accepts each run of a run text, and the line that it answers."""
         with file_of(run_text.text()) as path, self._running(["replay", netlist, path]) as running:
             line = running.stdout.read().strip()
+        if running.returncode < 0:
+            raise _ended(running.returncode)
         return running.returncode == 0, line
 
     def must_accept(self, netlist, run_text):
@@ -145,9 +157,7 @@ class Program:
                     raise Failure(f"hazard: {line.strip()}{_hint(line, words)}", _status(running.wait()))
                 yield line.rstrip("\n")
             if running.wait() != 0:
-                ended = f"with status {running.returncode}" if running.returncode > 0 else f"by signal {-running.returncode}"
-                what = "; the name of a file is no text" if running.returncode == NAME_NOT_READ else ""
-                raise Failure(f"hazard ended {ended}{what}", _status(running.returncode))
+                raise _ended(running.returncode)
 
     def _running(self, words):
         """The program, started with some words."""
@@ -155,6 +165,13 @@ class Program:
             return subprocess.Popen([self.path] + words, stdin=subprocess.DEVNULL, stdout=subprocess.PIPE, text=True)
         except OSError as fault:
             raise Failure(f"{self.path} can't be started: {fault.strerror or fault}", NO_PROGRAM) from fault
+
+
+def _ended(code):
+    """The failure for an end of `hazard` that is none of success."""
+    ended = f"with status {code}" if code > 0 else f"by signal {-code}"
+    what = "; the name of a file is no text" if code == NAME_NOT_READ else ""
+    return Failure(f"hazard ended {ended}{what}", _status(code))
 
 
 def _status(code):
@@ -173,7 +190,7 @@ def _hint(line, words):
     if text and text[1] == "netlist" and _is_line(netlist, int(text[2]), r"\s*(start|change)\s+\S+\s*=\s*[01?]"):
         return "; that is a line of a script, and the netlist comes before the script"
     if words[0] == "explore" and text and text[1] == "script" and _is_line(words[2], int(text[2]), r"\s*(order|ideal)\s"):
-        return "; a table is of all runs: it takes no orders and no wires without delay"
+        return "; this `hazard` is older than `hazard-look`: its tables are of all runs"
     if words[0] == "explore" and text and refusal.rstrip().endswith(": order") and _is_line(words[2], int(text[2]), r"\s*start\s"):
         return "; a table begins at one start"
     if refusal.startswith("netlist ") and netlist.lower().endswith((".v", ".sv")):

@@ -12,8 +12,9 @@ from .summary import roots
 # The reports of a search: those that look for more, and all of them; and those that it makes of a large circuit too, if all reports together
 # have more rows than so many.
 MOST_ROUNDS, MOST_CALLS, FEW_CALLS, MOST_ROWS = 40, 160, 20, 20_000_000
-# In a circuit of more nodes no single order is looked for.
-MOST_MENDED = 20_000
+# In a circuit of more nodes no order is looked for that mends one node; for one there are so many reports, and so many orders of a gate are
+# tried one by one.
+MOST_MENDED, MOST_ASKED, MOST_OTHERS = 20_000, 80, 12
 # A script states no more orders and no more wires without delay.
 MOST_ORDERS, MOST_IDEALS = 1000, 256
 
@@ -71,29 +72,66 @@ def _hazards(circuit, change, at_roots):
     return [name for name in names if name in found]
 
 
-def mending(words, circuit, network, change, node):
-    """An order that makes an unsettled node clean in a change, without any other one; None if none is found. `hazard edges` is asked about
-    all that may help, then about halves of what does."""
-    if len(circuit.nodes) > MOST_MENDED:
-        return None
-    ranks, cone = Ranks(network, change.rows), network.cone(network.number[node])
-    names = [name for at_roots in (True, False) for name in _hazards(circuit, change, at_roots) if network.number[name] in cone]
-    given = [statement for statement in script.read(words.script) if statement.keyword in script.ASSUMING]
-    left, before = dict.fromkeys(_stated(given)), [f"start{spelt({row.name: row.start for row in change.rows.values()})}"] + [statement.line for statement in given]
-    for one in candidates(circuit, ranks, dict.fromkeys(names)):
-        left.setdefault(one.key(), one)
-    left = [one for one in left.values() if one][:MOST_ORDERS - len(given)]
+class Mender:
+    """Looks for orders that make a node clean in a change. `hazard edges` is asked of each that is told."""
 
-    def is_mended(block):
-        lines = before + [one.line() for one in block] + [f"change{spelt(change.assigned)}", ""]
-        found, = words.program.edges_of_text(words.netlist, "\n".join(lines))
-        return found.kept and is_clean(found.rows[node])
+    def __init__(self, words, circuit, network, change, node):
+        self.words, self.node, self.network, self.calls = words, node, network, 0
+        self.ranks, cone = Ranks(network, change.rows), network.cone(network.number[node])
+        self.names = [name for at_roots in (True, False) for name in _hazards(circuit, change, at_roots) if network.number[name] in cone]
+        given = [statement for statement in script.read(words.script) if statement.keyword in script.ASSUMING]
+        self.stated, self.rooms = _stated(given), (MOST_ORDERS - len(given), MOST_IDEALS - len(given))
+        self.before = [f"start{spelt({row.name: row.start for row in change.rows.values()})}"] + script.assumptions_of(given)
+        self.after, self.circuit = f"change{spelt(change.assigned)}", circuit
 
-    left = left if left and is_mended(left) else []
-    while len(left) > 1:
-        halves = left[:len(left) // 2], left[len(left) // 2:]
-        left = next((half for half in halves if is_mended(half)), [])
-    return left[0] if left else None
+    def found(self):
+        """Assumptions of which each alone is enough: all orders of one gate that are; or, in a list of one list, some that are enough together,
+        and none of which can go. An empty list if none are found. What may well be so is looked for first."""
+        orders = self._candidates(False)
+        for block in (orders, orders + self._candidates(True)):
+            if block and self._mends(block):
+                least = self._least(block, [])
+                if len(least) > 1:
+                    return [least] if self._mends(least, True) else []
+                return [least] + self._alone(self.network.gate[least[0].wires[0]], least)
+        roots = dict.fromkeys(map(self.network.number.get, self.names))
+        return next(filter(None, (self._alone(gate, []) for gate in list(roots)[:MOST_OTHERS])), [])
+
+    def _candidates(self, is_ideal):
+        found = {}
+        for one in candidates(self.circuit, self.ranks, dict.fromkeys(self.names), is_ideal):
+            if one.key() not in self.stated:
+                found.setdefault(one.key(), one)
+        return list(found.values())[:max(0, self.rooms[is_ideal])]
+
+    def _alone(self, gate, known):
+        """The orders of two wires of a gate that are enough alone, besides those that are known: of many wires the first are tried. The first
+        wire of each is sure to move, or else `hazard edges` uses no order."""
+        names, wires = self.network.names, [wire for wire in self.network.wires(gate) if wire in self.ranks.round]
+        pairs = [(first, second) for first in wires for second in wires if first != second and self.ranks.must_leave(first)]
+        made = (Assumption(names[first], names[second], self.ranks, (first, second), ()) for first, second in pairs[:MOST_OTHERS])
+        keys = self.stated.union(one.key() for one in known)
+        return [[one] for one in made if one.key() not in keys and self._mends([one])]
+
+    def _mends(self, block, is_sure=False):
+        """Whether the node is clean under some assumptions. After many calls that is no longer asked, unless it has to be sure."""
+        self.calls += 1
+        if self.calls > MOST_ASKED and not is_sure:
+            return False
+        text = "\n".join([*self.before, *(one.line() for one in block), self.after, ""])
+        change, = self.words.program.edges_of_text(self.words.netlist, text)
+        return change.kept and is_clean(change.rows[self.node])
+
+    def _least(self, block, rest):
+        """Those of a block which are needed besides the rest: with all of it the node is clean, with the rest alone it is not."""
+        if len(block) == 1:
+            return block
+        one, other = block[:len(block) // 2], block[len(block) // 2:]
+        for half in (one, other):
+            if self._mends(rest + half):
+                return self._least(half, rest)
+        found = self._least(one, rest + other)
+        return found + self._least(other, rest + found)
 
 
 def _stated(statements):

@@ -3,6 +3,8 @@
 A comment begins with its marks: `#expect ..`, `#clock ..`, `#edge ..`, without a blank behind the `#`. The first other `#` begins a
 remark, which goes on to the end of the line. What looks like a mark and is none is a fault, so that nothing is left out unseen.
 """
+import difflib
+import functools
 import os
 import re
 from typing import Dict, List, NamedTuple, Optional
@@ -17,6 +19,9 @@ MARKS = ("expect", "clock", "edge")
 # What a mark `#edge` says of a change that is not the first one of its edge.
 GOES_ON = "goes on"
 _LIKE_A_MARK = re.compile(r"\s*expects?\b|expect|clock|edge", re.I)
+# How like a mark a word is that was meant for it: alone, or with what follows such a mark behind it.
+_NEARLY, _ROUGHLY = 0.75, 0.6
+_OF_AN_EDGE = re.compile(r"#(\s*)([^\s#=]+)(?:\s+([^\s=]+)(?:=[01])?)?\s*$")
 
 
 class Mark(NamedTuple):
@@ -72,7 +77,7 @@ def _comment(comment):
         word, *rest = piece.split(None, 1) if not piece[:1].isspace() else [""]
         if word in MARKS and not remarks:
             marks.append(Mark(word, rest[0].strip() if rest else ""))
-        elif _LIKE_A_MARK.match(piece):
+        elif _LIKE_A_MARK.match(piece) or word and is_like(word, "expect", is_alone=True):
             faults.append(_not_a_mark(piece.strip(), word))
         else:
             remarks.append("#" + piece.rstrip())
@@ -83,8 +88,24 @@ def _not_a_mark(piece, word):
     """Why a piece of a comment is no mark, though it looks like one."""
     if word in MARKS:
         return f"`#{word}` stands behind a remark, and so it is not read: write it in front"
-    meant = next(mark for mark in MARKS if piece.lower().startswith(mark))
+    meant = next((mark for mark in MARKS if piece.lower().startswith(mark)), "expect")
     return f"`#{word or ' ' + piece.split()[0]}` is read as a remark: write `#{meant}`, without a blank"
+
+
+@functools.lru_cache(maxsize=10_000)
+def is_like(word, mark, is_alone=False):
+    """Whether a word of a remark may have been meant for a mark; `is_alone`: nothing else says so."""
+    return difflib.SequenceMatcher(None, word.strip(".:;!?").lower(), mark, False).ratio() >= (_NEARLY if is_alone else _ROUGHLY)
+
+
+def edge_in_remark(statement, names):
+    """Why a line that has nothing but a remark does not make an edge of one of some inputs, though it reads like one; else None."""
+    found = _OF_AN_EDGE.match(statement.remark) if not statement.keyword and not statement.marks else None
+    if not found or not (found[3] in names if found[3] else not found[1]):
+        return None
+    if found[2].lower() != "clock" and (found[1] or not is_like(found[2], "clock", is_alone=True)):
+        return None
+    return f"`#{found[1]}{found[2]}` is read as a remark: write `#clock`, without a blank"
 
 
 def fault_of(path, number, what, status):
@@ -96,9 +117,13 @@ def must_have_no_edges(path):
     """Fails if a script, which `hazard` has accepted, has edges `#clock ..`: for `hazard` they are comments, so nothing would happen.
     Answers the statements."""
     statements = list(read(path))
+    names = next((statement.values for statement in statements if statement.keyword == "start"), {})
     for statement in statements:
         if statement.is_edge():
             raise fault_of(path, statement.number, "the edge is not written out; call `hazard-look clock` first", WRONG_WORDS)
+        unread = edge_in_remark(statement, names)
+        if unread:
+            raise fault_of(path, statement.number, unread, WRONG_WORDS)
     return statements
 
 
@@ -122,6 +147,11 @@ def without_repeats(path):
     return "\n".join(rows)
 
 
+def assumptions_of(statements):
+    """What a script assumes of delays, in its order, each as its line without a comment."""
+    return [f"{statement.keyword} {' '.join(statement.assumed)}" for statement in statements if statement.keyword in ASSUMING]
+
+
 def edges_of(statements):
     """The edges of a script that `hazard-look clock` wrote out: the number of the first change of each by that of its last one."""
     found, first, number = {}, None, 0
@@ -140,11 +170,12 @@ def edges_of(statements):
 
 
 def begins_of(statements):
-    """The numbers of the changes that begin at a start."""
-    found, number, is_begun = set(), 1, False
+    """The numbers of the changes that begin at a start, in order, each with the number of the last change before the next start."""
+    found, number, is_begun = {}, 1, False
     for statement in statements:
         if statement.keyword == "change":
-            found.update([number] if is_begun else [])
+            begin = number if is_begun else begin
+            found[begin] = number
             number += 1
         if statement.keyword in ("start", "change"):
             is_begun = statement.keyword == "start"

@@ -4,7 +4,7 @@ import json
 from . import clock, script
 from .circuit import load, no_node
 from .errors import DOES_NOT_HOLD, DONE, WRONG_WORDS, Failure, say
-from .moves import Moves, is_clean, kind_of
+from .moves import Across, is_clean, kind_of
 
 # How many nodes a line names, and of how many nodes a change has a line.
 MOST_NAMED = 8
@@ -77,14 +77,14 @@ class _Teller:
     def __init__(self, words, circuit, statements):
         self.words, self.circuit = words, circuit
         self.line_of, self.first_of = script.lines_of_changes(statements), script.edges_of(statements)
-        self.firsts = set(self.first_of.values())
+        self.across = Across(circuit, self.first_of)
         changes = [statement for statement in statements if statement.keyword == "change"]
         self.begins = script.begins_of(statements)
         # of each plain change, which is none of an edge that is written out, what the next one assigns
         self.following = {number: after.values if after and number + 1 not in self.begins else {}
                           for number, (one, after) in enumerate(zip(changes, changes[1:] + [None]), 1) if not one.texts("edge")}
         self.chosen = _chosen(words, circuit)
-        self.moves, self.stopped, self.told, self.data = None, [], 0, []
+        self.stopped, self.told, self.data = [], 0, []
 
     def change(self, change):
         """The lines of a change, and then of the edge that ends with it."""
@@ -93,7 +93,7 @@ class _Teller:
             return []
         finding = Finding(self.circuit, change, self.chosen if self.words.roots else None)
         told = [row for row in finding.roots + ([] if self.words.roots else finding.echoes) if row.name in self.chosen]
-        pulses = self._pulses(change)
+        pulses = [(name, numbers) for name, numbers in self.across.pulses(change) if name in self.chosen]
         for line in clock.left_out(self.circuit, change, self.following[change.number]) if change.number in self.following else ():
             say(f"hazard-look: {self.words.script}:{self.line_of[change.number]}: {line}")
         self.told += len(told) + len(pulses) + (not change.kept)
@@ -128,18 +128,6 @@ class _Teller:
         which = f"{first}" if first == last else f"{first} to {last}"
         what = f"not analysed, {stopped['node']} did not settle in change {first - 1}"
         return f"{self.words.script}:{self.line_of[first]}: changes {which}: {what}" if self.words.fail else f"{which}: {what}"
-
-    def _pulses(self, change):
-        """The nodes that pulse across the edge that ends with a change, with the numbers of the changes in which they move."""
-        if change.number in self.firsts:
-            self.moves = Moves(self.circuit)
-        if self.moves:
-            self.moves.add(change)
-        if self.moves is None or change.number not in self.first_of:
-            return []
-        found = [(name, numbers) for name, numbers in self.moves.pulses() if name in self.chosen]
-        self.moves = None
-        return found
 
     def _lines(self, change, told, finding):
         """The line of a change, and those of its nodes: of many nodes only of roots, unless all are asked for."""

@@ -1,4 +1,5 @@
 """The job `table`: the flow table of a circuit, with the states that bursts reach by rows and the bursts by columns."""
+from collections import Counter
 from typing import Dict, NamedTuple
 
 from . import graph, script, start
@@ -7,11 +8,12 @@ from .errors import DOES_NOT_HOLD, DONE
 from .exploration import MORE, Totals
 from .lines import spelt
 from .program import file_of
-from .summary import MOST_LINES
+from .summary import MOST_LINES, NOT_KEPT
 
 # Of more states the table has the first ones, unless all are asked for; and a row names no more nodes.
 MOST_ROWS, MOST_LABELLED = 200, 16
 LEGEND = "N: to state N, N!: with a hazard, (N): nothing changes, ?: unsettled, -: some input of the burst would not change"
+UNDER = "[K]: of runs that keep assumption K of these"
 
 
 class Burst(NamedTuple):
@@ -34,9 +36,10 @@ def _written(words, out, found):
     """Writes an exploration, and answers the status."""
     statements = script.must_have_no_edges(words.script)
     circuit = load(words.netlist)
+    assumed = script.assumptions_of(statements)
     if words.page:
-        return graph.run(words, out, circuit, found)
-    teller = _Teller(words, circuit, _bursts(statements, circuit))
+        return graph.run(words, out, circuit, found, assumed)
+    teller = _Teller(words, circuit, _bursts(statements, circuit), assumed)
     for row in found.rows:
         for line in teller.end(row) if isinstance(row, Totals) else teller.state(row):
             out.write(line + "\n")
@@ -55,9 +58,9 @@ def _bursts(statements, circuit):
 class _Teller:
     """Makes the rows of the table, and what is told of changes that are not clean."""
 
-    def __init__(self, words, circuit, bursts):
+    def __init__(self, words, circuit, bursts, assumed):
         self.words, self.bursts, self.listed = words, bursts, start.nodes_of(circuit)
-        self.labelled = labelled(circuit)
+        self.labelled, self.assumed, self.uses = labelled(circuit), assumed, Counter()
         self.rows, self.left_out, self.findings, self.told = [["state"] + [burst.title() for burst in bursts]], 0, [], 0
 
     def state(self, state):
@@ -65,16 +68,28 @@ class _Teller:
         made = list(_by_bursts(state.transitions, self.bursts))
         found = [(burst, transition) for burst, transition in made if transition and not transition.is_clean()]
         self.told += len(found)
+        self.uses.update(number for _, transition in made if transition for number in transition.used)
         if self.words.fail:
-            return [f"{self.words.script}:{burst.line}: state {label(state, self.labelled)}, {burst.title()}: {said(transition)}" for burst, transition in found]
+            return [f"{self.words.script}:{burst.line}: state {label(state, self.labelled)}, {burst.title()}: {said(transition)}{self._under(transition)}" for burst, transition in found]
         if self.words.all or state.number <= MOST_ROWS:
             self.rows.append([label(state, self.labelled)] + [_cell(state, burst, transition) for burst, transition in made])
         else:
             self.left_out += 1
-        if self.words.all or len(self.findings) < 3 * MOST_LINES:
+        if self.words.all or len(self.findings) < MOST_LINES:
             for burst, transition in found:
-                self.findings += [f"state {state.number}, {burst.title()}: {said(transition)}"] + [f"  {line}" for line in script_of(self.listed, state, [burst.values])]
+                lines = script_of(self.listed, state, [burst.values], self.assumed)
+                self.findings.append([f"state {state.number}, {burst.title()}: {said(transition)}"] + [f"  {line}" for line in lines])
         return []
+
+    def _under(self, transition):
+        """What a change assumes, behind what is told of it."""
+        return ", under " + ", ".join(self.assumed[number - 1] for number in transition.used) if transition.used else ""
+
+    def _used(self):
+        """The lines of the assumptions, with the changes that use each."""
+        counts = [self.uses[number] for number in range(1, len(self.assumed) + 1)]
+        lines = [f"  {number} {line}: in {count or 'no'} change{'' if count == 1 else 's'}" for number, (line, count) in enumerate(zip(self.assumed, counts), 1)]
+        return [UNDER] + lines if lines else []
 
     def end(self, totals):
         """The lines behind the last state."""
@@ -83,11 +98,11 @@ class _Teller:
         if self.words.fail:
             part = [] if totals.is_whole else [f"{self.words.script}:{self.bursts[0].line}: not all states were found, so there may be more"]
             return part + [f"{self.told} finding{'' if self.told == 1 else 's'}"]
-        lines = _aligned(self.rows) + [LEGEND]
+        lines = _aligned(self.rows) + [LEGEND] + self._used()
         lines += [f".. and {self.left_out} states more, which --all has"] if self.left_out else []
-        shown = len(self.findings) if self.words.all else 3 * MOST_LINES
-        rest = self.told - min(shown, len(self.findings)) // 3 - (not totals.is_whole)
-        lines += [""] * bool(self.findings) + self.findings[:shown] + ([f".. and {rest} more, which --all has"] if rest else [])
+        shown = self.findings if self.words.all else self.findings[:MOST_LINES]
+        rest = self.told - len(shown) - (not totals.is_whole)
+        lines += [""] * bool(shown) + [line for finding in shown for line in finding] + ([f".. and {rest} more, which --all has"] if rest else [])
         return lines + ["", counted(totals)]
 
 
@@ -116,9 +131,10 @@ def _cell(state, burst, transition):
     if transition is None:
         is_stable = all(state.values[name] == bit for name, bit in burst.values.items())
         return f"({state.number})" if is_stable else "-"
+    under = f"[{','.join(map(str, transition.used))}]" if transition.used else ""
     if transition.unsettled:
-        return "?"
-    return f"{transition.target or MORE}{'' if transition.is_clean() else '!'}"
+        return f"?{under}"
+    return f"{transition.target or MORE}{'' if transition.is_clean() else '!'}{under}"
 
 
 def _aligned(rows):
@@ -130,13 +146,15 @@ def _aligned(rows):
 def said(transition):
     """What is told of a change that is not clean."""
     if transition.unsettled:
-        return f"{transition.unsettled} is unsettled"
-    return ", ".join(f"{count} node{'' if count == 1 else 's'} {kind}" for kind, count in transition.hazards().items())
+        told = [f"{transition.unsettled} is unsettled"]
+    else:
+        told = [f"{count} node{'' if count == 1 else 's'} {kind}" for kind, count in transition.hazards().items()]
+    return ", ".join(told + ([] if transition.kept else [NOT_KEPT]))
 
 
-def script_of(listed, state, bursts):
-    """The lines of a script that starts in a state and makes bursts."""
-    return ["start" + spelt({name: state.values[name] for name in listed})] + [f"change{spelt(values)}" for values in bursts]
+def script_of(listed, state, bursts, assumed):
+    """The lines of a script that starts in a state, with assumptions, and makes bursts."""
+    return ["start" + spelt({name: state.values[name] for name in listed})] + assumed + [f"change{spelt(values)}" for values in bursts]
 
 
 def counted(totals):

@@ -9,7 +9,7 @@ from .history import History
 from .lines import spelt
 from .network import Network
 from .program import file_of
-from .proposal import mending
+from .proposal import MOST_MENDED, Mender
 from .runtext import Run
 from .script import NO_CHANGE, must_be_written_out
 from .search import Searcher
@@ -50,9 +50,17 @@ def run(words, out):
     for line in cover.told(circuit, change, row):
         out.write(f"  {line}\n")
     searcher, shown = explained(words, Network(circuit, is_sorted=True), change, row)
-    if not shown:
+    if shown:
+        _write_shown(words, out, searcher, change, row, shown)
+    else:
         out.write(f"  no run that keeps the orders was found in which {row.name} moves so, which is no proof that there is none\n")
-        return DONE
+    if not is_clean(row) and change.kept:
+        out.write("\n" + "".join(f"{line}\n" for line in _orders(words, circuit, change, row.name)))
+    return DONE
+
+
+def _write_shown(words, out, searcher, change, row, shown):
+    """Writes the runs of a node, once `hazard` has accepted them, and keeps them if that is wanted."""
     text = searcher.text.of([Run(searcher.named(one.lead), _named_cycle(searcher, one)) for one in shown])
     words.program.must_accept(words.netlist, text)
     # before the waveforms, of which a reader may want the first lines alone
@@ -62,10 +70,18 @@ def run(words, out):
         _write(out, searcher, row.name, one)
     if row.kind == "unsettled":
         _write_in_front(out, searcher.network, change.rows, row.name)
-        lacking = mending(words, circuit, searcher.network, change, row.name)
-        if lacking:
-            out.write(f"\n{lacking.line()} alone makes {row.name} clean: {lacking.told()}\n")
-    return DONE
+
+
+def _orders(words, circuit, change, node):
+    """The lines of a script under which a node is clean in a change, each with its sentence."""
+    if len(circuit.nodes) > MOST_MENDED:
+        return [f"no order that makes {node} clean was looked for, as the circuit is large; `hazard-look orders` looks for those of all nodes"]
+    found = Mender(words, circuit, Network(circuit, is_sorted=True), change, node).found()
+    if not found:
+        return [f"no order of wires was found that makes {node} clean"]
+    if len(found[0]) > 1:
+        return [f"together these make {node} clean, and none of them can go:"] + [f"  {one.line()}: {one.told()}" for one in found[0]]
+    return [f"{one.line()} alone makes {node} clean: {one.told()}" for one, in found]
 
 
 def change_of(words, report):

@@ -9,7 +9,7 @@ from . import VERSION, clock, expect, from_verilog, from_yosys, orders, page, pr
 from .errors import INTERRUPTED, OUTPUT_FAILED, OWN_FAULT, WRONG_WORDS, Failure, must_be_plain, say
 
 ABOUT = """The companion of `hazard`: it shows what a circuit does, asks why, and keeps it as a test. Each value and class
-that it prints is read from a report of `hazard analyse`; each run that it shows stands in a report, or `hazard replay`
+that it prints is read from a report of `hazard edges`; each run that it shows stands in a report, or `hazard replay`
 has accepted it."""
 STATUSES = """status: 0 done; 1 an expectation does not hold or could not be checked (expect), there is a hazard (summary, table
 or orders, if it is to fail), or a change does not settle (clock); 2 wrong words, or an expectation that can't be read, or none; 3 to 10 as `hazard`

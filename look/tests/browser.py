@@ -6,6 +6,7 @@ import shutil
 import subprocess
 
 import exploring
+import looking
 import week
 
 BROWSERS = ("chromium", "chromium-browser", "google-chrome")
@@ -54,18 +55,22 @@ def rows(folder, call, write, example, hazard):
     yield from _expected(opened, call, write, folder)
     yield from _other_root(opened, call, write, folder)
     yield from _clean(opened, call, write, folder)
+    yield from _across(opened, call, write, folder)
     yield from _large(opened, call, write, folder)
+    yield from looking.rows(opened, call, write, folder)
+    yield from _lists(opened, call, write, folder)
+    yield from _played(opened, call, write, folder)
     if exploring.is_known(hazard, example):
         yield from _states(opened, call, write, folder)
 
 
-def _opened(folder, browser, write, page, actions, address="", size="1400,900"):
-    """What is told by some actions on a page, and the errors of its program."""
-    before, after = page.split("</style>", 1)
-    script = f"<script>{ACTIONS}</script>"
-    after = after.replace("</body>", f"<script>{actions}{REPORT}</script></body>")
-    path = write(folder, "page.html", f"{before}</style>{script}{after}")
-    options = ["--headless", "--no-sandbox", "--disable-gpu", "--dump-dom", f"--user-data-dir={folder}/browser", f"--window-size={size}"]
+def _opened(folder, browser, write, page, actions, address="", size="1400,900", scheme="light", after=0):
+    """What is told by some actions on a page, and the errors of its program; `after`: so many milliseconds later."""
+    head, body = page.split("</style>", 1)
+    script, report = f"<script>{ACTIONS}</script>", f"setTimeout(() => {{ told.later = text('step'); {REPORT} }}, {after});" if after else REPORT
+    body = body.replace("</body>", f"<script>{actions}{report}</script></body>")
+    path = write(folder, "page.html", f"{head}</style>{script}{body}")
+    options = ["--headless", "--no-sandbox", "--disable-gpu", "--dump-dom", f"--user-data-dir={folder}/browser", f"--window-size={size}", f"--blink-settings=preferredColorScheme={int(scheme == 'light')}"] + [f"--virtual-time-budget={3 * after}"] * bool(after)
     done = subprocess.run([browser] + options + [f"file://{path}{address}"],
                           stdout=subprocess.PIPE, stderr=subprocess.DEVNULL, timeout=900, check=False)
     found = re.search(r'<pre id="told">(.*?)</pre>', done.stdout.decode(), re.S)
@@ -171,6 +176,15 @@ def _clean(opened, call, write, folder):
     yield "a long list", (told["opened"]["changes"], told["opened"]["nav"][:32], told["all"]["changes"]), (201, "changes 1 to 200 of 300: show al", 300)
 
 
+def _across(opened, call, write, folder):
+    """A node that moves once in both halves of a clock edge is no green one."""
+    bench = write(folder, "k.bench", week.RING)
+    script = write(folder, "k.txt", call(["clock", bench, write(folder, "k.clk", "start ck=0 t0=1 t1=0 t2=0\n#clock ck\n#clock ck=0\n")])[1])
+    told, errors = opened(call(["page", bench, script])[1], 'tell("opened"); told.look = document.querySelector("nav .chosen").className; told.said = document.querySelector("aside .failed").textContent; press("hidden"); tell("hidden");')
+    yield "a pulse across an edge", (errors, told["opened"]["nav"], told["opened"]["chosen"], told["look"], told["said"], told["hidden"]["changes"]), (
+        [], "1 ck=1clean2 t0=0 t1=11 pulses across the edge3 ck=0clean", "g0", "pulses chosen", "it pulses across the edge: it moves once in each of the changes 1 and 2", 1)
+
+
 def _large(opened, call, write, folder):
     """A chain of 20,000 gates: the cone of a node is shown, and a node is found by its name; of 100 gates all are drawn if that is wanted."""
     count = 20_000
@@ -189,6 +203,32 @@ def _large(opened, call, write, folder):
     page = call(["page", write(folder, "d.bench", chain(100)), write(folder, "d.txt", "start a=0 c=1\nchange a=1\n")])[1]
     told, errors = opened(page, 'tell("opened"); press("all"); tell("whole"); press("whole"); tell("fitted");')
     yield "a whole circuit and its map", (errors, told["opened"]["boxes"], told["opened"]["map"], told["whole"]["boxes"], told["whole"]["map"], told["fitted"]["map"]), ([], 60, 60, 102, 102, 0)
+
+
+def _lists(opened, call, write, folder):
+    """Of hazards that only flip-flops read the page does not speak first; a list of more than 200 hazards goes on; a node and a change have their places."""
+    bench = write(folder, "f.bench", "INPUT(a)\nn = NOT(a)\nd = AND(a, n)\nq = DFF(d)\nz = AND(n, a)\ny = BUFF(z)\n")
+    script = write(folder, "f.txt", "start a=0 q=0\n# up\nchange a=1\n")
+    told, errors = opened(call(["page", bench, script])[1], 'tell("opened"); told.row = text("row"); told.title = document.querySelector("nav span").title;')
+    yield "what only flip-flops read comes last", (errors, told["opened"]["chosen"]), ([], "z")
+    yield "places of a node and of a change", (f"{bench}:5" in told["row"], told["title"]), (True, f"{script}:3: 1 a=1")
+    bench = write(folder, "l.bench", "INPUT(a)\nn = NOT(a)\n" + "".join(f"h{at} = AND(a, n)\n" for at in range(300)))
+    told, errors = opened(call(["page", bench, write(folder, "l.txt", "start a=0\nchange a=1\n")])[1], """
+        const listed = () => [...document.querySelectorAll("#row .node")].filter(one => one.textContent.startsWith("h")).length;
+        told.listed = [listed()]; told.more = document.querySelector("#row .more").textContent; document.querySelector("#row .more").click(); told.listed.push(listed());""")
+    yield "a long list of hazards", (errors, told["listed"], told["more"]), ([], [200, 300], "show all 300")
+
+
+def _played(opened, call, write, folder):
+    """A run that is played goes on by itself, at the speed that is chosen, and stops at its end."""
+    bench = write(folder, "y.bench", "INPUT(a)\ng0 = NOT(a)\n" + "".join(f"g{at} = NOT(g{at - 1})\n" for at in range(1, 200)))
+    page = call(["page", bench, write(folder, "y.txt", "start a=0\nchange a=1\n")])[1]
+    choose = 'const speed = document.getElementById("speed"); speed.value = "{}"; speed.dispatchEvent(new Event("change")); key("Home"); press("play");'
+    steps = {}
+    for speed in (2, 50):
+        told, errors = opened(page, choose.format(speed), after=2000)
+        steps[speed] = int(told["later"].split()[1])
+        yield f"played, {speed} a second", (errors, speed <= steps[speed] <= 2 * speed), ([], True)
 
 
 def _states(opened, call, write, folder):

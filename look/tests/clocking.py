@@ -14,7 +14,8 @@ def rows(folder, run, write):
         ("change ck=1\n#clock ck=0", f"change ck=1\nchange ck=0{down}change a=1 b=1{on}\n"),
         ("change d=0\n#clock ck", f"change d=0\nchange ck=1{edge}change a=0 e=0{on}\n"),
         ("change ck=1\n#clock ck", f"change ck=1\nchange ck=0\nchange ck=1{edge}change a=1 c=0 e=1{on}\n"),
-        ("change r=1  # held\n# no edge", "change r=1  # held\nchange e=0  # reset\n# no edge\n"),
+        ("change r=1  # held\n# no edge", "change r=1  #edge r=1  # held\nchange e=0  #edge goes on  # reset\n# no edge\n"),
+        ("change r=1 d=0#expect y clean #expect edge: y clean, e single", "change r=1 d=0  #edge r=1 d=0  #expect y clean\nchange e=0  #edge goes on  #expect y clean  #expect edge: y clean, e single  # reset\n"),
         ("#clock", "change a=1 b=1 c=0 e=1\n"),
     ]
     for text, wanted in cases:

@@ -4,6 +4,7 @@ import pty
 import re
 import shutil
 import subprocess
+import sys
 
 CHANGES = 10_000
 # a flip-flop whose gates stand on some lines of a source text, in a file of this name
@@ -24,6 +25,34 @@ def costs(folder, run, write, program):
         with open(os.path.join(folder, "calls"), encoding="ascii") as file:
             called = file.read().count("call")
         yield f"{job} of {CHANGES} changes", (status, called <= calls), (0, True)
+
+
+def of_lines(folder, call, write):
+    """Rows of name, found, wanted: the work of a job grows no faster than the changes, as counted by the functions that it calls."""
+    bench, clocked = write(folder, "g.bench", "INPUT(a)\nz = NOT(a)\n"), write(folder, "h.bench", "INPUT(ck)\nOUTPUT(z)\nd = NOT(q)\nq = DFF(d)\nz = AND(q, ck)\n")
+    told = "start a=0 #expect settled, z clean\n{}#expect edges z <= 9 in 2..8\n"
+    texts = {"expect": lambda count: told.format("".join(f"change a={(at + 1) % 2} #expect z single\n" for at in range(count))),
+             "starts": lambda count: "".join(f"start a={at % 2} #expect z single\nchange a={(at + 1) % 2} #expect edges z <= 1 in {at + 1}\n" for at in range(count)),
+             "clock": lambda count: "start ck=0 q=0\n" + "".join(f"#clock ck={(at + 1) % 2} #expect z clean\n" for at in range(count))}
+    for name, job in (("expect", "expect"), ("starts", "expect"), ("expect", "summary"), ("expect", "page"), ("clock", "clock")):
+        counts = [_calls(call, [job, clocked if name == "clock" else bench, write(folder, "g.txt", texts[name](count))]) for count in ((60, 240) if name == "starts" else (300, 1200))]
+        yield f"{job} of {name} is linear", (counts[0][1], counts[1][1], counts[1][0] < 4.5 * counts[0][0]), (0, 0, True)
+
+
+def _calls(call, words):
+    """How many functions a job calls, and its status."""
+    count = 0
+
+    def note(_, event, __):
+        nonlocal count
+        count += event in ("call", "c_call")
+
+    sys.setprofile(note)
+    try:
+        status, _ = call(words)
+    finally:
+        sys.setprofile(None)
+    return count, status
 
 
 def of_why(folder, run, write):

@@ -4,6 +4,8 @@ import os
 import re
 import xml.etree.ElementTree as tree
 
+from hazard_look import moves, report
+
 ROOT = os.path.dirname(os.path.dirname(os.path.dirname(os.path.abspath(__file__))))
 GATE = "INPUT(ck)\nINPUT(en)\ngck = AND(ck, en)\n"
 # a clock edge at which z pulses by itself, and one at which it is cut in two
@@ -18,6 +20,8 @@ def rows(folder, run, write, example, expected):
     yield from _judged(folder, gate, mutex, asked, expected)
     yield from _unread(gate, asked)
     yield from _overridden(told)
+    yield from _behind_starts(told)
+    yield from _in_several()
     yield from _not_analysed(mutex, asked)
     yield from _edges(folder, run, write)
     yield from _as_data(folder, gate, run, write)
@@ -49,15 +53,21 @@ def _unread(gate, asked):
              ("#expect gck steady single", "is no expectation"), ("#expect gck steady as ever", "a remark begins with another #"), ("#expects gck steady", "`#expects`"),
              ("#Expect gck steady", "`#Expect`"), ("# expect gck steady", "`# expect` is read as a remark"), ("#expect ck steady or single  # expect gck clean", "`# expect`"),
              ("# expects gck steady", "`# expects`"), ("# a remark #expect gck clean", "stands behind a remark"), ("# here we expect gck clean", "`expect gck clean` stands in a remark"),
-             ("# expected: never gck=1", "`expect never gck=1` stands in a remark"), ("#expect edges gck < 2", "`edges NODE <= N`"), ("#expect edges gck <= x", "`edges NODE <= N`"),
+             ("# expected: never gck=1", "`expected: never gck=1` stands in a remark"),
+             ("#exepct gck clean", "`#exepct` is read as a remark: write `#expect`"), ("#xpect gck stedy", "`#xpect`"), ("# expectation: gck clean", "`expectation: gck clean` stands in a remark"),
+             ("# see exect gck clean, ck clean", "`exect gck clean` stands in a remark"), ("#\u200bexpect gck clean", "is read as a remark"), ("#\u00a0expect gck clean", "is read as a remark"),
+             ("#expect never gck=1 gck=0", "after `never` stands each node once"), ("#expect gck clean\n#clok ck", "`#clok` is read as a remark: write `#clock`"),
+             ("#expect gck clean\n#clk", "`#clk` is read"), ("#expect gck clean\n# clock ck=0", "`# clock` is read as a remark"), ("#expect gck clean\nstart ck=0 en=0 #expect gck clean", "no change stands behind this start"), ("#expect edges gck < 2", "`edges NODE <= N`"), ("#expect edges gck <= x", "`edges NODE <= N`"),
              ("#expect edges gock <= 1", "no node is named gock"), ("#expect gck clean in 1..2", "the script has the changes 1 to 1"), ("#expect gck clean in 0", "the script has the changes"),
-             ("#expect edge: gck clean", "no edge ends here"), ("#expect settled,", "`` is no expectation")]
+             ("#expect edge: gck clean", "no edge ends here"), ("#expect settled,", "`` is no expectation"), ("#expect gck clean and ck clean", "is no expectation"), ("#expect gck clean; ck clean", "is no expectation")]
     for text, part in wrong:
         status, out, errors = asked(gate, f"start ck=0 en=0\nchange ck=1 {text}\n")
-        yield f"unread: {text}", (status, out, ":2: " in errors, part in errors, errors.startswith("hazard-look: ")), (2, "", True, True, True)
+        yield f"unread: {text}", (status, out, f":{2 + text.count(chr(10))}: " in errors, part in errors, errors.startswith("hazard-look: ")), (2, "", True, True, True)
     status, out, errors = asked(gate, "start ck=0 en=0 # expect x\nchange ck=1 #expects y\n")
     yield "two faults", (status, [line.split(": ")[1].split(":")[-1] for line in errors.splitlines()]), (2, ["1", "2"])
-    for text in ("", "# we expect little of gck", "# that is not expected"):
+    status, out, errors = asked(gate, "start ck=0 en=0 #expect gck steady #expect edge: gck clean\nchange ck=1\n")
+    yield "an edge of a script without one", (status, out, errors), (2, "", f"hazard-look: {errors.split()[1]} `edge: gck clean`: no edge follows; it is expected of edges, which `hazard-look clock` writes\n")
+    for text in ("", "# we expect little of gck", "# that is not expected", "# clock gating", "#comment", "# block ck"):
         status, out, errors = asked(gate, f"start ck=0 en=0\nchange ck=1 {text}\n")
         yield f"no expectation: {text}", (status, out, errors), (2, "", "hazard-look: no comment of the script begins with `#expect`, so nothing is checked\n")
 
@@ -69,6 +79,29 @@ def _overridden(told):
     for text, status in (("edges gck <= 2 in 1..2", 0), ("edges gck <= 1 in 1..2", 1), ("gck static in 1..2", 0), ("gck clean in 1..2", 1), ("gck single in 2..3", 0), ("edges gck <= 0 in 3", 0),
                          ("edges gck <= 1 in 1, edges gck <= 1 in 2", 0)):
         yield f"across changes: {text}", told(f"start ck=0 en=1\nchange ck=1\nchange ck=0\nchange en=0 #expect {text}\n")[0], status
+
+
+def _behind_starts(told):
+    """What stands behind a later start is expected of its changes, and goes before what is expected of all."""
+    start, up, down = "start ck=0 en=1", "change ck=1\n", "change ck=0\n"
+    cases = [(f"{start}\n{up}{start} #expect gck steady\n{up}", 1, ["3: change 2 ck=1: gck steady"]), (f"{start} #expect gck steady\n{up}{start} #expect gck single\n{up}{down}{start}\n{up}", 1, ["1: change 1", "1: change 4"]),
+             (f"{start}\n{up}{start}\n#expect gck single\n{up}{down}{start}\nchange en=0\n", 0, []), (f"{start}\n{up}{start}\n{up}#expect gck steady in 1, gck single in 2\n", 1, ["5: change 1 ck=1: gck steady in 1"]),
+             (f"{start} #expect gck single\n{up}{start} #expect gck clean\n{up}{down}#expect gck steady\n", 1, ["6: change 3"])]
+    for text, status, parts in cases:
+        found, out = told(text)
+        yield f"behind starts: {text!r}", (found, [part for part, line in zip(parts, out.splitlines()) if f":{part}" not in line], out.count("its class")), (status, [], len(parts))
+
+
+def _in_several():
+    """What several changes together are: a class that is not shown in them is not shown of all of them."""
+    kept, up, down = ("0", "0", 0, 2, "maybe-static"), ("0", "1", 1, 1, "single"), ("1", "0", 1, 1, "single")
+    cases = [((up, down), "static"), ((up, ("1", "1", 0, 2, "maybe-static")), "maybe-dynamic"), ((kept, kept), "maybe-static"), ((up, ("1", "1", 2, 2, "static")), "dynamic"),
+             ((kept, up, down, up), "dynamic"), ((up, ("1", "X", 1, None, "unsettled")), "unsettled"), ((up,), "single")]
+    for rows_, kind in cases:
+        found = moves.Moves(None)
+        for number, row in enumerate(rows_, 1):
+            found.add(report.Change(number, {}, {"z": report.Row("z", *row)}, [], None))
+        yield f"together {[row[4] for row in rows_]}", found.row("z").kind, kind
 
 
 def _not_analysed(mutex, asked):

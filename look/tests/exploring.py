@@ -1,4 +1,7 @@
 """Flow tables: `hazard explore` against the states that calls of `hazard edges` find, one change after the other; and the table."""
+import json
+import os
+import re
 from collections import Counter
 
 from hazard_look import exploration, graph, netlist, start, table
@@ -57,6 +60,24 @@ state 2 a=1 z=0
 2 to more a=0 single 1 static 1 dynamic 0 maybe-dynamic 2
 part states 2 changes 2 clean 1 hazards 1 unsettled 0
 """
+# an exploration of a script with an order and a wire without delay, as `hazard` writes it
+GATES = "INPUT(a)\nINPUT(b)\nOUTPUT(z)\nn = NOT(a)\nz = AND(a, n)\ny = AND(b, z)\n"
+ASSUMING = "start a=0 b=0\norder z(2) z(1) # n before a\nideal  y ( 1 )\nchange a=1\nchange a=0\nchange b=1\nchange b=0\n"
+UNDER = """netlist inputs 2 gates 3 wires 5 variables 10
+start a=0 b=0 n=1 z=0 y=0
+state 1 a=0 b=0 n=1 z=0 y=0
+1 to 2 a=1 single 2 static 0 dynamic 0 maybe-dynamic 0 maybe-static 0 used 1
+1 to 3 b=1 single 1 static 0 dynamic 0 maybe-dynamic 0 maybe-static 0
+state 2 a=1 b=0 n=0 z=0 y=0
+2 to 1 a=0 single 2 static 1 dynamic 0 maybe-dynamic 0 maybe-static 0 used 1
+2 to more b=1 single 1 static 0 dynamic 0 maybe-dynamic 0 maybe-static 0
+state 3 a=0 b=1 n=1 z=0 y=0
+3 to 4 a=1 single 2 static 0 dynamic 0 maybe-dynamic 0 maybe-static 1 used 1 2
+state 4 a=1 b=1 n=0 z=0 y=0
+4 unsettled a=0 z used 2
+4 to 3 b=0 single 1 static 0 dynamic 0 maybe-dynamic 0 maybe-static 0 used 1 2 not shown
+part states 4 changes 7 clean 3 hazards 3 unsettled 1
+"""
 
 
 def is_known(hazard, example):
@@ -72,6 +93,7 @@ def is_known(hazard, example):
 def rows(folder, run, write, hazard, example, circuits, model):
     """Rows of name, found, wanted."""
     yield from _read()
+    yield from _under(folder, run, write, hazard)
     if not is_known(hazard, example):
         return
     latch = write(folder, "l.bench", LATCH)
@@ -111,6 +133,42 @@ def _odd(folder, run, write, latch):
     lines = run(["table", wide, script], folder)[1].splitlines()
     yield "a wide table", (lines[1].endswith(" ..   2!    3!    4!    5!    6!"), lines[-3:]), (True, [".. and 68 more, which --all has", "", "32 states; 80 changes: 0 clean, 80 with hazards, 0 unsettled"])
     yield "all of a wide table", run(["table", "--all", wide, script], folder)[1].count("  change a"), 80
+
+
+def _under(folder, run, write, hazard):
+    """A table under assumptions: each entry says which ones it rests on, and what no run is known to keep is not clean."""
+    bench, script, canned = write(folder, "u.bench", GATES), write(folder, "u.txt", ASSUMING), write(folder, "canned", UNDER)
+    told = os.path.join(folder, "told")
+    fake = write(folder, "fake", f'#!/bin/sh\n[ "$1" = explore ] || exec "{hazard.path}" "$@"\ncat "$3" > "{told}"\ncat "{canned}"\n')
+    os.chmod(fake, 0o755)
+    scripts = lambda state, burst: f"  start {state}\n  order z(2) z(1)\n  ideal y(1)\n  change {burst}\n"
+    status, text, _ = run(["table", "--hazard", fake, bench, script], folder)
+    yield "a table under assumptions", (status, text), (0, 
+        "state          a=1      a=0    b=1   b=0\n1 a=0 b=0 z=0  2[1]     (1)    3     (1)\n2 a=1 b=0 z=0  (2)      1![1]  more  (2)\n"
+        "3 a=0 b=1 z=0  4![1,2]  (3)    (3)   -\n4 a=1 b=1 z=0  (4)      ?[2]   (4)   3![1,2]\n"
+        + f"{table.LEGEND}\n{table.UNDER}\n  1 order z(2) z(1): in 4 changes\n  2 ideal y(1): in 3 changes\n\n"
+        + f"state 2, a=0: 1 node static\n{scripts('a=1 b=0', 'a=0')}state 3, a=1: 1 node maybe-static\n{scripts('a=0 b=1', 'a=1')}state 4, a=0: z is unsettled\n{scripts('a=1 b=1', 'a=0')}"
+        + f"state 4, b=0: {table.NOT_KEPT}\n{scripts('a=1 b=1', 'b=0')}\nthe first 4 states, of more; 7 changes: 3 clean, 3 with hazards, 1 unsettled\n")
+    with open(told, encoding="utf-8") as file:
+        yield "the assumptions reach `hazard`", file.read(), ASSUMING
+    status, text, _ = run(["table", "--fail", "--hazard", fake, bench, script], folder)
+    yield "a table under assumptions that fails", (status, text.replace(script, "S").splitlines()), (1, [
+        "S:5: state 2 a=1 b=0 z=0, a=0: 1 node static, under order z(2) z(1)", "S:4: state 3 a=0 b=1 z=0, a=1: 1 node maybe-static, under order z(2) z(1), ideal y(1)",
+        "S:5: state 4 a=1 b=1 z=0, a=0: z is unsettled, under ideal y(1)", f"S:7: state 4 a=1 b=1 z=0, b=0: {table.NOT_KEPT}, under order z(2) z(1), ideal y(1)",
+        "S:4: not all states were found, so there may be more", "5 findings"])
+    status, text, errors = run(["table", "--page", "--hazard", fake, bench, script], folder)
+    found = json.loads(re.search(r"^const DATA = (.*);$", text, re.M)[1])["changes"] if status == 0 else errors
+    yield "a page under assumptions", [(one["title"], one.get("under", []), one["script"].count("ideal y(1)")) for one in found[:3]], [
+        ("1 to 2, a=1", ["under order z(2) z(1)"], 1), ("1 to 3, b=1", [], 1), ("2 to 1, a=0", ["under order z(2) z(1)"], 1)]
+    strange = UNDER.replace("used 1 2 not shown", "used 1 2 shown")
+    yield "strange words behind a change", _raised(strange), ValueError
+
+
+def _raised(text):
+    try:
+        return list(exploration.read(text.splitlines()).rows)
+    except ValueError as fault:
+        return type(fault)
 
 
 def _as_found(hazard, name, bench, script):

@@ -4,9 +4,13 @@ What `hazard` writes of a file by itself may stand before the line.
 """
 import functools
 import os
+import resource
 import signal
 import subprocess
 
+from hazard_look.program import find
+
+LOOK = os.path.dirname(os.path.dirname(os.path.abspath(__file__)))
 GATE = "INPUT(a)\ny = NOT(a)\n"
 # names that a shell, a page or a pattern could take for something else
 NAMES = ("</script><b>", '"q"', "'x'", "a\\b", "&amp;", "$_1_", "--x", "{{data}}", "*", "%d", "__proto__", "constructor")
@@ -21,6 +25,7 @@ def rows(folder, command, run, write):
     yield from _programs(folder, run, write, files)
     yield from _names(folder, run, write)
     yield from _outputs(folder, command, run, files)
+    yield from _no_room(folder, command, write)
     yield from _interrupted(folder, command, write)
 
 
@@ -59,9 +64,28 @@ def _programs(folder, run, write, files):
     made = {"killed": "#!/bin/sh\nkill -9 $$\n", "wrong": "#!/bin/sh\nexit 1\n", "strange": "no program\n", "early": "#!/bin/sh\necho netlist inputs 1 gates 1 wires 1 variables 3\necho start a=0 y=1\necho change 1 a=1\n"}
     for name, text in made.items():
         os.chmod(write(folder, name, text), 0o755)
+    yield from _cut(folder, run, write)
     for path, status, part in (("/bin/true", 127, "does not write a report"), ("/bin/echo", 127, "does not write a report"), ("./early", 127, "does not write a report"),
                                ("./killed", 137, "ended by signal 9"), ("./wrong", 70, "ended with status 1"), ("./strange", 127, "can't be started")):
         yield f"the program {path}", _ends(run(["summary", "--hazard", path] + files, folder), status, part), True
+
+
+def _cut(folder, run, write):
+    """A `hazard` whose text ends too early, or that is killed behind it or while it replays a run: no job takes the part for the whole."""
+    program = find(None, LOOK).path
+    for name, text in (("short", f"'{program}' \"$@\" | sed '/^change 2 /,$d; /^all /d'\n"), ("behind", f"'{program}' \"$@\" | sed '/^change 2 /,$d'\nkill -9 $$\n"),
+                       ("replayed", f"[ $1 = replay ] && kill -9 $$\nexec '{program}' \"$@\"\n")):
+        os.chmod(write(folder, name, f"#!/bin/sh\n{text}"), 0o755)
+    bench = write(folder, "cut.bench", "INPUT(a)\nn = NOT(a)\nz = AND(n, a)\n")
+    script = write(folder, "cut.txt", "start a=0 #expect n single\nchange a=1\nchange a=0 #expect z static\nchange a=1\n")
+    jobs = (["summary"], ["summary", "--fail"], ["summary", "--json"], ["expect"], ["expect", "--json"], ["clock"], ["orders"], ["page"], ["table"], ["table", "--fail"], ["table", "--page"])
+    for words in jobs:
+        for name, status, part in (("short", 70 if words[0] != "table" else 127, "ends before its end" if words[0] != "table" else "does not write a report"), ("behind", 137, "ended by signal 9")):
+            yield f"{name}: {words}", _ends(run(words + ["--hazard", f"./{name}", bench, script], folder), status, part), True
+    for words, more in (["why", ["z"]], ["page", []]):
+        yield f"replayed: {words}", _ends(run([words, "--hazard", "./replayed", bench, script] + more, folder), 137, "ended by signal 9"), True
+    write(folder, "never.txt", "start a=0\nchange a=1 #expect never z=1\n")
+    yield "replayed: expect", _ends(run(["expect", "--hazard", "./replayed", bench, "never.txt"], folder), 137, "ended by signal 9"), True
 
 
 def _names(folder, run, write):
@@ -103,6 +127,21 @@ def _outputs(folder, command, run, files):
     yield "no place for a short file", _ends(run(["start", files[0]], folder, env=spoilt), 8, "no file can be made"), True
 
 
+def _no_room(folder, command, write):
+    """A script that `clock` writes to a file without room for all of it is not there in part, and what stood before it is."""
+    bench, before = write(folder, "q.bench", "INPUT(ck)\nd = NOT(q)\nq = DFF(d)  # clock ck rising\nz = AND(ck, q)\n"), "# kept\n" * 2000
+    script, path = write(folder, "q.clk", "start ck=0 q=0\n" + "#clock ck\n" * 200), os.path.join(folder, "q.txt")
+    for more, wanted, buffered in ((20_000, 0, ""), (10_000, 8, ""), (5_000, 8, ""), (10_000, 8, "1"), (5_000, 8, "1")):
+        write(folder, "q.txt", before)
+        limited = lambda: resource.setrlimit(resource.RLIMIT_FSIZE, (len(before) + more, len(before) + more))
+        with open(path, "ab") as file:
+            done = subprocess.run([command, "clock", bench, script], stdout=file, stderr=subprocess.PIPE, preexec_fn=limited,
+                                  env=dict(os.environ, PYTHONUNBUFFERED=buffered), check=False)
+        with open(path, encoding="utf-8") as file:
+            text = file.read()
+        yield f"room for {more} bytes{buffered and ', unbuffered'}", (done.returncode, text.startswith(before), text == before), (wanted, True, wanted != 0)
+
+
 def _errors(folder, command, files):
     """Standard error that is closed, or that nobody reads: the status is what it would be, and never that of an expectation that fails."""
     calls = [(["summary", "nofile.bench", files[1]], 6), (["expect"] + files, 0), (["clock", files[0], "nofile"], 6), (["summary"], 2), (["--help"], 0),
@@ -119,6 +158,12 @@ def _errors(folder, command, files):
         file.write("import json\njson.dumps = None\n")
     spoilt = subprocess.run([command, "summary", "--json"] + files, env=dict(os.environ, PYTHONPATH=folder), stdout=subprocess.DEVNULL, stderr=subprocess.PIPE, check=False)
     os.remove(module)
+    broken = os.path.join(folder, "argparse.py")
+    with open(broken, "w", encoding="ascii") as file:
+        file.write("raise SyntaxError('an old Python')\n")
+    unstarted = subprocess.run([command, "--version"], env=dict(os.environ, PYTHONPATH=folder), stdout=subprocess.DEVNULL, stderr=subprocess.PIPE, check=False)
+    os.remove(broken)
+    yield "a program that can't be started", (unstarted.returncode, unstarted.stderr), (70, b"hazard-look: it can't be started: SyntaxError: an old Python\n")
     yield "a fault of the program", (spoilt.returncode, spoilt.stderr.decode().startswith("hazard-look: a fault of this program: TypeError"), spoilt.stderr.count(b"\n")), (70, True, 1)
 
 
