@@ -1,5 +1,6 @@
 -- Orders that are found, one assumption after the other, and those of them that are used.
-use Rattle.std.proofs.Common.{◌≡◌, ℕ, suc, ◌+◌, ◌<◌, ◌≤◌, Bool, List, [], ◌∷◌, ◌++◌, length, take, get_or, refl, sym, ap, ◌∙◌, subst, inl, inr, arith, append_assoc, append-nil, true, false, All, IsTrue}
+use Rattle.std.proofs.Common.{◌≡◌, ℕ, suc, ◌+◌, ◌<◌, ◌≤◌, Bool, List, [], ◌∷◌, ◌++◌, length, take, get_or, refl, sym, ap, ◌∙◌, subst, inl, inr, arith, append_assoc, append-nil, true, false, eqb, All, IsTrue}
+use Rattle.std.proofs.lemmas.Bool.{eqb-true}
 use Rattle.std.proofs.lemmas.List.{take_more}
 use Rattle.std.proofs.lemmas.List.Elements.{All-nil, All-cons, All-append, All-head, All-tail, All-weaker}
 use Rattle.hz_core.specs.Netlist.{Netlist, IsCircuit}
@@ -140,3 +141,19 @@ pub none-found : (net : List Driver) (input start : List Bool) (cap : ℕ) (assu
     AreUsed net input start cap assumptions told found idle
 none-found net input start cap assumptions words told found idle are none inductive =
     none-used net input start cap assumptions words told found found idle are none (subst (λ (list : List Order). AreTabled net words list []) (sym none) refl) inductive
+
+-- if nothing is assumed, none is found
+pub none-assumed : (net : List Driver) (input start : List Bool) (cap : ℕ) (assumptions : List Assumption) (words told : List Word) (found : List Order) (idle : ℕ) → assumptions ≡ [] → found ≡ [] → idle ≡ 0 → IsInductiveUnder [] net input start cap words → AreUsed net input start cap assumptions told found idle
+none-assumed net input start cap assumptions words told found idle nothing none no_idle inductive =
+    none-found net input start cap assumptions words told found idle
+    (subst (λ (list : List Assumption). AreFound net input start list found idle) (sym nothing) (none, no_idle)) none inductive
+
+-- a list of orders that is empty
+pub no-order : (orders : List Order) → length orders ≡ 0 → orders ≡ []
+no-order [] none = refl
+no-order (order ∷ orders) none = absurd (omega (arith, none))
+
+-- and one of assumptions
+pub no-assumption : (assumptions : List Assumption) → true ≡ eqb (length assumptions) 0 → assumptions ≡ []
+no-assumption [] none = refl
+no-assumption (one ∷ assumptions) none = let is : length (one ∷ assumptions) ≡ 0 = eqb-true (length (one ∷ assumptions)) 0 (sym none) in absurd (omega (arith, is))
