@@ -1,5 +1,5 @@
 -- By what the first wire of the order is.
-use Rattle.std.proofs.Common.{◌<◌, ◌≤◌, length, arith}
+use Rattle.std.proofs.Common.{◌<◌, length, arith}
 use Rattle.hz_net.specs.Network.{network_of, External, Function}
 use Rattle.hz_net.specs.Variables.{first_wire}
 use Rattle.hz_core.specs.Netlist.{gate_at}
@@ -43,7 +43,7 @@ pub returns-in-Input-clause-none : goal.returns-in-Input-clause-none
 returns-in-Input-clause-none c =
     let few = inside ((goal.at.returns-in-Input-clause-none c).After-kind_of) in
     let is = driven-as c.args.net.now c.args.order.first (Input c.in-Input.number) c.keeps_shape.ensures.circuit c.keeps_shape.ensures.whole few c.in-Input.ensures in
-    λ has. absurd (none-at-node c.args.net.now c.keeps_shape.ensures.circuit c.args.told.now c.args.order (External c.in-Input.number) is.0 (λ source e. cc) has)
+    λ has. absurd (none-at-node c.args.net.now c.keeps_shape.ensures.circuit c.args.told.now c.args.order (External c.in-Input.number) is.driven (λ source e. cc) has)
 
 pub returns-in-Gate-clause-none : goal.returns-in-Gate-clause-none
 returns-in-Gate-clause-none c =
