@@ -140,3 +140,9 @@ pub none-found : (net : List Driver) (input start : List Bool) (cap : ℕ) (assu
     AreUsed net input start cap assumptions told found idle
 none-found net input start cap assumptions words told found idle are none inductive =
     none-used net input start cap assumptions words told found found idle are none (subst (λ (list : List Order). AreTabled net words list []) (sym none) refl) inductive
+
+-- if nothing is assumed, none is found
+pub none-assumed : (net : List Driver) (input start : List Bool) (cap : ℕ) (assumptions : List Assumption) (words told : List Word) (found : List Order) (idle : ℕ) → assumptions ≡ [] → found ≡ [] → idle ≡ 0 → IsInductiveUnder [] net input start cap words → AreUsed net input start cap assumptions told found idle
+none-assumed net input start cap assumptions words told found idle nothing none no_idle inductive =
+    none-found net input start cap assumptions words told found idle
+    (subst (λ (list : List Assumption). AreFound net input start list found idle) (sym nothing) (none, no_idle)) none inductive
