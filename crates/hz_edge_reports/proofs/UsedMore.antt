@@ -1,5 +1,6 @@
 -- Orders that are found, one assumption after the other, and those of them that are used.
-use Rattle.std.proofs.Common.{◌≡◌, ℕ, suc, ◌+◌, ◌<◌, ◌≤◌, Bool, List, [], ◌∷◌, ◌++◌, length, take, get_or, refl, sym, ap, ◌∙◌, subst, inl, inr, arith, append_assoc, append-nil, true, false, All, IsTrue}
+use Rattle.std.proofs.Common.{◌≡◌, ℕ, suc, ◌+◌, ◌<◌, ◌≤◌, Bool, List, [], ◌∷◌, ◌++◌, length, take, get_or, refl, sym, ap, ◌∙◌, subst, inl, inr, arith, append_assoc, append-nil, true, false, eqb, All, IsTrue}
+use Rattle.std.proofs.lemmas.Bool.{eqb-true}
 use Rattle.std.proofs.lemmas.List.{take_more}
 use Rattle.std.proofs.lemmas.List.Elements.{All-nil, All-cons, All-append, All-head, All-tail, All-weaker}
 use Rattle.hz_core.specs.Netlist.{Netlist, IsCircuit}
@@ -146,3 +147,8 @@ pub none-assumed : (net : List Driver) (input start : List Bool) (cap : ℕ) (as
 none-assumed net input start cap assumptions words told found idle nothing none no_idle inductive =
     none-found net input start cap assumptions words told found idle
     (subst (λ (list : List Assumption). AreFound net input start list found idle) (sym nothing) (none, no_idle)) none inductive
+
+-- a list of orders that is empty
+pub no-order : (orders : List Order) → true ≡ eqb (length orders) 0 → orders ≡ []
+no-order [] none = refl
+no-order (order ∷ orders) none = let is : length (order ∷ orders) ≡ 0 = eqb-true (length (order ∷ orders)) 0 (sym none) in absurd (omega (arith, is))
