@@ -149,6 +149,11 @@ none-assumed net input start cap assumptions words told found idle nothing none 
     (subst (λ (list : List Assumption). AreFound net input start list found idle) (sym nothing) (none, no_idle)) none inductive
 
 -- a list of orders that is empty
-pub no-order : (orders : List Order) → true ≡ eqb (length orders) 0 → orders ≡ []
+pub no-order : (orders : List Order) → length orders ≡ 0 → orders ≡ []
 no-order [] none = refl
-no-order (order ∷ orders) none = let is : length (order ∷ orders) ≡ 0 = eqb-true (length (order ∷ orders)) 0 (sym none) in absurd (omega (arith, is))
+no-order (order ∷ orders) none = absurd (omega (arith, none))
+
+-- and one of assumptions
+pub no-assumption : (assumptions : List Assumption) → true ≡ eqb (length assumptions) 0 → assumptions ≡ []
+no-assumption [] none = refl
+no-assumption (one ∷ assumptions) none = let is : length (one ∷ assumptions) ≡ 0 = eqb-true (length (one ∷ assumptions)) 0 (sym none) in absurd (omega (arith, is))
