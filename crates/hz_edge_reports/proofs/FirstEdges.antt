@@ -14,7 +14,7 @@ use Rattle.hz_edge_reports.specs.ChangesExist.{ChangesExist}
 use Rattle.hz_edge_reports.specs.EdgeChanges.{ChangeOf, EdgeAnalysis, Found, Stopped, AreEdgeAnalyses, IsChangeFrom, IsNextStart, IsRightChange, IsStopper, all_stopped}
 use Rattle.hz_edge_reports.specs.Going.{GoesOn}
 use Rattle.hz_edge_reports.specs.Room.{CanBeMade, Leads}
-use Rattle.hz_edge_reports.proofs.Leading.{LeadsOn, found-leads, stopper-inside}
+use Rattle.hz_edge_reports.proofs.Leading.{found-leads, stopper-inside}
 
 -- what changes come to from a state, or from a variable that stops them
 abbrev pub AreLaterEdges : Netlist → ℕ → List Assumption → List Bool → Option ℕ → List (List (ℕ × Bool)) → List EdgeAnalysis → Type 0

@@ -1,5 +1,5 @@
 -- What is found of a change names variables, and leads somewhere: to a next start, or to a variable that stops.
-use Rattle.std.proofs.Common.{◌≡◌, ◌∙◌, ℕ, zero, suc, ◌<◌, ◌≤◌, ◌⊎◌, Bool, true, false, List, [], ◌∷◌, ◌++◌, length, take, All, Some, None, refl, sym, ap, subst, arith, inl, inr}
+use Rattle.std.proofs.Common.{◌≡◌, ◌∙◌, ℕ, zero, suc, ◌<◌, ◌≤◌, ◌⊎◌, Bool, true, false, List, [], ◌∷◌, length, take, All, refl, sym, ap, subst, arith, inl, inr}
 use Rattle.std.proofs.lemmas.Bool.{cases_lt}
 use Rattle.std.proofs.lemmas.List.Elements.{All-nil, All-weaker}
 use Rattle.hz_core.specs.declared.tri.Tri.{Tri}
@@ -17,7 +17,7 @@ use Rattle.hz_orders.proofs.WithTables.{tabled-of-all}
 use Rattle.hz_word.specs.declared.word.Word.{Word}
 use Rattle.hz_timing.specs.declared.script.Assumption.{Assumption}
 use Rattle.hz_timing.specs.TimedText.{IsAssumptionOf}
-use Rattle.hz_seq.specs.Sequence.{changed_input, IsFirstUnknown, IsSettledAt}
+use Rattle.hz_seq.specs.Sequence.{changed_input}
 use Rattle.hz_seq.proofs.FirstAnalyses.{input-long}
 use Rattle.hz_seq.proofs.Existence.{settled-or-unknown}
 use Rattle.hz_replay.proofs.ReadBack.{run-inside}

@@ -1,6 +1,5 @@
 -- Nothing is said where no order is used.
-use Rattle.std.proofs.Common.{◌≡◌, List, eqb, length, true, false}
-use Rattle.hz_orders.specs.declared.order.Order.{Order}
+use Rattle.std.proofs.Common.{◌≡◌, eqb, length, true, false}
 use Rattle.hz_write.proofs.Writers.{writes_nothing, writes_same}
 use Rattle.hz_edge_reports.proofs.OrderLines.{no-orders, some-orders}
 use Rattle.hz_edge_reports.proofs.lines.write_kept.Goals as goal

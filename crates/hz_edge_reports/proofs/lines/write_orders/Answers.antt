@@ -1,5 +1,5 @@
 -- Nothing is said where nothing is assumed.
-use Rattle.std.proofs.Common.{◌≡◌, length}
+use Rattle.std.proofs.Common.{length}
 use Rattle.hz_write.specs.Writer.{Writes}
 use Rattle.hz_write.proofs.Writers.{writes_nothing, writes_same}
 use Rattle.hz_edge_reports.specs.EdgeText.{orders_line}

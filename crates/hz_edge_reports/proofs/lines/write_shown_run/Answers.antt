@@ -1,5 +1,5 @@
 -- The run text, or nothing.
-use Rattle.std.proofs.Common.{◌≡◌, List, eqb, length, true, false}
+use Rattle.std.proofs.Common.{◌≡◌, eqb, length, true, false}
 use Rattle.hz_run_text.specs.RunPrinted.{run_text_printed}
 use Rattle.hz_write.proofs.Writers.{writes_nothing, writes_same}
 use Rattle.hz_edge_reports.specs.EdgeChanges.{run_of_change}

@@ -1,4 +1,4 @@
-use Rattle.std.proofs.Common.{ℕ, Bool, List, All, refl, subst, sym}
+use Rattle.std.proofs.Common.{ℕ, Bool, List, refl}
 use Rattle.hz_refusal.specs.declared.status.Status.{Status}
 use Rattle.hz_refusal.specs.declared.status.Status.TheVariants as status
 use Rattle.hz_refusal.proofs.PutEndings.{Ends-put}

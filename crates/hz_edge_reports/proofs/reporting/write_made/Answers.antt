@@ -1,11 +1,8 @@
 -- What is found of the change is right. If memory runs out, something is right all the same.
-use Rattle.std.proofs.Common.{◌≡◌, ◌∙◌, ℕ, Bool, List, false, true, refl, sym, ap, rules}
-use Rattle.std.specs.Prelude.{Vec}
+use Rattle.std.proofs.Common.{◌∙◌, refl, sym}
 use Rattle.std.proofs.lemmas.Bool.{false≢true}
-use Rattle.hz_core.specs.Netlist.{Netlist}
 use Rattle.hz_write.proofs.Writers.{writes_then, writes_failed}
 use Rattle.hz_changes.proofs.Writable.{below-names}
-use Rattle.hz_edge_reports.specs.EdgeChanges.{ChangeOf, IsChangeFrom}
 use Rattle.hz_edge_reports.specs.EdgeText.{found_text}
 use Rattle.hz_edge_reports.specs.Room.{change_of}
 use Rattle.hz_edge_reports.proofs.Leading.{found-used, found-run, made-from}

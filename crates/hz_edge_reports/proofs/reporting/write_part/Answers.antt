@@ -1,6 +1,6 @@
 -- The start of a part, and its changes. If memory runs out, the start is the one that is known.
-use Rattle.std.proofs.Common.{◌≡◌, ◌∙◌, ◌++◌, ℕ, Bool, List, Option, refl, sym, ap, subst, arith}
-use Rattle.hz_net.specs.Starts.{IsAcceptedStart, IsStableStart}
+use Rattle.std.proofs.Common.{◌∙◌, ◌++◌, Bool, List, refl, sym, subst, arith}
+use Rattle.hz_net.specs.Starts.{IsStableStart}
 use Rattle.hz_write.specs.Writer.{Writes}
 use Rattle.hz_write.proofs.Writers.{writes_then, writes_failed}
 use Rattle.hz_report.specs.Report.{start_line}

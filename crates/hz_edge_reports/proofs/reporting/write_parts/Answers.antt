@@ -1,5 +1,5 @@
 -- One part after the other.
-use Rattle.std.proofs.Common.{◌≡◌, ◌∙◌, ◌+◌, ◌<◌, ◌≤◌, ℕ, Bool, List, [], ◌∷◌, ◌++◌, length, take, drop, get_or, sum_by, is_some, true, refl, sym, ap, subst, arith, add-one}
+use Rattle.std.proofs.Common.{◌≡◌, ◌∙◌, ◌+◌, ◌<◌, ◌≤◌, ℕ, Bool, List, [], ◌∷◌, ◌++◌, length, take, drop, sum_by, is_some, true, sym, ap, subst, arith, add-one}
 use Rattle.std.proofs.lemmas.List.{take-append-drop}
 use Rattle.std.proofs.lemmas.List.Sums.{sum_by_more_le, sum_by_push}
 use Rattle.std.proofs.lemmas.Option.{get_or_from_slice_get}
@@ -7,7 +7,6 @@ use Rattle.std.proofs.Math.Seq.{take-suc, take-length}
 use Rattle.hz_net.specs.Starts.{IsAcceptedStart}
 use Rattle.hz_script.specs.ScriptValue.{ScriptOf}
 use Rattle.hz_script.specs.ScriptText.{IsScriptFor}
-use Rattle.hz_script.specs.Limits.{most_changes}
 use Rattle.hz_timing.specs.Timed.{AreAcceptedStarts}
 use Rattle.hz_write.specs.Writer.{Writes, NoneWaits}
 use Rattle.hz_write.proofs.Writers.{writes_nothing, writes_then, writes_failed}

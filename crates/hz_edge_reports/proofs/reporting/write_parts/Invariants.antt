@@ -1,5 +1,5 @@
 -- The parts so far have starts and analyses, and their lines are given.
-use Rattle.std.proofs.Common.{◌≡◌, ◌+◌, ℕ, Bool, List, take, sum_by}
+use Rattle.std.proofs.Common.{◌≡◌, ◌+◌, Bool, List, take, sum_by}
 use Rattle.hz_timing.specs.Timed.{AreAcceptedStarts}
 use Rattle.hz_write.specs.Writer.{Writes, NoneWaits}
 use Rattle.hz_edge_reports.specs.EdgeChanges.{EdgeAnalysis}

@@ -1,5 +1,5 @@
 -- All that the writer was given.
-use Rattle.std.proofs.Common.{◌≡◌, ◌∙◌, ◌++◌, ℕ, List, Bool, refl, ap, subst, sym, rules}
+use Rattle.std.proofs.Common.{◌++◌, ℕ, List, refl, subst, rules}
 use Rattle.std.specs.List.{flat_map}
 use Rattle.hz_timing.specs.declared.script.Assumption.{Assumption}
 use Rattle.hz_write.specs.Writer.{Writes}

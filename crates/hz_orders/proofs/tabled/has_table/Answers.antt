@@ -1,5 +1,5 @@
 -- By what the first wire of the order is.
-use Rattle.std.proofs.Common.{◌<◌, ◌≤◌, length, arith}
+use Rattle.std.proofs.Common.{◌<◌, length, arith}
 use Rattle.hz_net.specs.Network.{network_of, External, Function}
 use Rattle.hz_net.specs.Variables.{first_wire}
 use Rattle.hz_core.specs.Netlist.{gate_at}
