@@ -3,6 +3,7 @@
 Each is a function of a size. It gives the netlist and the second text. The least sizes are chosen so that eight times as much stays
 within the limits of the program, and takes valgrind some seconds.
 """
+import itertools
 import os
 import random
 import sys
@@ -711,6 +712,27 @@ def patterns_of_reversed_chain(n):
 
 def patterns_of_wide(n):
     return patterned(1024, wide(n)[0], 1)
+
+
+def against_the_order(length, apart, more):
+    """A chain of OR gates in one loop. Its gates stand so that each step of a wave along it goes back by as many places. No wave
+    goes by the gates `f`. `more` names a further pin of a gate."""
+    columns = max(1, 2 * length // apart)
+    placed = [k for column in range(columns) for k in range(columns - 1 - column, length, columns)]
+    made = (f"g{k}=OR(f{k},{f'g{k - 1}' if k else 'z'}{more(k)})\nf{k}=AND(z,g{before})\n" for before, k in zip([placed[-1]] + placed, placed))
+    return "".join(reversed(list(made))), "hold" + "".join(f" g{k}=0 f{k}=0" for k in range(length)) + "\n"
+
+
+def waves(n):
+    """512 waves, one after the other, into wide gates: each lane raises another six of twelve inputs."""
+    taps = list(itertools.islice(itertools.combinations(range(12), 6), 512))
+    chain, hold = against_the_order(512 * n + 256, 64, lambda k: "" if k % n or k >= 512 * n else f",t{k // n}")
+    made = "".join(f"t{j}=AND({','.join(f'i{i}' for i in tap)})\n" for j, tap in enumerate(taps))
+    pins = ",".join(f"g{k}" for k in range(512 * n, 512 * n + 256))
+    wide_gates = lines(22 * n, lambda k: f"w{k}=XOR({pins})\n")
+    ends = ("".join("01"[i in tap] for i in range(12)) for tap in taps)
+    inputs = "INPUT(z)\n" + "".join(f"INPUT(i{i})\n" for i in range(12))
+    return inputs + "OUTPUT(w1)\n" + chain + made + wide_gates, hold + "".join(f"from {'0' * 13} to 0{end}\n" for end in ends)
 
 
 def patterns_of_feedback(n):

@@ -1,0 +1,178 @@
+//! The loops of a network, found depth first. Nothing is promised of what is found: `order` takes of it what makes an order.
+//!
+//! The search goes from each gate to those that it reads, and keeps its way in a list, so it needs no recursion.
+ghost use Rattle.hz_core.specs.Netlist.{IsGateNumber};
+
+use crate::classes::is_gate;
+use hz_core::Memory;
+use hz_net::Net;
+use std::alloc::Global;
+
+/// Gates in an order, and how many stand up to the end of each loop.
+#[derive(Debug, Drop)]
+pub(crate) struct Order {
+    pub(crate) gates: Vec<u32>,
+    pub(crate) ends: Vec<usize>,
+}
+
+// A gate on the way, its number, the pin that is looked at next, and how many gates waited when it was found.
+#[derive(Clone, Copy, Debug)]
+struct Step {
+    gate: u32,
+    number: u32,
+    pin: usize,
+    waited: usize,
+}
+
+// Gates are numbered from 1 as they are found.
+#[derive(Debug, Drop)]
+struct Search {
+    way: Vec<Step>,
+    // For each node 0 before it is found, then the least number to which it leads back, and the greatest number once it is listed.
+    back: Vec<u32>,
+    // The gates that were left, but whose loop is not whole.
+    waiting: Vec<u32>,
+    listed: Order,
+    placed: usize,
+    count: u32,
+}
+
+/// The gates that are not placed, each after what it reads, but where this would lead back to it. The gates of a loop stand together,
+/// before all other gates that read them. The ends count the gates that are placed too.
+pub(crate) fn search_loops(
+    alloc: Global,
+    net: &Net,
+    placed: &[bool],
+    count: usize,
+) -> Result<Order, Memory> {
+    let mut search = Search {
+        way: Vec::new(alloc),
+        back: known(alloc, net, placed)?,
+        waiting: Vec::new(alloc),
+        listed: Order {
+            gates: Vec::new(alloc),
+            ends: Vec::new(alloc),
+        },
+        placed: count,
+        count: 0,
+    };
+    for gate in 0..net.circuit().nodes() {
+        if search.back_of(gate) == 0 {
+            search.enter(gate)?;
+            search.finish(net)?;
+        }
+    }
+    Ok(search.listed)
+}
+
+// The greatest number for each node that is no gate or is placed, else 0.
+fn known(alloc: Global, net: &Net, placed: &[bool]) -> Result<Vec<u32>, Memory> {
+    let inputs = net.circuit().inputs() as usize;
+    let mut known = Vec::with_capacity(alloc, placed.len())?;
+    for node in 0..placed.len() {
+        known.push(if node < inputs || placed[node] {
+            u32::MAX
+        } else {
+            0
+        })?;
+    }
+    Ok(known)
+}
+
+impl Search {
+    // Goes on until the way is gone back.
+    fn finish(&mut self, net: &Net) -> Result<(), Memory> {
+        for _turn in 0..usize::MAX {
+            let Some(step) = self.way.pop() else {
+                break;
+            };
+            if is_gate(net, step.gate) {
+                self.turn(net, step)?;
+            }
+        }
+        Ok(())
+    }
+
+    // The number to which a node leads back.
+    fn back_of(&self, node: u32) -> u32 {
+        match self.back.get(node as usize) {
+            Some(number) => *number,
+            None => u32::MAX,
+        }
+    }
+
+    fn set_back(&mut self, node: u32, number: u32) {
+        let place = node as usize;
+        if place < self.back.len() {
+            self.back[place] = number;
+        }
+    }
+
+    // Finds a gate.
+    fn enter(&mut self, gate: u32) -> Result<(), Memory> {
+        self.count = self.count.saturating_add(1);
+        self.set_back(gate, self.count);
+        self.way.push(Step {
+            gate,
+            number: self.count,
+            pin: 0,
+            waited: self.waiting.len(),
+        })?;
+        Ok(())
+    }
+
+    // Looks at a pin of a gate, or leaves it if there is none left.
+    fn turn(&mut self, net: &Net, step: Step) -> Result<(), Memory>
+        requires { IsGateNumber net.now step.gate }
+    {
+        let sources = net.circuit().sources(step.gate);
+        match sources.get(step.pin) {
+            Some(source) => self.look(step, *source),
+            None => self.leave(step, sources.contains(&step.gate)),
+        }
+    }
+
+    // Finds what a pin reads, and looks at the pin again later. If that was found, notes how far it leads back.
+    fn look(&mut self, step: Step, source: u32) -> Result<(), Memory> {
+        let number = self.back_of(source);
+        if number == 0 {
+            self.way.push(step)?;
+            return self.enter(source);
+        }
+        let least = self.back_of(step.gate).min(number);
+        self.set_back(step.gate, least);
+        self.way.push(Step {
+            pin: step.pin.saturating_add(1),
+            ..step
+        })?;
+        Ok(())
+    }
+
+    // Leaves a gate, which waits if it leads back to one on the way. If not, what has waited since it was found is in a loop with it.
+    fn leave(&mut self, step: Step, reads_itself: bool) -> Result<(), Memory> {
+        let is_loop = reads_itself || self.waiting.len() > step.waited;
+        self.waiting.push(step.gate)?;
+        if self.back_of(step.gate) < step.number {
+            return Ok(());
+        }
+        self.list(step.waited)?;
+        if is_loop {
+            let end = self.placed.saturating_add(self.listed.gates.len());
+            self.listed.ends.push(end)?;
+        }
+        Ok(())
+    }
+
+    // Lists the gates that wait, from a place on.
+    fn list(&mut self, from: usize) -> Result<(), Memory> {
+        for place in from..self.waiting.len() {
+            if let Some(gate) = self.waiting.get(place) {
+                let gate = *gate;
+                self.set_back(gate, u32::MAX);
+                self.listed.gates.push(gate)?;
+            }
+        }
+        self.waiting.truncate(from);
+        Ok(())
+    }
+}
