@@ -34,6 +34,9 @@ struct Search {
     waiting: Vec<u32>,
     listed: Order,
     placed: usize,
+    // Where the last end is, and whether a loop stands behind it.
+    begin: usize,
+    is_open: bool,
     count: u32,
 }
 
@@ -50,10 +53,12 @@ pub(crate) fn search_loops(
         back: known(alloc, net, placed)?,
         waiting: Vec::new(alloc),
         listed: Order {
-            gates: Vec::new(alloc),
+            gates: Vec::with_capacity(alloc, placed.len())?,
             ends: Vec::new(alloc),
         },
         placed: count,
+        begin: count,
+        is_open: false,
         count: 0,
     };
     for gate in 0..net.circuit().nodes() {
@@ -121,46 +126,41 @@ impl Search {
         Ok(())
     }
 
-    // Looks at a pin of a gate, or leaves it if there is none left.
+    // Looks at the pins of a gate that are left: enters the first source that is not found, or, if there is none, leaves the gate.
     fn turn(&mut self, net: &Net, step: Step) -> Result<(), Memory>
         requires { IsGateNumber net.now step.gate }
     {
         let sources = net.circuit().sources(step.gate);
-        match sources.get(step.pin) {
-            Some(source) => self.look(step, *source),
-            None => self.leave(step, sources.contains(&step.gate)),
+        let mut back = self.back_of(step.gate);
+        for pin in step.pin..sources.len() {
+            let number = self.back_of(sources[pin]);
+            if number == 0 {
+                self.set_back(step.gate, back);
+                self.way.push(Step { pin, ..step })?;
+                return self.enter(sources[pin]);
+            }
+            back = back.min(number);
         }
-    }
-
-    // Finds what a pin reads, and looks at the pin again later. If that was found, notes how far it leads back.
-    fn look(&mut self, step: Step, source: u32) -> Result<(), Memory> {
-        let number = self.back_of(source);
-        if number == 0 {
-            self.way.push(step)?;
-            return self.enter(source);
-        }
-        let least = self.back_of(step.gate).min(number);
-        self.set_back(step.gate, least);
-        self.way.push(Step {
-            pin: step.pin.saturating_add(1),
-            ..step
-        })?;
-        Ok(())
-    }
-
-    // Leaves a gate, which waits if it leads back to one on the way. If not, what has waited since it was found is in a loop with it.
-    fn leave(&mut self, step: Step, reads_itself: bool) -> Result<(), Memory> {
-        let is_loop = reads_itself || self.waiting.len() > step.waited;
+        self.set_back(step.gate, back);
         self.waiting.push(step.gate)?;
-        if self.back_of(step.gate) < step.number {
+        if back < step.number {
             return Ok(());
         }
-        self.list(step.waited)?;
-        if is_loop {
-            let end = self.placed.saturating_add(self.listed.gates.len());
-            self.listed.ends.push(end)?;
+        self.close(step, sources.contains(&step.gate))
+    }
+
+    // Lists a gate with what has waited since it was found: they are in one loop, if there are others or it reads itself. So that few
+    // loops are short, those that follow each other end together, unless they have 64 gates.
+    fn close(&mut self, step: Step, reads_itself: bool) -> Result<(), Memory> {
+        let is_loop = reads_itself || self.waiting.len() > step.waited.saturating_add(1);
+        let place = self.placed.saturating_add(self.listed.gates.len());
+        if self.is_open && (!is_loop || place.saturating_sub(self.begin) >= 64) {
+            self.listed.ends.push(place)?;
+            self.begin = place;
+            self.is_open = false;
         }
-        Ok(())
+        self.is_open = self.is_open || is_loop;
+        self.list(step.waited)
     }
 
     // Lists the gates that wait, from a place on.

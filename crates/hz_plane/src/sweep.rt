@@ -163,6 +163,7 @@ impl<'a> Pass<'a> {
 
     // Evaluates each gate of a part once. Of the gates that read one that changed, those that stand later come in this sweep
     // still, and only the others are marked.
+    #[inline(always)]
     fn sweep_first(&self, begin: usize, end: usize, marks: &mut [u64], planes: &mut [Pair]) -> Span
         requires schedule { IsSchedule self.now.net.now self.now.schedule.now }
         requires circuit { IsCircuit self.now.net.now }
@@ -232,6 +233,7 @@ impl<'a> Pass<'a> {
 
     // Evaluates the marked gates of these words, and marks what reads a gate that changed. It answers in which words there
     // are marks now.
+    #[inline(always)]
     fn sweep(&self, span: Span, end: usize, marks: &mut [u64], planes: &mut [Pair]) -> Span
         requires schedule { IsSchedule self.now.net.now self.now.schedule.now }
         requires circuit { IsCircuit self.now.net.now }
