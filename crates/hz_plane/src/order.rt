@@ -8,9 +8,8 @@ use hz_core::Memory;
 use hz_net::Net;
 use std::alloc::Global;
 
-/// All gates in an order, and how many stand up to the end of each loop, of which nothing is promised. Without feedback each gate stands
-/// after the gates that it reads, and gates of one class together. With feedback each loop stands before all other gates that read its
-/// gates.
+/// All gates in an order, and places behind its loops, of which nothing is promised. Without feedback each gate stands after the gates
+/// that it reads, and gates of one class together. With feedback each loop stands before all other gates that read its gates.
 pub(crate) fn order_gates(alloc: Global, net: &Net) -> Result<Order, Memory>
     ensures gates { IfOk result (λ order. HasAllGates net.now order.gates.items) }
     ensures few { IfOk result (λ order. length order.gates.items < 2 ^ 32) }

@@ -13,8 +13,7 @@ use hz_net::Net;
 use std::alloc::Global;
 
 /// The gates in an order; for each place the places of the gates that read its gate; those of them that stand no later;
-/// whether there are none of these, as without feedback; how many gates stand up to the end of each loop; and the kind and the pins of
-/// the gate at each place.
+/// whether there are none of these, as without feedback; places behind loops; and the kind and the pins of the gate at each place.
 #[derive(Debug, Drop)]
 pub(crate) struct Schedule {
     pub(crate) order: Vec<u32>,
@@ -31,8 +30,7 @@ impl Schedule {
     pub(crate) fn of(alloc: Global, net: &Net) -> Result<Schedule, Memory>
         ensures { IfOk result (IsSchedule net.now) }
     {
-        let Order { gates, ends } = order_gates(alloc, net)?;
-        let order = gates;
+        let Order { gates: order, ends } = order_gates(alloc, net)?;
         let by_node = list_by_node(alloc, net, order.as_slice())?;
         let readers = list_readers(alloc, net, order.as_slice(), &by_node)?;
         let back = list_back(alloc, net, order.as_slice(), &by_node)?;
