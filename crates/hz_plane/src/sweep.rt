@@ -1,5 +1,5 @@
 //! Gates evaluated in place until nothing changes. The first sweep looks at no marks: if it did, `batch` on 1,000 gates with feedback
-//! would take 177 million instructions in place of 159.
+//! would take 154 million instructions in place of 132.
 ghost use Rattle.std.specs.Prelude.{◌≡◌, ◌≢◌, ℕ, ◌+◌, ◌/◌, ◌<◌, ◌≤◌, ◌^◌, ◌⊎◌, Contains, All, false, true, length, slice_index};
 ghost use Rattle.hz_core.specs.Netlist.{IsCircuit, IsWhole, IsGateNumber, gate_at};
 ghost use Rattle.hz_plane.specs.Schedules.{IsSchedule};
