@@ -983,7 +983,7 @@ def pattern_cases():
         ("held: chain against the order", held_reversed_chain, 2_000, 0),
             ("chain against the order", patterns_of_reversed_chain, 2_000, 0),
             ("gates of 256 pins", patterns_of_wide, 20, 0),
-            ("waves into gates of 256 pins", waves, 2, 0),
+            ("waves into gates of 256 pins", waves, 1, 0),
             ("one wave into gates of 256 pins", one_wave, 80, 0),
             ("random gates with feedback", patterns_of_feedback, 1_000, 0),
         ("a hold of all gates", patterns_long_hold, 12_000, 0),

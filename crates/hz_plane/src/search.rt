@@ -1,5 +1,5 @@
 //! The loops of a network, found depth first, so that each comes to rest before what stands behind it. `batch` on 8 times the least waves
-//! of `bench/doubling` takes 1,025 million instructions so, and 12,848 if all gates come to rest together.
+//! of `bench/doubling` takes 1,011 million instructions so, and 12,848 if all gates come to rest together.
 //!
 //! The search goes from each gate to those that it reads, and keeps its way in a list, so it needs no recursion. Nothing is promised of
 //! what is found: `order` takes of it what makes an order.
