@@ -1,5 +1,5 @@
 //! The lines of an exploration.
-ghost use Rattle.std.specs.Prelude.{◌≡◌, ◌<◌, ◌≤◌, ◌++◌, ◌⊎◌, codes, decimal, length, nat_eq, All, IfSome};
+ghost use Rattle.std.specs.Prelude.{◌≡◌, ◌<◌, ◌≤◌, ◌+◌, ◌++◌, ◌⊎◌, codes, decimal, length, nat_eq, All, IfSome};
 ghost use Rattle.std.specs.List.{list_any};
 ghost use Rattle.hz_net.specs.Network.{IsVariable};
 ghost use Rattle.hz_write.specs.Writer.{Writes, NoneWaits};
@@ -63,7 +63,12 @@ pub(crate) fn write_made<K: Sink>(
 {
     writer.add(&[Number(taken.number)]);
     write_end(writer, making, taken.burst, made);
-    write_used(writer, making.assumptions, change.used.as_slice(), change.kept);
+    write_used(
+        writer,
+        making.assumptions,
+        change.used.as_slice(),
+        change.kept,
+    );
     writer.end();
 }
 
@@ -224,14 +229,24 @@ fn rest_on(used: &[Order], given: Assumption) -> bool
 fn has_order(used: &[Order], order: Order) -> bool
     ensures { result ≡ list_any (same_order order) used.now }
 {
-    used.iter().any(|other| is_same(order, *other))
+    for other in used {
+        if is_same(order, *other) {
+            return true;
+        }
+    }
+    false
 }
 
 // Whether a wire is the first one of one of these orders.
 fn has_first(used: &[Order], wire: u32) -> bool
     ensures { result ≡ list_any (λ order. nat_eq order.first wire) used.now }
 {
-    used.iter().any(|other| other.first == wire)
+    for other in used {
+        if other.first == wire {
+            return true;
+        }
+    }
+    false
 }
 
 // Whether two orders are the same.

@@ -1,7 +1,5 @@
 -- What was found of the change stays, and where it ends is noted by it.
-use Rattle.std.proofs.Common.{◌≡◌, ◌∙◌, ap, Bool, ◌&&◌}
-use Rattle.std.specs.Prelude.{Vec}
-use Rattle.hz_orders.specs.declared.order.Order.{Order}
+use Rattle.std.proofs.Common.{◌≡◌, ◌∙◌, refl, ap, Bool, ◌&&◌}
 use Rattle.hz_edge_reports.specs.EdgeChanges.{ChangeOf}
 use Rattle.hz_edge_reports.specs.Room.{change_of}
 use Rattle.hz_explore.specs.declared.counting.Classes.{Classes}
@@ -23,6 +21,6 @@ returns-clause-made c =
       right = c.in_ok-classes.ensures.right;
       classes = c.in_ok-classes.ensures.classes;
       noted = noted-from netlist found _ (is_clean_change netlist found) c.args.self.now there c.note_end.new.self c.in_ok-end.end clean c.find.ensures.states c.find.ensures.totals c.in_ok-end.ensures.noted;
-      used = ap (λ (orders : Vec Order). orders.items) c.in_ok-end.ensures.used;
+      used = rw c.in_ok-end.ensures.used refl;
       kept = c.in_ok-end.ensures.kept;
     }
