@@ -3,6 +3,7 @@
 Each is a function of a size. It gives the netlist and the second text. The least sizes are chosen so that eight times as much stays
 within the limits of the program, and takes valgrind some seconds.
 """
+import itertools
 import os
 import random
 import sys
@@ -713,6 +714,32 @@ def patterns_of_wide(n):
     return patterned(1024, wide(n)[0], 1)
 
 
+def against_the_order(length, more):
+    """A chain of OR gates in one loop, which stand so that each step of a wave along it goes back by 64 places, or far on. No wave
+    goes through the gates `f`. It gives the chain, 256 pins for its last gates, and a hold. `more` names a further pin of a gate."""
+    columns = length // 32
+    placed = [k for column in range(columns) for k in range(columns - 1 - column, length, columns)]
+    made = [f"g{k}=OR(f{k},g{k - 1}{more(k)})\nf{k}=AND(z,g{before})\n" for before, k in zip([placed[-1]] + placed, placed)]
+    pins = ",".join(f"g{k}" for k in range(length - 256, length))
+    return "INPUT(z)\nINPUT(g-1)\n" + "".join(reversed(made)), pins, "hold" + "".join(f" g{k}=0 f{k}=0" for k in range(length)) + "\n"
+
+
+def waves(n):
+    """512 waves, one after the other, into wide gates: each lane raises another six of twelve inputs."""
+    taps = list(itertools.islice(itertools.combinations(range(12), 6), 512))
+    chain, pins, hold = against_the_order(512 * n + 256, lambda k: "" if k % n or k >= 512 * n else f",t{k // n}")
+    chain += lines(12, lambda k: f"INPUT(i{k - 1})\n")
+    chain += "".join(f"t{j}=AND({','.join(f'i{i}' for i in tap)})\n" for j, tap in enumerate(taps))
+    raised = ("".join("01"[i in tap] for i in range(12)) for tap in taps)
+    return chain + lines(22 * n, lambda k: f"w{k}=XOR({pins})\n"), hold + "".join(f"from {'0' * 14} to 00{bits}\n" for bits in raised)
+
+
+def one_wave(n):
+    """One wave, of all lanes, into wide gates."""
+    chain, pins, hold = against_the_order(256, lambda k: "")
+    return chain + lines(n, lambda k: f"w{k}=XOR({pins})\n"), hold + "from 00 to 01\n" * 4096
+
+
 def patterns_of_feedback(n):
     return patterned(1024, random_feedback(n)[0], 1)
 
@@ -956,6 +983,8 @@ def pattern_cases():
         ("held: chain against the order", held_reversed_chain, 2_000, 0),
             ("chain against the order", patterns_of_reversed_chain, 2_000, 0),
             ("gates of 256 pins", patterns_of_wide, 20, 0),
+            ("waves into gates of 256 pins", waves, 1, 0),
+            ("one wave into gates of 256 pins", one_wave, 80, 0),
             ("random gates with feedback", patterns_of_feedback, 1_000, 0),
         ("a hold of all gates", patterns_long_hold, 12_000, 0),
             ("a start that is open", patterns_open, 8_000, 0))

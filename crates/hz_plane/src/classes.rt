@@ -65,7 +65,8 @@ fn place_ready(
     tell_readers(net, gate, waits, ready)
 }
 
-fn is_gate(net: &Net, var: u32) -> bool
+/// Whether a variable is a gate.
+pub(crate) fn is_gate(net: &Net, var: u32) -> bool
     ensures { IsTrue result → IsGateNumber net.now var }
 {
     let circuit = net.circuit();

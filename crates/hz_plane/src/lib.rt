@@ -12,7 +12,7 @@
 //! | `forward`, `ones` | gates without feedback, each evaluated once by the lanes in which it is 1 |
 //! | `sweep` | gates evaluated in place until none would change |
 //! | `faults` | the fault of each lane, and the lanes in which some node is X |
-//! | `schedule`, `order`, `classes`, `readers`, `copies`, `lists` | an order of all gates, and which gates read each node |
+//! | `schedule`, `order`, `classes`, `search`, `readers`, `copies`, `lists` | an order of all gates, and which gates read each node |
 //! | `gates` | the gates of the circuit, copied |
 #![tactic(auto)]
 
@@ -37,6 +37,7 @@ mod planes;
 mod readers;
 mod rule;
 mod schedule;
+mod search;
 mod stage;
 mod sweep;
 mod values;

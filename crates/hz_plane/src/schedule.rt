@@ -7,18 +7,20 @@ use crate::copies::{list_kinds, list_pins};
 use crate::lists::Lists;
 use crate::order::order_gates;
 use crate::readers::{list_back, list_by_node, list_readers};
+use crate::search::Order;
 use hz_core::{Kind, Memory};
 use hz_net::Net;
 use std::alloc::Global;
 
 /// The gates in an order; for each place the places of the gates that read its gate; those of them that stand no later;
-/// whether there are none of these, as without feedback; and the kind and the pins of the gate at each place.
+/// whether there are none of these, as without feedback; places behind loops; and the kind and the pins of the gate at each place.
 #[derive(Debug, Drop)]
 pub(crate) struct Schedule {
     pub(crate) order: Vec<u32>,
     pub(crate) readers: Lists,
     pub(crate) back: Lists,
     pub(crate) is_forward: bool,
+    pub(crate) ends: Vec<usize>,
     pub(crate) kinds: Vec<Kind>,
     pub(crate) pins: Lists,
 }
@@ -28,7 +30,7 @@ impl Schedule {
     pub(crate) fn of(alloc: Global, net: &Net) -> Result<Schedule, Memory>
         ensures { IfOk result (IsSchedule net.now) }
     {
-        let order = order_gates(alloc, net)?;
+        let Order { gates: order, ends } = order_gates(alloc, net)?;
         let by_node = list_by_node(alloc, net, order.as_slice())?;
         let readers = list_readers(alloc, net, order.as_slice(), &by_node)?;
         let back = list_back(alloc, net, order.as_slice(), &by_node)?;
@@ -40,6 +42,7 @@ impl Schedule {
             readers,
             back,
             is_forward,
+            ends,
             kinds,
             pins,
         })

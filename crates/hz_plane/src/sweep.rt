@@ -1,10 +1,10 @@
 //! Gates evaluated in place until nothing changes. The first sweep looks at no marks: if it did, `batch` on 1,000 gates with feedback
-//! would take 177 million instructions in place of 159.
+//! would take 154 million instructions in place of 132.
 ghost use Rattle.std.specs.Prelude.{◌≡◌, ◌≢◌, ℕ, ◌+◌, ◌/◌, ◌<◌, ◌≤◌, ◌^◌, ◌⊎◌, Contains, All, false, true, length, slice_index};
 ghost use Rattle.hz_core.specs.Netlist.{IsCircuit, IsWhole, IsGateNumber, gate_at};
 ghost use Rattle.hz_plane.specs.Schedules.{IsSchedule};
 ghost use Rattle.hz_plane.specs.Steps.{gate_pair, step_planes, IsStillPair, AreAllPlanes};
-ghost use Rattle.hz_plane.specs.Sweeps.{weight, AreDue, AreDueBelow, AreDueBut, AreMarkedWithin, IsMarked, Ran};
+ghost use Rattle.hz_plane.specs.Sweeps.{weight, AreDueBelow, AreDueBut, AreMarkedWithin, AreNoneMarked, IsMarked, Ran};
 
 use crate::excited::excited;
 use crate::pair::Pair;
@@ -38,6 +38,13 @@ impl Span {
     }
 }
 
+// What a sweep comes to: so many words of marks, and so many places.
+#[derive(Clone, Copy, Debug)]
+struct Reach {
+    words: usize,
+    places: usize,
+}
+
 /// What a pass goes by.
 #[derive(Clone, Copy)]
 pub(crate) struct Pass<'a> {
@@ -48,36 +55,39 @@ pub(crate) struct Pass<'a> {
 
 // Marks the gate at a place, in a sweep that has come to a word. A gate of an earlier word is left for the next sweep.
 #[inline(always)]
-fn mark(reader: u32, word: usize, to: usize, marks: &mut [u64], span: Span) -> Span
+fn mark(reader: u32, word: usize, words: usize, marks: &mut [u64], span: Span) -> Span
     requires inside { reader / 64 < length marks.old }
     ensures here { IsMarked marks.new reader }
     ensures kept { (other : ℕ) → IsMarked marks.old other → IsMarked marks.new other }
-    ensures within { (from : ℕ) → AreMarkedWithin marks.old from to span.begin span.end
-        → from ≤ word → AreMarkedWithin marks.new from to result.begin result.end }
+    ensures within { (from : ℕ) → AreMarkedWithin marks.old from words span.begin span.end
+        → from ≤ word → AreMarkedWithin marks.new from words result.begin result.end }
     ensures bound { span.end ≤ length marks.old → result.end ≤ length marks.old }
 {
     let place = (reader / 64) as usize;
     marks[place] |= 1 << (reader % 64);
-    if place < word || place >= to {
+    if place < word || place >= words {
         span.with(place)
     } else {
         span
     }
 }
 
-// Marks the gates that stand at these places.
+// Marks the gates that stand at those of these places to which the sweep comes.
 #[inline(always)]
-fn mark_all(list: &[u32], word: usize, to: usize, marks: &mut [u64], span: Span) -> Span
+fn mark_all(list: &[u32], word: usize, to: Reach, marks: &mut [u64], span: Span) -> Span
     requires inside { All (λ reader. reader / 64 < length marks.old) list.now }
-    ensures listed { (reader : ℕ) → Contains list.now reader → IsMarked marks.new reader }
+    ensures listed { (reader : ℕ) → Contains list.now reader → reader < to.places
+        → IsMarked marks.new reader }
     ensures kept { (other : ℕ) → IsMarked marks.old other → IsMarked marks.new other }
-    ensures within { (from : ℕ) → AreMarkedWithin marks.old from to span.begin span.end
-        → from ≤ word → AreMarkedWithin marks.new from to result.begin result.end }
+    ensures within { (from : ℕ) → AreMarkedWithin marks.old from to.words span.begin span.end
+        → from ≤ word → AreMarkedWithin marks.new from to.words result.begin result.end }
     ensures bound { span.end ≤ length marks.old → result.end ≤ length marks.old }
 {
     let mut span = span;
     for reader in list {
-        span = mark(*reader, word, to, marks, span);
+        if (*reader as usize) < to.places {
+            span = mark(*reader, word, to.words, marks, span);
+        }
     }
     span
 }
@@ -114,15 +124,19 @@ impl<'a> Pass<'a> {
         ensures still { (gate : ℕ) → IsGateNumber self.now.net.now gate
             → IsStillPair self.now.rule self.now.net.now planes.new gate }
     {
-        let mut span = self.sweep_all(marks, planes);
-        while span.begin < span.end {
-            span = self.sweep(span, marks, planes);
+        marks.fill(0);
+        let mut begin = 0;
+        for end in self.schedule.ends.as_slice() {
+            if begin < *end && *end <= self.schedule.order.len() {
+                self.rest(begin, *end, marks, planes);
+                begin = *end;
+            }
         }
+        self.rest(begin, self.schedule.order.len(), marks, planes);
     }
 
-    // Evaluates each gate once. Of the gates that read one that changed, those that stand later come in this sweep still,
-    // and only the others are marked.
-    fn sweep_all(&self, marks: &mut [u64], planes: &mut [Pair]) -> Span
+    // Evaluates the gates of a part of the order, until none of them would change.
+    fn rest(&self, begin: usize, end: usize, marks: &mut [u64], planes: &mut [Pair])
         requires schedule { IsSchedule self.now.net.now self.now.schedule.now }
         requires circuit { IsCircuit self.now.net.now }
         requires whole { IsWhole self.now.net.now }
@@ -130,19 +144,51 @@ impl<'a> Pass<'a> {
         requires planes { AreAllPlanes planes.old }
         requires marks { length marks.old
             ≡ length self.now.schedule.now.order.items / 64 + 1 }
+        requires begin { begin ≤ end }
+        requires end { end ≤ length self.now.schedule.now.order.items }
+        requires due { AreDueBelow begin
+            self.now.rule self.now.net.now self.now.schedule.now.order.items marks.old planes.old }
+        requires none { AreNoneMarked marks.old }
         ensures ran { Ran self.now.rule self.now.net.now planes.old planes.new }
         ensures planes { AreAllPlanes planes.new }
-        ensures due { AreDueBelow (length self.now.schedule.now.order.items)
+        ensures due { AreDueBelow end
+            self.now.rule self.now.net.now self.now.schedule.now.order.items marks.new planes.new }
+        ensures none { AreNoneMarked marks.new }
+    {
+        let mut span = self.sweep_first(begin, end, marks, planes);
+        while span.begin < span.end {
+            span = self.sweep(span, end, marks, planes);
+        }
+    }
+
+    // Evaluates each gate of a part once. Of the gates that read one that changed, those that stand later come in this sweep
+    // still, and only the others are marked.
+    #[inline(always)]
+    fn sweep_first(&self, begin: usize, end: usize, marks: &mut [u64], planes: &mut [Pair]) -> Span
+        requires schedule { IsSchedule self.now.net.now self.now.schedule.now }
+        requires circuit { IsCircuit self.now.net.now }
+        requires whole { IsWhole self.now.net.now }
+        requires long { length planes.old ≡ length self.now.net.now.names }
+        requires planes { AreAllPlanes planes.old }
+        requires marks { length marks.old
+            ≡ length self.now.schedule.now.order.items / 64 + 1 }
+        requires begin { begin ≤ end }
+        requires end { end ≤ length self.now.schedule.now.order.items }
+        requires due { AreDueBelow begin
+            self.now.rule self.now.net.now self.now.schedule.now.order.items marks.old planes.old }
+        requires none { AreNoneMarked marks.old }
+        ensures ran { Ran self.now.rule self.now.net.now planes.old planes.new }
+        ensures planes { AreAllPlanes planes.new }
+        ensures due { AreDueBelow end
             self.now.rule self.now.net.now self.now.schedule.now.order.items marks.new planes.new }
         ensures within { AreMarkedWithin marks.new 0 0 result.begin result.end }
         ensures bound { result.end ≤ length marks.old }
     {
-        marks.fill(0);
         let mut next = Span {
             begin: marks.len(),
             end: 0,
         };
-        for place in 0..self.schedule.order.len() {
+        for place in begin..end {
             next = self.visit_first(place, marks, planes, next);
         }
         next
@@ -175,7 +221,11 @@ impl<'a> Pass<'a> {
             return span;
         }
         if self.evaluate(place, planes) {
-            mark_all(back, place / 64, 0, marks, span)
+            let to = Reach {
+                words: 0,
+                places: place + 1,
+            };
+            mark_all(back, place / 64, to, marks, span)
         } else {
             span
         }
@@ -183,7 +233,8 @@ impl<'a> Pass<'a> {
 
     // Evaluates the marked gates of these words, and marks what reads a gate that changed. It answers in which words there
     // are marks now.
-    fn sweep(&self, span: Span, marks: &mut [u64], planes: &mut [Pair]) -> Span
+    #[inline(always)]
+    fn sweep(&self, span: Span, end: usize, marks: &mut [u64], planes: &mut [Pair]) -> Span
         requires schedule { IsSchedule self.now.net.now self.now.schedule.now }
         requires circuit { IsCircuit self.now.net.now }
         requires whole { IsWhole self.now.net.now }
@@ -191,14 +242,15 @@ impl<'a> Pass<'a> {
         requires planes { AreAllPlanes planes.old }
         requires marks { length marks.old
             ≡ length self.now.schedule.now.order.items / 64 + 1 }
+        requires end { end ≤ length self.now.schedule.now.order.items }
         requires within { span.end ≤ length marks.old }
-        requires due { AreDue
+        requires due { AreDueBelow end
             self.now.rule self.now.net.now self.now.schedule.now.order.items marks.old planes.old }
         requires marked { AreMarkedWithin marks.old 0 0 span.begin span.end }
         ensures ran { Ran self.now.rule self.now.net.now planes.old planes.new }
         ensures planes { AreAllPlanes planes.new }
         ensures within { result.end ≤ length marks.old }
-        ensures due { AreDue
+        ensures due { AreDueBelow end
             self.now.rule self.now.net.now self.now.schedule.now.order.items marks.new planes.new }
         ensures marked { AreMarkedWithin marks.new 0 0 result.begin result.end }
         ensures less { result.begin < result.end
@@ -209,8 +261,12 @@ impl<'a> Pass<'a> {
             begin: marks.len(),
             end: 0,
         };
+        let to = Reach {
+            words: span.end,
+            places: end,
+        };
         for word in span.begin..span.end {
-            next = self.sweep_word(word, span.end, marks, planes, next);
+            next = self.sweep_word(word, to, marks, planes, next);
         }
         next
     }
@@ -220,7 +276,7 @@ impl<'a> Pass<'a> {
     fn sweep_word(
         &self,
         word: usize,
-        to: usize,
+        to: Reach,
         marks: &mut [u64],
         planes: &mut [Pair],
         span: Span,
@@ -232,15 +288,16 @@ impl<'a> Pass<'a> {
         requires planes { AreAllPlanes planes.old }
         requires marks { length marks.old
             ≡ length self.now.schedule.now.order.items / 64 + 1 }
+        requires end { to.places ≤ length self.now.schedule.now.order.items }
         requires word { word < length marks.old }
-        requires due { AreDue
+        requires due { AreDueBelow to.places
             self.now.rule self.now.net.now self.now.schedule.now.order.items marks.old planes.old }
-        requires within { AreMarkedWithin marks.old word to span.begin span.end }
+        requires within { AreMarkedWithin marks.old word to.words span.begin span.end }
         ensures ran { Ran self.now.rule self.now.net.now planes.old planes.new }
         ensures planes { AreAllPlanes planes.new }
-        ensures due { AreDue
+        ensures due { AreDueBelow to.places
             self.now.rule self.now.net.now self.now.schedule.now.order.items marks.new planes.new }
-        ensures within { AreMarkedWithin marks.new (word + 1) to result.begin result.end }
+        ensures within { AreMarkedWithin marks.new (word + 1) to.words result.begin result.end }
         ensures bound { span.end ≤ length marks.old → result.end ≤ length marks.old }
         ensures less { (result ≡ span)
             ⊎ (weight self.now.rule planes.new < weight self.now.rule planes.old) }
@@ -254,13 +311,13 @@ impl<'a> Pass<'a> {
         next
     }
 
-    // Evaluates the gate at a place, if there is one, and marks what reads it, if this changed it. Each other gate is
-    // marked, if it would change.
+    // Evaluates the gate at a place, if the sweep comes to it, and marks what reads it, if this changed it. Each other gate
+    // is marked, if it would change.
     #[inline(always)]
     fn visit(
         &self,
         place: usize,
-        to: usize,
+        to: Reach,
         marks: &mut [u64],
         planes: &mut [Pair],
         span: Span,
@@ -272,21 +329,22 @@ impl<'a> Pass<'a> {
         requires planes { AreAllPlanes planes.old }
         requires marks { length marks.old
             ≡ length self.now.schedule.now.order.items / 64 + 1 }
+        requires end { to.places ≤ length self.now.schedule.now.order.items }
         requires place { place / 64 < length marks.old }
-        requires due { AreDueBut place
+        requires due { AreDueBut place to.places
             self.now.rule self.now.net.now self.now.schedule.now.order.items marks.old planes.old }
-        requires within { AreMarkedWithin marks.old (place / 64) to span.begin span.end }
+        requires within { AreMarkedWithin marks.old (place / 64) to.words span.begin span.end }
         ensures ran { Ran self.now.rule self.now.net.now planes.old planes.new }
         ensures planes { AreAllPlanes planes.new }
-        ensures due { AreDue
+        ensures due { AreDueBelow to.places
             self.now.rule self.now.net.now self.now.schedule.now.order.items marks.new planes.new }
-        ensures within { AreMarkedWithin marks.new (place / 64) to result.begin result.end }
+        ensures within { AreMarkedWithin marks.new (place / 64) to.words result.begin result.end }
         ensures bound { span.end ≤ length marks.old → result.end ≤ length marks.old }
         ensures less { ((result ≡ span) × (marks.new ≡ marks.old)
             × (weight self.now.rule planes.new ≡ weight self.now.rule planes.old))
             ⊎ (weight self.now.rule planes.new < weight self.now.rule planes.old) }
     {
-        if place >= self.schedule.order.len() {
+        if place >= to.places {
             return span;
         }
         if self.evaluate(place, planes) {

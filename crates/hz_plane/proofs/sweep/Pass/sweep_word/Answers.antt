@@ -8,7 +8,7 @@ loop-marks-preserved c = record {
   ran = ran-then c.args.self.now.rule c.args.self.now.net.now c.args.planes.now c.loop-marks.planes c.visit-next.new.planes c.loop-marks.invariant.ran c.visit-next.ensures.ran;
   planes = c.visit-next.ensures.planes;
   due = c.visit-next.ensures.due;
-  within = subst (λ (n : ℕ). AreMarkedWithin c.visit-next.new.marks n c.args.to c.visit-next.result.begin c.visit-next.result.end) c.take-place.ensures.word c.visit-next.ensures.within;
+  within = subst (λ (n : ℕ). AreMarkedWithin c.visit-next.new.marks n c.args.to.words c.visit-next.result.begin c.visit-next.result.end) c.take-place.ensures.word c.visit-next.ensures.within;
   bound = λ few. omega (arith, c.loop-marks.invariant.bound few, c.loop-marks.auto.marks, c.take-place.auto.marks, c.visit-next.ensures.bound);
   less = elim c.visit-next.ensures.less [
     | inl same ↦ elim c.loop-marks.invariant.less [
