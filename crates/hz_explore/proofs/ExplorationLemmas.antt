@@ -21,7 +21,7 @@ use Rattle.hz_reach.specs.Counts.{EndsByChanges}
 use Rattle.hz_timing.specs.declared.script.Assumption.{Assumption}
 use Rattle.hz_edge_reports.specs.EdgeChanges.{ChangeOf, IsNextStart}
 use Rattle.hz_explore.specs.Bursts.{applies}
-use Rattle.hz_explore.specs.Reached.{nodes_of, input_after, Settles, SettlesUnder, Leads, LeadTo, IsReached}
+use Rattle.hz_explore.specs.Reached.{nodes_of, input_after, AreResults, Settles, SettlesUnder, Leads, LeadTo, IsReached}
 use Rattle.hz_explore.specs.Transitions.{Outcome, Settled, Unsettled, Transition, IsRightOutcome, IsRightTransition, AreTransitions, end_of, ends_of}
 use Rattle.hz_explore.specs.Counts.{Clean, count_of, count_of_outcome, is_hazard, is_not_settled, is_shown}
 use Rattle.hz_explore.specs.Exploration.{Explored, ChangesOnce, ComesTo, IsExploration, IsOfAllRuns, IsTransitionAt, all_nodes, all_transitions, hazards_in, is_whole, state_of, unsettled_in}
@@ -175,7 +175,7 @@ module _ (netlist : Netlist) (cap : ℕ) (assumptions : List Assumption) (bursts
         (one, at.1, at.2, clean-safe netlist cap assumptions one clean at.2 inside)
 
     -- in the words of the state and the burst
-    pub safe-at : (one : Transition) × IsTransitionAt explored state burst one × (is_shown one.found.used one.found.kept ≡ true) × ((i : ℕ) → i < length netlist.names → ChangesOnce one.found.used (network_of netlist) (input_after netlist state burst) state i)
+    pub safe-at : (one : Transition) × IsTransitionAt explored state burst one × IsRightTransition netlist cap assumptions one × (is_shown one.found.used one.found.kept ≡ true) × ((i : ℕ) → i < length netlist.names → ChangesOnce one.found.used (network_of netlist) (input_after netlist state burst) state i)
     safe-at =
         let at = all-safe in
         let one : Transition = at.0 in
@@ -184,6 +184,7 @@ module _ (netlist : Netlist) (cap : ℕ) (assumptions : List Assumption) (bursts
         at.2.from.given ∙ (ap (λ (s : List Bool). input_after netlist s one.burst) at.1.start ∙ ap (input_after netlist state) at.1.by) in (
           one,
           at.1,
+          at.2,
           at.3.shown,
           λ i node.
               subst (λ (from : List Bool). ChangesOnce one.found.used (network_of netlist) (input_after netlist state burst) from i) begins
@@ -210,6 +211,7 @@ module _ (netlist : Netlist) (cap : ℕ) (bursts : List (List (ℕ × Bool))) (s
         is_plain : IsPlain netlist cap one.found
         is_plain = plain netlist cap one.found right.right
 
+        results : AreResults netlist one.start one.burst one.found.a one.found.b
         results = results-of netlist cap one.start one.burst one.found right.from right.right
 
         same_a : one.found.a ≡ settles.a
@@ -257,8 +259,7 @@ module _ (netlist : Netlist) (cap : ℕ) (bursts : List (List (ℕ × Bool))) (s
         ChangesAtMost (network_of netlist) (input_after netlist state burst) state i 1
     plain-safe hazards unsettled state burst i there listed can node =
         let at = safe-at netlist cap [] bursts start steps explored are whole hazards unsettled state burst there listed can in
-        let right = all-safe netlist cap [] bursts start steps explored are whole hazards unsettled state burst there listed can in
-        subst (λ (used : List Order). ChangesOnce used (network_of netlist) (input_after netlist state burst) state i) (none-used netlist cap right.0.found right.2.right) (at.3 i node)
+        subst (λ (used : List Order). ChangesOnce used (network_of netlist) (input_after netlist state burst) state i) (none-used netlist cap at.0.found at.2.right) (at.4 i node)
 
   pub of-all-runs : All (λ (one : Explored). IsReached (SettlesUnder netlist cap []) bursts start (state_of netlist one)) explored → IsThere netlist explored start → IsOfAllRuns netlist bursts start explored
   of-all-runs led first = record {
@@ -295,8 +296,10 @@ is-exploration ends netlist cap assumptions bursts start circuit steps stable ex
       led = led;
       once = subst (IsDistinct same_state) done so_far.once;
       stays = λ whole state reached. (all-there netlist cap assumptions bursts start steps explored so_far.transitions whole reached.0 start state first reached.1).has;
-      safe = λ whole hazards unsettled state burst reached.
+      safe = λ whole hazards unsettled state burst reached listed can.
+          let at =
           safe-at netlist cap assumptions bursts start steps explored so_far.transitions whole hazards unsettled state burst
-          (all-there netlist cap assumptions bursts start steps explored so_far.transitions whole reached.0 start state first reached.1);
+          (all-there netlist cap assumptions bursts start steps explored so_far.transitions whole reached.0 start state first reached.1) listed can in
+          (at.0, at.1, at.3, at.4);
       all_runs = λ none. of-none netlist cap assumptions bursts start explored none steps so_far.transitions led first;
     }

@@ -30,3 +30,5 @@ pub mod ChangeLemmas
 pub mod OnlyParts
 -- The numbers of assumptions, one after the other
 pub mod NumberLemmas
+-- A room before and after a change
+pub mod RoomLemmas

@@ -1,11 +1,11 @@
 -- What is found of a change that uses no order is right of all runs. So is each change if nothing is assumed.
-use Rattle.std.proofs.Common.{◌≡◌, ◌∙◌, refl, sym, ap, subst, inl, inr, ℕ, ◌<◌, ◌⊎◌, Bool, List, [], ◌∷◌, length, map, arith}
+use Rattle.std.proofs.Common.{◌≡◌, ◌∙◌, refl, sym, ap, subst, inl, inr, ℕ, ◌<◌, ◌⊎◌, Bool, List, [], ◌∷◌, length, map, true, false, arith}
 use Rattle.hz_core.specs.declared.tri.Tri.{Tri}
 use Rattle.hz_core.specs.declared.tri.Tri.TheVariants.{Unknown}
 use Rattle.hz_core.specs.Ternary.{tri_of, Refines}
 use Rattle.hz_core.specs.Netlist.{Netlist}
 use Rattle.hz_core.proofs.Refinements.{same-Refines}
-use Rattle.hz_net.specs.Network.{Driver, network_of, value_at, bit_at}
+use Rattle.hz_net.specs.Network.{network_of, value_at, bit_at, excitation}
 use Rattle.hz_net.specs.Passes.{algorithm_a, algorithm_b, IsKnown, IsResult}
 use Rattle.hz_net.specs.Starts.{IsStableStart}
 use Rattle.hz_net.proofs.Ranks.{at-tri_of}
@@ -19,7 +19,7 @@ use Rattle.hz_orders.specs.Tabled.{AreTabled}
 use Rattle.hz_seq.specs.Sequence.{IsFirstUnknown, IsSettledAt}
 use Rattle.hz_edge_reports.specs.EdgeChanges.{ChangeOf, AreRightUnder, IsChangeFrom, IsNextStart, IsRightChange, IsStopper, IsUnstableVariable}
 use Rattle.hz_explore.specs.Exploration.{IsOutcomeUnder}
-use Rattle.hz_explore.specs.Reached.{AreResults, Settles, SettlesUnder}
+use Rattle.hz_explore.specs.Reached.{AreResults, input_after, Settles, SettlesUnder}
 
 -- each variable comes to what Algorithm B says, and what is told of edges is right of all runs
 pub record IsPlain (netlist : Netlist) (cap : ℕ) (found : ChangeOf) : Type 0 where
@@ -38,7 +38,7 @@ plain netlist cap found right =
 -- the results of both algorithms are those of the burst
 pub results-of : (netlist : Netlist) (cap : ℕ) (state : List Bool) (burst : List (ℕ × Bool)) (found : ChangeOf) → IsChangeFrom netlist state burst found → IsRightChange netlist cap [] found → AreResults netlist state burst found.a found.b
 results-of netlist cap state burst found from right = record {
-  a_result = subst (λ (begin : List Bool). IsResult (algorithm_a (network_of netlist) _ begin) found.a) from.begins
+  a_result = subst (λ (begin : List Bool). IsResult (algorithm_a (network_of netlist) (input_after netlist state burst) begin) found.a) from.begins
       (subst (λ (input : List Bool). IsResult (algorithm_a (network_of netlist) input found.start) found.a) from.given right.a);
   b_result = subst (λ (input : List Bool). IsResult (algorithm_b (network_of netlist) input found.a) found.b) from.given right.b;
 }
@@ -75,4 +75,4 @@ never-stopped netlist cap found next var is settled (inr (state, there, least)) 
     same-Refines (end_of found.start found.edges.steps) state (subst (Refines (end_of found.start found.edges.steps)) (sym is.ends ∙ there) is.edges.witness.values) in
     let known : IsKnown (value_at found.b var) = λ unknown. known-bit (bit_at state var) (sym (at-tri_of state var) ∙ (ap (λ (values : List Tri). value_at values var) (sym there ∙ is.ends) ∙ unknown)) in
     let stable = is.edges.witness.stable var least.here.0 known in
-    least.here.1 (subst (λ (now : List Bool). bit_at now var ≡ _) same (subst (λ (now : List Bool). bit_at _ var ≡ _) same stable))
+    least.here.1 (subst (λ (now : List Bool). bit_at now var ≡ excitation (network_of netlist) found.input now var) same stable)

@@ -93,10 +93,10 @@ pub record IsMade (netlist : Netlist) (cap : ℕ) (assumptions : List Assumption
 pub record Makes (netlist : Netlist) (cap : ℕ) (assumptions : List Assumption)
     (bursts : List (List (ℕ × Bool))) (state : List Bool) (made : List Transition)
     (was now : ExploreRoom) (failed : Bool) : Type 0 where
-    pub transitions : AreTransitions netlist cap assumptions bursts state made
-    pub found : failed ≡ false → now.states ≡ found_by was.states (ends_of netlist made)
-    pub counts : failed ≡ false → (before : List Transition) → Counts netlist before was →
-        Counts netlist (before ++ made) now
+  pub transitions : AreTransitions netlist cap assumptions bursts state made
+  pub found : failed ≡ false → now.states ≡ found_by was.states (ends_of netlist made)
+  pub counts : failed ≡ false → (before : List Transition) → Counts netlist before was →
+      Counts netlist (before ++ made) now
 
 -- what the changes of an exploration have in common is right
 pub record IsExploring (exploring : Exploring) : Type 0 where

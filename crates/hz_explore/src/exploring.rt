@@ -109,7 +109,12 @@ fn write_report<K: Sink>(
         out.old out.new result }
 {
     let mut writer = Writer::new(out);
-    write_head(&mut writer, exploring.making.net, exploring.making.free, start);
+    write_head(
+        &mut writer,
+        exploring.making.net,
+        exploring.making.free,
+        start,
+    );
     write_states(&mut writer, exploring, room);
     write_last(&mut writer, room);
     writer.finish()
@@ -182,7 +187,12 @@ fn write_state<K: Sink>(
         ≤ changes_in room.old.totals + length (bursts_in exploring.now.bursts.now) }
 {
     room.go_to(exploring.making.net, number);
-    write_nodes(writer, exploring.making.net, number + 1, room.nodes.as_slice());
+    write_nodes(
+        writer,
+        exploring.making.net,
+        number + 1,
+        room.nodes.as_slice(),
+    );
     write_changes(writer, exploring, room, number + 1);
 }
 

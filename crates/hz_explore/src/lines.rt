@@ -1,11 +1,12 @@
 //! The lines of an exploration.
-ghost use Rattle.std.specs.Prelude.{◌≡◌, ◌<◌, ◌≤◌, ◌++◌, ◌⊎◌, codes, decimal, length, All, IfSome};
+ghost use Rattle.std.specs.Prelude.{◌≡◌, ◌<◌, ◌≤◌, ◌+◌, ◌++◌, ◌⊎◌, codes, decimal, length, nat_eq, All, IfSome};
+ghost use Rattle.std.specs.List.{list_any};
 ghost use Rattle.hz_net.specs.Network.{IsVariable};
 ghost use Rattle.hz_write.specs.Writer.{Writes, NoneWaits};
 ghost use Rattle.hz_write.specs.Writes.{newline};
 ghost use Rattle.hz_text.specs.VariableWord.{spaced_word};
 ghost use Rattle.hz_timing.specs.declared.script.Assumption.TheVariants.{Ideal, Order as Assumed};
-ghost use Rattle.hz_explore.specs.ExploreText.{burst_text, counts_text, maybe_static_text, number_text, rest_on, same_order, state_line, totals_text, used_numbers, used_text, whole_word};
+ghost use Rattle.hz_explore.specs.ExploreText.{burst_text, counts_text, maybe_static_text, number_text, rest_on, same_order, state_line, totals_text, used_number, used_numbers, used_text, whole_word};
 ghost use Rattle.hz_explore.specs.Inside.{changes_in, end_text, most_changes, IsTellable};
 
 use crate::counting::{Classes, Totals};
@@ -62,7 +63,12 @@ pub(crate) fn write_made<K: Sink>(
 {
     writer.add(&[Number(taken.number)]);
     write_end(writer, making, taken.burst, made);
-    write_used(writer, making.assumptions, change.used.as_slice(), change.kept);
+    write_used(
+        writer,
+        making.assumptions,
+        change.used.as_slice(),
+        change.kept,
+    );
     writer.end();
 }
 
@@ -214,9 +220,33 @@ fn rest_on(used: &[Order], given: Assumption) -> bool
     ensures { result ≡ rest_on used.now given }
 {
     match given {
-        Assumption::Order(order) => used.iter().any(|other| is_same(order, *other)),
-        Assumption::Ideal(wire) => used.iter().any(|other| other.first == wire),
+        Assumption::Order(order) => has_order(used, order),
+        Assumption::Ideal(wire) => has_first(used, wire),
     }
+}
+
+// Whether an order is one of these.
+fn has_order(used: &[Order], order: Order) -> bool
+    ensures { result ≡ list_any (same_order order) used.now }
+{
+    for other in used {
+        if is_same(order, *other) {
+            return true;
+        }
+    }
+    false
+}
+
+// Whether a wire is the first one of one of these orders.
+fn has_first(used: &[Order], wire: u32) -> bool
+    ensures { result ≡ list_any (λ order. nat_eq order.first wire) used.now }
+{
+    for other in used {
+        if other.first == wire {
+            return true;
+        }
+    }
+    false
 }
 
 // Whether two orders are the same.

@@ -1,11 +1,11 @@
 -- One node more.
-use Rattle.std.proofs.Common.{◌≡◌, ◌∙◌, sym, ap, ℕ, List, [], ◌∷◌, ◌++◌, map, zero-add, arith}
+use Rattle.std.proofs.Common.{◌≡◌, ◌∙◌, sym, ap, ℕ, false, List, [], ◌∷◌, ◌++◌, map, zero-add, arith}
 use Rattle.std.specs.List.{range_with_len}
 use Rattle.std.proofs.lemmas.List.{get_or_default}
 use Rattle.std.proofs.lemmas.List.FromFn.{map-range_with_len_more}
 use Rattle.hz_core.specs.declared.tri.Tri.TheVariants.{Zero}
 use Rattle.hz_bounds.specs.declared.range.EdgeClass.{EdgeClass}
-use Rattle.hz_net.specs.Network.{value_at}
+use Rattle.hz_net.specs.Network.{bit_at, value_at}
 use Rattle.hz_edge_reports.specs.Room.{change_of}
 use Rattle.hz_explore.specs.declared.counting.Classes.{Classes}
 use Rattle.hz_explore.specs.Transitions.{class_at}
@@ -38,7 +38,8 @@ loop-node-preserved c =
     let node = c.loop-node.node in
     let found = change_of c.args.change.now in
     let so_far : List EdgeClass = map (class_at found) (range_with_len 0 node) in
-    let there : c.index-2.result.now ≡ value_at found.ends node = c.index-2.ensures ∙ sym (get_or_default found.ends node Zero c.index-2.result.now (omega (arith, c.loop-node-test.true, c.requires.ends))) in
-    let here : c.edge_class-class.result ≡ class_at found node = rw (there, c.range.ensures) at c.edge_class-class.ensures in
+    let begins : c.index.result.now ≡ bit_at found.start node = c.index.ensures ∙ sym (get_or_default found.start node false c.index.result.now (omega (arith, c.loop-node-test.true, c.requires.start))) in
+    let ends : c.index-in-loop-node.result.now ≡ value_at found.ends node = c.index-in-loop-node.ensures ∙ sym (get_or_default found.ends node Zero c.index-in-loop-node.result.now (omega (arith, c.loop-node-test.true, c.requires.ends))) in
+    let here : c.edge_class-class.result ≡ class_at found node = rw (begins, ends, c.range.ensures) at c.edge_class-class.ensures in
     c.count.ensures so_far c.loop-node.invariant
     ∙ ap classes_of (ap (λ (class : EdgeClass). so_far ++ class ∷ []) here ∙ sym (map-range_with_len_more (class_at found) 0 node node (zero-add node)))

@@ -8,6 +8,7 @@ use Rattle.hz_explore.specs.Transitions.{Transition, AreTransitions}
 use Rattle.hz_explore.proofs.TransitionLemmas.{transition-one}
 use Rattle.hz_explore.proofs.MakesLemmas.{makes-failed}
 use Rattle.hz_explore.proofs.ChangeLemmas.{made-one, not-made}
+use Rattle.hz_explore.proofs.RoomLemmas.{tellable}
 use Rattle.hz_explore.proofs.StepLemmas.{transition-exists}
 use Rattle.hz_explore.proofs.exploring.write_change.Goals as goal
 
@@ -64,3 +65,7 @@ returns-in-Err-clause-gave g c =
       makes-failed netlist making.cap making.assumptions.now state (burst ∷ []) (one.0 ∷ []) was c.make.new.self (has_failed c.give_up.new.self) c.give_up.ensures.failed are,
       λ all ext. writes_then c.give_up.ensures.gave (writes_failed _ c.give_up.ensures.failed) refl,
     )
+
+pub write_made-requires-clause-end : goal.write_made-requires-clause-end
+write_made-requires-clause-end g c =
+    tellable c.args.exploring.now.making c.args.room.now.start.items c.args.taken.now.burst.now c.args.room.now c.make.new.self c.requires.exploring.making c.requires.start c.requires.states c.in-Ok.made c.in-Ok.ensures.made

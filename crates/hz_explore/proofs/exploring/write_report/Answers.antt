@@ -41,7 +41,7 @@ returns g c =
     ap (expansion_of netlist) first ∙ sym (stable-expansion_of netlist (take netlist.inputs start) start c.requires.exploring.making.circuit c.requires.start.long c.requires.start.stable) in
     let made = c.write_states.ensures.gave in
     let explored = made.0 in
-    let cycles = c.args.exploring.now.free.now.cycles in
+    let cycles = c.args.exploring.now.making.free.now.cycles in
     let head = head_text netlist cycles start in
     let whole : (head ++ all_explored_text netlist assumptions (all_nodes explored) 1 explored) ++ totals_line netlist explored ≡ head ++ exploration_text netlist assumptions explored =
     append_assoc head (all_explored_text netlist assumptions (all_nodes explored) 1 explored) (totals_line netlist explored) in
