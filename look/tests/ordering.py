@@ -13,7 +13,7 @@ n5 = NAND(dn, cn)\nq_bar_n = NAND(dn, n3)\ndn = NAND(q_bar_n, n2)\nn3 = NAND(n1,
 PRESET = """INPUT(d)\nINPUT(en)\nINPUT(clr)\nINPUT(pre)\nn6 = NOT(n20)\nn7 = NOT(n6)\nn8 = AND(n6, n12)\nn9 = AND(n7, q)\nq = OR(n8, n9)
 n10 = NOT(clr)\nn11 = AND(n10, n16)\nn12 = BUFF(n11)\nn13 = NOT(pre)\nn14 = AND(n13, d)\nn15 = BUFF(pre)\nn16 = OR(n14, n15)\nn17 = NOT(clr)
 n18 = NOT(pre)\nn19 = NOT(en)\nn20 = AND(n17, n18, n19)\n"""
-STARTS = "start r=1 s=1\norder q(1) q(2)\nchange r=0 s=0\nchange s=1\nstart r=1 s=0\nchange s=1 #expect q steady\nchange r=0 s=0\nchange r=1 #expect settled\n"
+STARTS = "start r=1 s=1\norder z(1) z(2)\nchange r=0 s=0\nchange s=1\nstart r=1 s=0\nchange s=1 #expect q steady\nchange r=0 s=0\nchange r=1 #expect settled\n"
 # What no order mends, as the wires that race come from different inputs, or there is no hazard at all.
 STAY = {"mutex": "no order helps; left: 4 hazards: free1 unsettled in change 1, ", "latch": "no order helps; left: 2 hazards: q unsettled in change 1, ",
         "celement": "no hazard, so no order is needed\n"}
@@ -110,18 +110,20 @@ def _is_clean(hazard, bench, text, node):
 def _jobs(folder, run, call, write, example):
     """Jobs on a script with orders and two starts."""
     bench, script = example("latch")[0], write(folder, "two.txt", STARTS)
-    summary = call(["summary", bench, script])[1].splitlines()
+    with open(bench, encoding="utf-8") as file:
+        beside = write(folder, "beside.bench", file.read() + "z = AND(r, s)\n")
+    summary = call(["summary", beside, script])[1].splitlines()
     yield "summary", [line for line in summary if line[:1].isdigit() or "under" in line], [
-        "1 r=0 s=0: 2 hazards: q unsettled, qb unsettled", "  under order q(1) q(2)", "3 s=1: clean", "4 r=0 s=0: 2 hazards: q unsettled, qb unsettled", "  under order q(1) q(2)",
+        "1 r=0 s=0: 2 hazards: q unsettled, qb unsettled", "  under order z(1) z(2)", "3 s=1: clean", "4 r=0 s=0: 2 hazards: q unsettled, qb unsettled", "  under order z(1) z(2)",
         "2: not analysed, q did not settle in change 1", "5: not analysed, q did not settle in change 4"]
-    data = json.loads(call(["summary", "--json", bench, script])[1])
+    data = json.loads(call(["summary", "--json", beside, script])[1])
     yield "summary as data", ([change.get("under") for change in data["changes"]], data["not analysed"]["more"]), (
-        [["q(1) q(2)"], None, ["q(1) q(2)"]], [{"first": 5, "last": 5, "node": "q"}])
-    status, text = call(["expect", bench, script])
+        [["z(1) z(2)"], None, ["z(1) z(2)"]], [{"first": 5, "last": 5, "node": "q"}])
+    status, text = call(["expect", beside, script])
     yield "expect", (status, text.splitlines()[-2:]), (1, [
         f"{script}:8: change 5 is not analysed, q did not settle in change 4: 1 expectation not checked", "2 expectations, 0 failed, 1 not checked"])
-    page = json.loads(re.search(r"^const DATA = (.*);$", call(["page", bench, script])[1], re.M)[1])
-    yield "page", [change.get("under") for change in page["changes"]], [["under order q(1) q(2)"], None, None, ["under order q(1) q(2)"], None]
+    page = json.loads(re.search(r"^const DATA = (.*);$", call(["page", beside, script])[1], re.M)[1])
+    yield "page", [change.get("under") for change in page["changes"]], [["under order z(1) z(2)"], None, None, ["under order z(1) z(2)"], None]
     gate, lines = write(folder, "or.bench", "INPUT(a)\nINPUT(b)\ng = OR(a, b)\n"), ["start a=0 b=0\n", "order g(1) g(2)\n", "change a=1 b=1  #expect never g=1 a=0\n"]
     for name, kept_lines, status in (("with", lines, 0), ("without", lines[::2], 1)):
         yield f"a state {name} an order that bars it", call(["expect", gate, write(folder, "never.txt", "".join(kept_lines))])[0], status

@@ -1,7 +1,7 @@
 -- Words, with their arguments, in the order in which one needs them.
 --
 -- FollowsFrom net input start wire order: every run along which the wire is ideal keeps the order
--- AreFound net input start assumptions found idle: the orders that a change finds by assumptions, and how many are idle
+-- AreFound net input start assumptions found idle: the orders that assumptions come to in a change, and how many are idle
 -- AreUsed net input start cap assumptions told used idle: those of them whose gate has a table are used
 -- AreEdgesUnder orders net input start ends kept edges: what is told of edges is right of all runs that keep the orders
 -- ChangeOf: what is found of a change

@@ -19,7 +19,7 @@ pub record FollowsFrom (net : List Driver) (input start : List Bool) (wire : ℕ
   pub kept : (steps : List (List ℕ)) → IsRun net input start steps →
       IsIdeal net input start steps wire → KeepsOrder start steps order
 
--- The orders that a change finds, in the order of the assumptions, and how many are idle. Of an order that is assumed: it is found if its
+-- The orders that assumptions come to in a change, in their order, and how many are idle. Of an order that is assumed: it is found if its
 -- first wire must move, and else it is idle. Of a wire without delay: orders that follow from it.
 abbrev pub AreFound : List Driver → List Bool → List Bool → List Assumption → List Order → ℕ → Type 0
 AreFound net input start [] found idle = (found ≡ []) × (idle ≡ 0)
@@ -33,7 +33,7 @@ AreFound net input start (assumed.Ideal wire ∷ later) found idle =
     × All (FollowsFrom net input start wire) own
     × AreFound net input start later rest idle
 
--- The orders that a change uses: of those that it finds the ones whose gate has a table, by words that are inductive under these. If one
+-- The orders that a change uses: of those that are found the ones whose gate has a table, by words that are inductive under these. If one
 -- is used, the words are those that are told of the change. A gate without a table is bounded as without orders.
 pub record AreUsed (net : List Driver) (input start : List Bool) (cap : ℕ)
     (assumptions : List Assumption) (told : List Word) (used : List Order) (idle : ℕ)

@@ -1,4 +1,4 @@
--- What orders are found by. Words about the inside of hz_edge_reports.
+-- By what orders are found. Words about the inside of hz_edge_reports.
 use Rattle.std.specs.Prelude.{◌≡◌, ℕ, ◌≤◌, List, [], ◌∷◌, ◌++◌}
 use Rattle.hz_core.specs.declared.tri.Tri.{Tri}
 use Rattle.hz_core.specs.Netlist.{IsCircuit, IsWhole}
@@ -28,7 +28,7 @@ pub record IsKnown (known : Known) : Type 0 where
       IsInductive (network_of known.net.now) known.input.now known.start.now known.cap
       known.told.now
 
--- An assumption adds orders to those that are found: the orders that the change finds by this assumption alone, of which so many are idle.
+-- An assumption adds orders to those that are found: the orders that this assumption alone comes to, of which so many are idle.
 pub record AddsFound (known : Known) (given : Assumption) (old new : List Order) (idle : ℕ)
     : Type 0 where
   pub own : List Order
