@@ -17,9 +17,9 @@ from .moves import is_clean, kind_of
 from .summary import meaning, under
 from .waves import LEGEND, drawn, waves
 
-# How many variables and how many steps a waveform shows.
+# How many variables and how many steps a waveform shows: between two edges may be many steps, but of an end or a cycle the last ones tell enough.
 MOST_WAVES = 40
-MOST_STEPS = 200
+MOST_STEPS, MOST_LAST = 200, 40
 
 
 class Shown(NamedTuple):
@@ -232,7 +232,7 @@ def _write(out, searcher, name, shown):
     out.write(f", of which the last {len(shown.cycle)} turn again and again\n" if shown.cycle else "\n")
     for line in shown.told:
         out.write(f"  {line}\n")
-    begin = max(0, len(steps) - MOST_STEPS)
+    begin = max(0, len(steps) - (MOST_STEPS if shown.cycle is None else MOST_LAST))
     if begin:
         out.write(f"the steps from {begin + 1} on; --save keeps all\n")
     rows = waves(follower, steps, _variables(searcher, node, steps), begin)
