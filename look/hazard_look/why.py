@@ -49,13 +49,14 @@ def run(words, out):
         return DONE
     for line in cover.told(circuit, change, row):
         out.write(f"  {line}\n")
-    searcher, shown = explained(words, Network(circuit, is_sorted=True), change, row)
+    network = Network(circuit, is_sorted=True)
+    searcher, shown = explained(words, network, change, row)
     if shown:
         _write_shown(words, out, searcher, change, row, shown)
     else:
         out.write(f"  no run that keeps the orders was found in which {row.name} moves so, which is no proof that there is none\n")
     if not is_clean(row) and change.kept:
-        out.write("\n" + "".join(f"{line}\n" for line in _orders(words, circuit, change, row.name)))
+        out.write("\n" + "".join(f"{line}\n" for line in _orders(words, network, change, row.name)))
     return DONE
 
 
@@ -72,11 +73,12 @@ def _write_shown(words, out, searcher, change, row, shown):
         _write_in_front(out, searcher.network, change.rows, row.name)
 
 
-def _orders(words, circuit, change, node):
+def _orders(words, network, change, node):
     """The lines of a script under which a node is clean in a change, each with its sentence."""
+    circuit = network.netlist
     if len(circuit.nodes) > MOST_MENDED:
         return [f"no order that makes {node} clean was looked for, as the circuit is large; `hazard-look orders` looks for those of all nodes"]
-    found = Mender(words, circuit, Network(circuit, is_sorted=True), change, node).found()
+    found = Mender(words, circuit, network, change, node).found()
     if not found:
         return [f"no order of wires was found that makes {node} clean"]
     if len(found[0]) > 1:
