@@ -100,7 +100,7 @@ class Mender:
         """What may be assumed, more and more of it: orders at the roots, at all gates with a hazard, and wires without delay besides."""
         names, block = self.roots + self.names, []
         for some, is_ideal in ((self.roots, False), (names, False), (names, True)):
-            wider = self._candidates(some, is_ideal) + (block if is_ideal else [])
+            wider = (block if is_ideal else []) + self._candidates(some, is_ideal)
             if len(wider) > len(block):
                 block = wider
                 yield block
