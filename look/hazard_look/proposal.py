@@ -68,7 +68,7 @@ def candidates(circuit, ranks, names, is_ideal=False):
 def _hazards(circuit, change, at_roots):
     """The gates that have a hazard in a change, or the roots of these alone."""
     names = [row.name for row in change.rows.values() if not is_clean(row) and row.name in circuit.gate_of]
-    found = roots(circuit, names) if at_roots else names
+    found = roots(circuit, names) if at_roots else set(names)
     return [name for name in names if name in found]
 
 
@@ -78,7 +78,7 @@ class Mender:
     def __init__(self, words, circuit, network, change, node):
         self.words, self.node, self.network, self.calls = words, node, network, 0
         self.ranks, cone = Ranks(network, change.rows), network.cone(network.number[node])
-        self.names = [name for at_roots in (True, False) for name in _hazards(circuit, change, at_roots) if network.number[name] in cone]
+        self.roots, self.names = ([name for name in _hazards(circuit, change, at_roots) if network.number[name] in cone] for at_roots in (True, False))
         given = [statement for statement in script.read(words.script) if statement.keyword in script.ASSUMING]
         self.stated, self.rooms = _stated(given), (MOST_ORDERS - len(given), MOST_IDEALS - len(given))
         self.before = [f"start{spelt({row.name: row.start for row in change.rows.values()})}"] + script.assumptions_of(given)
@@ -87,19 +87,27 @@ class Mender:
     def found(self):
         """Assumptions of which each alone is enough: all orders of one gate that are; or, in a list of one list, some that are enough together,
         and none of which can go. An empty list if none are found. What may well be so is looked for first."""
-        orders = self._candidates(False)
-        for block in (orders, orders + self._candidates(True)):
-            if block and self._mends(block):
+        for block in self._blocks():
+            if self._mends(block):
                 least = self._least(block, [])
                 if len(least) > 1:
                     return [least] if self._mends(least, True) else []
                 return [least] + self._alone(self.network.gate[least[0].wires[0]], least)
-        roots = dict.fromkeys(map(self.network.number.get, self.names))
-        return next(filter(None, (self._alone(gate, []) for gate in list(roots)[:MOST_OTHERS])), [])
+        gates = [self.network.number[name] for name in dict.fromkeys(self.roots + self.names)]
+        return next(filter(None, (self._alone(gate, []) for gate in gates[:MOST_OTHERS])), [])
 
-    def _candidates(self, is_ideal):
+    def _blocks(self):
+        """What may be assumed, more and more of it: orders at the roots, at all gates with a hazard, and wires without delay besides."""
+        names, block = self.roots + self.names, []
+        for some, is_ideal in ((self.roots, False), (names, False), (names, True)):
+            wider = (block if is_ideal else []) + self._candidates(some, is_ideal)
+            if len(wider) > len(block):
+                block = wider
+                yield block
+
+    def _candidates(self, names, is_ideal):
         found = {}
-        for one in candidates(self.circuit, self.ranks, dict.fromkeys(self.names), is_ideal):
+        for one in candidates(self.circuit, self.ranks, dict.fromkeys(names), is_ideal):
             if one.key() not in self.stated:
                 found.setdefault(one.key(), one)
         return list(found.values())[:max(0, self.rooms[is_ideal])]

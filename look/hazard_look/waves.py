@@ -30,19 +30,22 @@ def waves(follower, steps, variables, begin=0):
 
 def drawn(rows, before=0):
     """The lines of some waves, a block after the other, under the numbers of the steps, of which some stand before. A step is an
-    edge or a level, and the state after it."""
+    edge or a level, and the state after it. Of several blocks each has the last row, and those that move in it."""
     width = max(len(row.name) for row in rows)
     steps = len(rows[0].values) - 1
     for begin in range(0, max(steps, 1), STEPS_A_BLOCK):
         places = range(begin + 1, min(begin + STEPS_A_BLOCK, steps) + 1)
-        yield (" " * (width + 2) + "".join(_label(before + place) for place in places)).rstrip()
+        yield (" " * (width + 2) + "".join(_labels([before + place for place in places], before + steps))).rstrip()
         for row in rows:
-            yield f"{row.name:<{width}} {_level(row, begin)}" + "".join(_step(row, place) for place in places)
+            if steps <= STEPS_A_BLOCK or row is rows[-1] or any(row.values[at] != row.values[at - 1] for at in places):
+                yield f"{row.name:<{width}} {_level(row, begin)}" + "".join(_step(row, place) for place in places)
 
 
-def _label(number):
-    """The number of a step in three characters; of a great number the last two digits."""
-    return f"{number:>3}" if number < 100 else f" {number % 100:02}"
+def _labels(numbers, last):
+    """The numbers of steps, of three characters each; each second one if some number needs three itself."""
+    if last < 100:
+        return [f"{number:>3}" for number in numbers]
+    return [f"{number:>6}" for number in numbers[1::2]]
 
 
 def _level(row, at):

@@ -17,9 +17,9 @@ from .moves import is_clean, kind_of
 from .summary import meaning, under
 from .waves import LEGEND, drawn, waves
 
-# How many variables and how many steps a waveform shows.
+# How many variables and how many steps a waveform shows: between two edges may be many steps, but of an end or a cycle the last ones tell enough.
 MOST_WAVES = 40
-MOST_STEPS = 200
+MOST_STEPS, MOST_LAST = 200, 40
 
 
 class Shown(NamedTuple):
@@ -49,13 +49,14 @@ def run(words, out):
         return DONE
     for line in cover.told(circuit, change, row):
         out.write(f"  {line}\n")
-    searcher, shown = explained(words, Network(circuit, is_sorted=True), change, row)
+    network = Network(circuit, is_sorted=True)
+    searcher, shown = explained(words, network, change, row)
     if shown:
         _write_shown(words, out, searcher, change, row, shown)
     else:
         out.write(f"  no run that keeps the orders was found in which {row.name} moves so, which is no proof that there is none\n")
     if not is_clean(row) and change.kept:
-        out.write("\n" + "".join(f"{line}\n" for line in _orders(words, circuit, change, row.name)))
+        out.write("\n" + "".join(f"{line}\n" for line in _orders(words, network, change, row.name)))
     return DONE
 
 
@@ -72,11 +73,12 @@ def _write_shown(words, out, searcher, change, row, shown):
         _write_in_front(out, searcher.network, change.rows, row.name)
 
 
-def _orders(words, circuit, change, node):
+def _orders(words, network, change, node):
     """The lines of a script under which a node is clean in a change, each with its sentence."""
+    circuit = network.netlist
     if len(circuit.nodes) > MOST_MENDED:
         return [f"no order that makes {node} clean was looked for, as the circuit is large; `hazard-look orders` looks for those of all nodes"]
-    found = Mender(words, circuit, Network(circuit, is_sorted=True), change, node).found()
+    found = Mender(words, circuit, network, change, node).found()
     if not found:
         return [f"no order of wires was found that makes {node} clean"]
     if len(found[0]) > 1:
@@ -232,7 +234,7 @@ def _write(out, searcher, name, shown):
     out.write(f", of which the last {len(shown.cycle)} turn again and again\n" if shown.cycle else "\n")
     for line in shown.told:
         out.write(f"  {line}\n")
-    begin = max(0, len(steps) - MOST_STEPS)
+    begin = max(0, len(steps) - (MOST_STEPS if shown.cycle is None else MOST_LAST))
     if begin:
         out.write(f"the steps from {begin + 1} on; --save keeps all\n")
     rows = waves(follower, steps, _variables(searcher, node, steps), begin)

@@ -59,6 +59,7 @@ def rows(folder, call, write, example, hazard):
     yield from _large(opened, call, write, folder)
     yield from looking.rows(opened, call, write, folder)
     yield from _lists(opened, call, write, folder)
+    yield from _cone(opened, call, write, folder)
     yield from _played(opened, call, write, folder)
     if exploring.is_known(hazard, example):
         yield from _states(opened, call, write, folder)
@@ -217,6 +218,14 @@ def _lists(opened, call, write, folder):
         const listed = () => [...document.querySelectorAll("#row .node")].filter(one => one.textContent.startsWith("h")).length;
         told.listed = [listed()]; told.more = document.querySelector("#row .more").textContent; document.querySelector("#row .more").click(); told.listed.push(listed());""")
     yield "a long list of hazards", (errors, told["listed"], told["more"]), ([], [200, 300], "show all 300")
+
+
+def _cone(opened, call, write, folder):
+    """Of a large circuit what moves is drawn before what is steady."""
+    steady, chain = ("".join(f"s{at} = AND(a, low)\n" for at in range(80)), "".join(f"g{at} = BUFF({f'g{at - 1}' if at else 'h'})\n" for at in range(30)))
+    page = call(["page", write(folder, "o.bench", f"INPUT(a)\nINPUT(low)\n{steady}n = NOT(a)\nh = AND(a, n)\n{chain}"), write(folder, "o.txt", "start a=0 low=0\nchange a=1\n")])[1]
+    told, errors = opened(page, 'tell("opened"); told.drawn = [...document.querySelectorAll("#drawing .box")].map(one => one.dataset.node);')
+    yield "the cone of a hazard", (errors, told["opened"]["chosen"], [f"g{at}" for at in range(30) if f"g{at}" not in told["drawn"]], {"a", "n", "h"} <= set(told["drawn"])), ([], "h", [], True)
 
 
 def _played(opened, call, write, folder):

@@ -61,6 +61,14 @@ def of_why(folder, run, write):
     write(folder, "w.bench", "INPUT(a)\nn = NOT(a)\nh = AND(a, n)\n" + gates)
     write(folder, "w.txt", "start a=0\nchange a=1\n")
     status, text, _ = run(["why", "w.bench", "w.txt", "g59999"], folder)
+    chain = "".join(f"c{at} = NOT({f'c{at - 1}' if at else 'r'})\n" for at in range(150))
+    write(folder, "l.bench", f"INPUT(r)\nINPUT(s)\n{chain}q = NOR(c149, qb)\nqb = NOR(s, q)\n")
+    long = run(["why", "l.bench", write(folder, "l.txt", "start r=1 s=1\nchange r=0 s=0\n"), "q"], folder)[1].splitlines()
+    yield "why of an unsettled node behind a long way", (len(long) < 100, "q ends at 0 if r, c0(1), c0, c1(1), .., c148, c149(1), c149, q(1) are slower than s, qb(1), qb, q(2)" in long[3],
+                                                         long[4:6]), (True, True, ["the steps from 267 on; --save keeps all", " " * 12 + "   ".join(map(str, range(268, 308, 2)))])
+    echo = run(["why", "l.bench", write(folder, "l.txt", "start r=0 s=0 q=1\nchange r=1\n"), "q"], folder)[1].splitlines()
+    moving = [line for line in echo if re.match(r"c\d", line)]
+    yield "rows of a block move in it", (len(moving) > 30, all("/" in line or "\\" in line for line in moving)), (True, True)
     yield "why of 60,000 gates", (status, "g59999 pulses if n(1), n, h(2) are slower than h(1), h" in text), (0, True)
 
 

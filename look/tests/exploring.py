@@ -112,6 +112,7 @@ def rows(folder, run, write, hazard, example, circuits, model):
     edge = write(folder, "e.txt", "start r=0 s=0 q=1\n#clock r\n")
     yield "an edge in a table", run(["table", latch, edge], folder)[:2], (2, "")
     yield from _odd(folder, run, write, latch)
+    yield from _really_under(folder, run, write, hazard)
     for name in ("mutex", "celement"):
         yield from _as_found(hazard, name, *example(name))
     for name, circuit in circuits.random_circuits(model, 12, seed=17, gates=(2, 5)):
@@ -162,6 +163,19 @@ def _under(folder, run, write, hazard):
         ("1 to 2, a=1", ["under order z(2) z(1)"], 1), ("1 to 3, b=1", [], 1), ("2 to 1, a=0", ["under order z(2) z(1)"], 1)]
     strange = UNDER.replace("used 1 2 not shown", "used 1 2 shown")
     yield "strange words behind a change", _raised(strange), ValueError
+
+
+def _really_under(folder, run, write, hazard):
+    """The same by the program itself, if its explorations take assumptions."""
+    bench, script = write(folder, "u.bench", GATES), write(folder, "v.txt", "start a=0 b=0\norder z(2) z(1)\nchange a=1\nchange b=1\n")
+    try:
+        hazard.explore(bench, script)
+    except Failure as failure:
+        print(f"skipped: flow tables under assumptions: {failure}")
+        return
+    yield "a table under an order", run(["table", "--fail", bench, script], folder)[:2], (0, "0 findings\n")
+    yield "its entries", run(["table", bench, script], folder)[1].splitlines()[:7], [
+        "state          a=1   b=1", "1 a=0 b=0 z=0  2[1]  3", "2 a=1 b=0 z=0  (2)   4", "3 a=0 b=1 z=0  4[1]  (3)", "4 a=1 b=1 z=0  (4)   (4)", table.LEGEND, table.UNDER]
 
 
 def _raised(text):
