@@ -19,7 +19,7 @@ use Rattle.hz_states.specs.States.{has_state, same_state}
 use Rattle.hz_states.specs.Key.{same_state-Decides}
 use Rattle.hz_reach.specs.Counts.{EndsByChanges}
 use Rattle.hz_timing.specs.declared.script.Assumption.{Assumption}
-use Rattle.hz_edge_reports.specs.EdgeChanges.{ChangeOf, IsNextStart}
+use Rattle.hz_edge_reports.specs.EdgeChanges.{ChangeOf}
 use Rattle.hz_explore.specs.Bursts.{applies}
 use Rattle.hz_explore.specs.Reached.{nodes_of, input_after, AreResults, Settles, SettlesUnder, Leads, LeadTo, IsReached}
 use Rattle.hz_explore.specs.Transitions.{Outcome, Settled, Unsettled, Transition, IsRightOutcome, IsRightTransition, AreTransitions, end_of, ends_of}

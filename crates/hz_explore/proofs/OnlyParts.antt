@@ -1,5 +1,5 @@
 -- The only part of a script.
-use Rattle.std.proofs.Common.{◌≡◌, ap, List, [], ◌∷◌, length, Some, slice_get, sym, arith}
+use Rattle.std.proofs.Common.{◌≡◌, ap, List, [], ◌∷◌, length, Some, slice_get, arith}
 use Rattle.hz_script.specs.ScriptValue.{ScriptOf}
 
 same-some : (one other : ScriptOf) → Some one ≡ Some other → one ≡ other

@@ -9,7 +9,6 @@ use Rattle.hz_orders.specs.declared.order.Order.{Order}
 use Rattle.hz_states.specs.States.{number_of}
 use Rattle.hz_timing.specs.declared.script.Assumption.{Assumption}
 use Rattle.hz_timing.specs.declared.script.Assumption.TheVariants as assumed
-use Rattle.hz_edge_reports.specs.EdgeChanges.{ChangeOf}
 use Rattle.hz_explore.specs.declared.counting.Classes.{Classes}
 use Rattle.hz_explore.specs.Counts.{classes_of, totals_of}
 use Rattle.hz_explore.specs.Reached.{nodes_of}

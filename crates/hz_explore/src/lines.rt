@@ -1,11 +1,10 @@
 //! The lines of an exploration.
-ghost use Rattle.std.specs.Prelude.{◌≡◌, ◌<◌, ◌≤◌, ◌+◌, ◌++◌, ◌⊎◌, codes, decimal, length, nat_eq, All, IfSome};
+ghost use Rattle.std.specs.Prelude.{◌≡◌, ◌<◌, ◌≤◌, ◌+◌, ◌++◌, codes, decimal, length, nat_eq, All, IfSome};
 ghost use Rattle.std.specs.List.{list_any};
 ghost use Rattle.hz_net.specs.Network.{IsVariable};
 ghost use Rattle.hz_write.specs.Writer.{Writes, NoneWaits};
 ghost use Rattle.hz_write.specs.Writes.{newline};
 ghost use Rattle.hz_text.specs.VariableWord.{spaced_word};
-ghost use Rattle.hz_timing.specs.declared.script.Assumption.TheVariants.{Ideal, Order as Assumed};
 ghost use Rattle.hz_explore.specs.ExploreText.{burst_text, counts_text, maybe_static_text, number_text, rest_on, same_order, state_line, totals_text, used_number, used_numbers, used_text, whole_word};
 ghost use Rattle.hz_explore.specs.Inside.{changes_in, end_text, most_changes, IsTellable};
 

@@ -1,5 +1,5 @@
 -- The report is that of the script's bursts.
-use Rattle.std.proofs.Common.{ℕ, Bool, List, [], ◌∷◌, ◌++◌, refl, sym}
+use Rattle.std.proofs.Common.{ℕ, List, [], ◌∷◌, ◌++◌, refl, sym}
 use Rattle.hz_refusal.specs.declared.status.Status.TheVariants as status
 use Rattle.hz_refusal.proofs.PutEndings.{Ends-put}
 use Rattle.hz_report.specs.Report.{head_text}

@@ -1,5 +1,5 @@
 -- The only start is accepted or refused.
-use Rattle.std.proofs.Common.{◌≡◌, ◌∙◌, ◌<◌, inl, inr, refl, sym, subst, arith, Bool, List, [], ◌∷◌, Option, length}
+use Rattle.std.proofs.Common.{◌<◌, inl, inr, refl, sym, subst, arith, Bool, List, [], ◌∷◌, Option, length}
 use Rattle.std.proofs.lemmas.Option.{get_or_from_slice_get}
 use Rattle.hz_pass.specs.Completed.{IsStartFault}
 use Rattle.hz_script.specs.ScriptText.{IsScriptFor}
