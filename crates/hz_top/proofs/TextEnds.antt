@@ -1,5 +1,5 @@
 -- How a task ends on a second text of which nothing is to be refused.
-use Rattle.std.proofs.Common.{◌≡◌, ◌∙◌, sym, ℕ, inl, inr, Bool, true, List, [], ◌∷◌, All, codes}
+use Rattle.std.proofs.Common.{◌≡◌, ◌∙◌, sym, ℕ, inl, inr, Bool, true, false, List, [], ◌∷◌, All, codes}
 use Rattle.std.proofs.lemmas.List.Elements.{All-head, All-tail}
 use Rattle.hz_core.specs.Netlist.{Netlist}
 use Rattle.hz_gen.specs.Starts.{IsCompletable}
@@ -22,7 +22,7 @@ use Rattle.hz_patterns.specs.Batches.{IsBatchOutcome}
 use Rattle.hz_changes.specs.Reports.{Reports}
 use Rattle.hz_edge_reports.specs.EdgeReports.{ReportsEdges}
 use Rattle.hz_timing.specs.TimedValue.{TimedScriptOf}
-use Rattle.hz_timing.specs.Timed.{AreAcceptedStarts, FirstStartRefused, IsGoodTimed, OfTimed, TimedStarted}
+use Rattle.hz_timing.specs.Timed.{FirstStartRefused, IsGoodTimed, OfTimed, TimedStarted}
 use Rattle.hz_explore.specs.ExploreReports.{ReportsExploring}
 use Rattle.hz_patterns.specs.Resets.{IsResetOutcome}
 use Rattle.hz_replay.specs.RunTexts.{IsConvertOutcome, EndsReplay}
