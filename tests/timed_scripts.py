@@ -219,6 +219,11 @@ REPORTS = (
      "change 2 a=0\nstopped y\nstart a=0 y=0 z=0\nchange 3 a=0\n"
      "a start 0 end 0 edges 0 steady\ny start 0 end 0 edges 0 steady\nz start 0 end 0 edges 0 steady\norders used 0 idle 1\n"
      + run_text("1 2 3", "a=0 y=0 z=0", "a=0", [])),
+    # g(2) never moves under the first order, so no walk of g's wires goes all the way; on a part of one g changes with c
+    ("a part of a walk", "INPUT(a)\nINPUT(c)\ny = OR(a, z)\nz = BUFF(y)\nq = BUFF(z)\ng = XOR(a, q, c)\n", "order y(2) y(1)\norder g(2) g(1)\nstart a=0 c=0 y=0\nchange a=1 c=1\n",
+     "feedback y z(1) z y(2)\nstart a=0 c=0 y=0 z=0 q=0 g=0\nchange 1 a=1 c=1\nused y(2) y(1) 1\nused g(2) g(1) 1\n"
+     "a start 0 end 1 edges 0..1 single\nc start 0 end 1 edges 0..1 single\ny start 0 end 0 edges 0 steady\nz start 0 end 0 edges 0 steady\n"
+     "q start 0 end 0 edges 0 steady\ng start 0 end 0 edges 0..1 maybe-static\nkept not shown\norders used 2 idle 0\n"),
     ("other spellings", "INPUT(order)\nideal = XOR(order, order)\n", "# r\r\nOrder ideal (1) ideal ( 2 )\r\n\nSTART order=0\r\nIDEAL ideal(2) # i\nOrDeR ideal(2) ideal(1) 1000\nchange order = 1",
      "start order=0 ideal=0\nchange 1 order=1\nused ideal(1) ideal(2) 1\nused ideal(2) ideal(1) 1\nused ideal(2) ideal(1) 1000\n"
      "order start 0 end 1 edges 1 single\nideal start 0 end 0 edges 0 steady\nkept yes\norders used 3 idle 0\n"
