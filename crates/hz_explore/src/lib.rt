@@ -1,5 +1,5 @@
-//! The job `explore`: all stable states that bursts lead to from the start of a script, and what each burst does in each of them, under the script's
-//! assumptions of time.
+//! The job `explore`: all stable states that bursts lead to from the start of a script, and what each burst does in each of them, under the
+//! script's assumptions of time.
 //!
 //! | Module | What lives in it |
 //! |---|---|

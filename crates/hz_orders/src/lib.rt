@@ -33,5 +33,5 @@ pub use laws::{
 };
 pub use order::{Order, is_used};
 pub use table::{OrderedGate, count_under};
-pub use tabled::{has_table, with_tables};
+pub use tabled::with_tables;
 pub use telling::{OrderedChange, tell_under};

@@ -39,8 +39,8 @@ fn add_tabled(net: &Net, told: &[Word], order: Order, tabled: &mut Vec<Order>) -
     Ok(())
 }
 
-/// Whether the gate of an order has a table by the words that its wires are told. If it has none, the gate is bounded as without orders.
-pub fn has_table(net: &Net, told: &[Word], order: Order) -> bool
+// Whether the gate of an order has a table by the words that its wires are told. If it has none, the gate is bounded as without orders.
+fn has_table(net: &Net, told: &[Word], order: Order) -> bool
     requires { length told.now ≡ length (network_of net.now) }
     ensures some { IsTrue result → HasTableAt (network_of net.now) told.now order }
     ensures none { HasTableAt (network_of net.now) told.now order → IsTrue result }

@@ -6,7 +6,7 @@
 //! | `statement` | the statements, looked up in a network |
 //! | `keyword` | the keywords with which they begin |
 //! | `short` | the commonest line, read without its tokens |
-//! | `variables` | the variables of a step: [`first_variable`] |
+//! | `variables` | the variables of a step |
 //! | `number` | decimal numbers |
 //! | `format` | the formats, 1 and 2 |
 //! | `size` | the size of a network, as format 2 has it |
@@ -42,4 +42,3 @@ pub use number::{is_decimal, number_within};
 pub use print::{print_run, write_end, write_format, write_run, write_run_text, write_states};
 pub use read::read_run;
 pub use text::RunText;
-pub use variables::first_variable;

@@ -44,9 +44,9 @@ pub(crate) fn read_variables(
     Ok(())
 }
 
-/// The variable with which a line begins that has tokens, looked up, and the line after it. A variable is a node's name, or a gate's name
-/// and the number of a pin in parentheses, counted from 1.
-pub fn first_variable<'a>(net: &Net, line: &'a [u8]) -> Option<(Option<u32>, &'a [u8])>
+// The variable with which a line begins that has tokens, looked up, and the line after it. A variable is a node's name, or a gate's name
+// and the number of a pin in parentheses, counted from 1.
+fn first_variable<'a>(net: &Net, line: &'a [u8]) -> Option<(Option<u32>, &'a [u8])>
     ensures { IsFirstVariable net.now line.now result }
 {
     let (name, after) = first_word(line)?;
