@@ -1,39 +1,32 @@
 -- A feedback-free node whose word has two changes or more comes back in some run. What moves leaves its start one variable after the
 -- other, by enough wires into each gate; then a wire more into a gate, or the source of one that returns, turns the gate back.
 use Rattle.std.proofs.Common.{◌≡◌, ◌≢◌, ◌⊎◌, ◌&&◌, ℕ, zero, suc, ◌+◌, ◌-◌, ◌<◌, ◌≤◌, Bool, true, false, not, cond, List, [], ◌∷◌, ◌++◌, map, length, take, get_or, set, refl, sym, ap, ◌∙◌, subst, arith, inl, inr, eqb}
-use Rattle.std.specs.Prelude.{slice_range, nat_lt}
+use Rattle.hz_bounds.proofs.Words.{slice_range, range_with_len, cases_Bool, cases_lt, cases_eq, both_ways, le-leb, length-map, length-map-range_with_len}
+use Rattle.hz_bounds.proofs.Words.{get_or-map-range_with_len, is_listed, length-part, at-part, Kind, gate_value, Netlist, IsCircuit, IsWhole, Driver, External, Function, Source}
+use Rattle.hz_bounds.proofs.Words.{network_of, driver_at, bit_at, IsStableStart, state_after, IsRun, AreWords, first_letter, change_count, current_letters, change_between}
+use Rattle.hz_bounds.proofs.Words.{IsWordOf, IsFeedbackFree, input_word, variable_history, IsOnTheWay}
+use Rattle.std.specs.Prelude.{nat_lt}
 use Rattle.std.specs.Bool.{nat_le}
-use Rattle.std.specs.List.{range_with_len}
-use Rattle.std.proofs.lemmas.Bool.{cases_Bool, cases_lt, cases_eq, and_parts, and_from, both_ways, eqb-true, eq-eqb, leb-true, le-leb, lt-ltb, le-ltb, ltb-true}
-use Rattle.std.proofs.lemmas.List.{ext_get_or, get_or_past, length-map, get_or-map, length-set, get_or-set_same, get_or-set_other}
+use Rattle.std.proofs.lemmas.Bool.{and_parts, and_from, eqb-true, eq-eqb, leb-true, lt-ltb, le-ltb, ltb-true}
+use Rattle.std.proofs.lemmas.List.{ext_get_or, get_or_past, get_or-map, length-set, get_or-set_same, get_or-set_other}
 use Rattle.std.proofs.Math.Seq.{take-suc, take-length}
-use Rattle.std.proofs.lemmas.List.FromFn.{length-map-range_with_len, get_or-map-range_with_len}
-use Rattle.hz_lists.specs.Listed.{is_listed}
 use Rattle.hz_lists.proofs.ListedLemmas.{listed-at, pushed-cases}
-use Rattle.hz_lists.proofs.PartLemmas.{length-part, at-part, same-parts}
-use Rattle.hz_core.specs.declared.kind.Kind.{Kind}
-use Rattle.hz_core.specs.Gate.{gate_value}
+use Rattle.hz_lists.proofs.PartLemmas.{same-parts}
 use Rattle.hz_core.specs.Pattern.{differs}
 use Rattle.hz_reach.specs.FilteredRange.{filtered_range}
-use Rattle.hz_core.specs.Netlist.{Netlist, IsCircuit, IsWhole}
-use Rattle.hz_net.specs.Network.{Driver, External, Function, Source, network_of, driver_at, driver_value, bit_at, excitation}
+use Rattle.hz_net.specs.Network.{driver_value, excitation}
 use Rattle.hz_net.specs.Reads.{Reads, IsNode, IsWireInto}
-use Rattle.hz_net.specs.Starts.{IsStableStart}
 use Rattle.hz_net.proofs.Wired.{wired-network_of}
-use Rattle.hz_gmw.specs.Runs.{state_after, IsRun, end_of, IsReachable}
+use Rattle.hz_gmw.specs.Runs.{end_of, IsReachable}
 use Rattle.hz_gmw.proofs.Flips.{length-state_after, at-state_after}
 use Rattle.hz_gmw.proofs.Paths.{IsReachable-onward, IsRun-append}
 use Rattle.hz_reach.proofs.FilteredRangeLemmas.{filtered_range-is, is-filtered_range, filtered_range-once, differs-true, true-differs}
-use Rattle.hz_word.specs.Word.{AreWords, first_letter, change_count}
-use Rattle.hz_word.specs.Walk.{current_letters, change_between, IsWordOf}
-use Rattle.hz_free.specs.Chains.{IsFeedbackFree}
 use Rattle.hz_free.specs.FreePart.{FreePart}
-use Rattle.hz_free.specs.VariableWords.{input_word, IsDrivenWord, AreVariableWords, variable_history}
+use Rattle.hz_free.specs.VariableWords.{IsDrivenWord, AreVariableWords}
 use Rattle.hz_free.proofs.AllWords.{IsOrdered}
 use Rattle.hz_free.proofs.Chains.{free-from_reads, reads-free, reads-inside, free-induction}
 use Rattle.hz_free.proofs.Delays.{change-not, change_count-history}
 use Rattle.hz_free.proofs.Covered.{IsFollowed, free-followed, wires-AreWords, wires-present, length-wires}
-use Rattle.hz_bounds.specs.OneWay.{IsOnTheWay}
 use Rattle.hz_bounds.proofs.TurnedBack.{other, same-or-not, far_letter, far_letters, IsTurnedBack, turned-once, turned-back}
 use Rattle.hz_bounds.proofs.Steps.{place_in, place-before, place-there, place-within, step-or-none, new-bit, turned-cond, returned-pin, same-source, change-back, changes-least, changes-append, way-long, way-at}
 

@@ -1,16 +1,8 @@
 -- The word that its driver gives a variable, by what the variable is.
 use Rattle.std.proofs.Common.{◌≡◌, ℕ, ◌+◌, ◌≤◌, Bool, false, List, length, refl, sym, subst, arith}
-use Rattle.std.specs.Prelude.{slice_range}
-use Rattle.hz_core.specs.declared.kind.Kind.{Kind}
-use Rattle.hz_net.specs.Network.{Driver, External, Function, Source, driver_at, bit_at}
-use Rattle.hz_lists.proofs.PartLemmas.{length-part, at-part}
-use Rattle.hz_word.specs.declared.word.Word.{Word}
-use Rattle.hz_word.specs.Word.{change_count}
-use Rattle.hz_word.specs.Capped.{capped_word, IsWithinCap, IsFold}
-use Rattle.hz_word.specs.Pairs.{constant_word}
-use Rattle.hz_free.specs.VariableWords.{input_word}
-use Rattle.hz_free.specs.Inductive.{told_at, GivesWord, AreCounted}
-use Rattle.hz_word.proofs.Stretched.{counted-capped_count, map-capped-stretched, AreWords-stretched}
+use Rattle.hz_bounds.proofs.Words.{slice_range, Kind, Driver, External, Function, Source, driver_at, bit_at, length-part, at-part, Word, change_count, capped_word, IsWithinCap}
+use Rattle.hz_bounds.proofs.Words.{IsFold, constant_word, input_word, told_at, AreCounted, counted-capped_count, map-capped-stretched, AreWords-stretched}
+use Rattle.hz_free.specs.Inductive.{GivesWord}
 
 -- the word of a gate is counted if those of its wires are
 pub counted-fold : (kind : Kind) (pins : List Word) (cap : ℕ) (outcome : Word) → AreCounted cap pins → IsFold kind pins cap outcome → IsWithinCap cap outcome.changes

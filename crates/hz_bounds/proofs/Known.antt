@@ -1,30 +1,20 @@
 -- What is known, what is told many changes, and what keeps what is known.
 use Rattle.std.proofs.Common.{◌≡◌, ℕ, ◌+◌, ◌<◌, Bool, false, List, [], length, get_or, set, take, drop, ◌++◌, Option, Some, None, inl, inr, refl, sym, ap, ◌∙◌, subst, arith}
+use Rattle.hz_bounds.proofs.Words.{cases_lt, cases_eq, Tri, Driver, network_of, bit_at, value_at, IsKnown, Count, Many, Word, change_count, capped_word, IsWithinCap}
+use Rattle.hz_bounds.proofs.Words.{constant_word, counted-capped_count, IsFeedbackFree, told_at, AreCounted, IsInductive, known_or, AreStill, AreToldSoFar}
 use Rattle.std.specs.Prelude.{IfSome}
 use Rattle.std.specs.Option.{unwrap_or, is_some}
-use Rattle.std.proofs.lemmas.Bool.{cases_lt, cases_eq}
 use Rattle.std.proofs.lemmas.List.{length-set, get_or-set_same, get_or-set_other, drop_all, append-nil, take_all}
 use Rattle.std.proofs.lemmas.List.Elements.{All-set}
 use Rattle.std.proofs.lemmas.Option.{get_or_from_slice_get}
-use Rattle.hz_core.specs.declared.tri.Tri.{Tri}
 use Rattle.hz_core.specs.declared.tri.Tri.TheVariants.{Zero, One, Unknown}
-use Rattle.hz_net.specs.Network.{Driver, network_of, bit_at, value_at}
-use Rattle.hz_net.specs.Passes.{IsKnown}
-use Rattle.hz_word.specs.declared.count.Count.{Count}
-use Rattle.hz_word.specs.declared.count.Count.TheVariants.{Many}
-use Rattle.hz_word.specs.declared.word.Word.{Word}
-use Rattle.hz_word.specs.Word.{change_count}
-use Rattle.hz_word.specs.Capped.{capped_word, IsWithinCap}
-use Rattle.hz_word.specs.Pairs.{constant_word}
-use Rattle.hz_word.proofs.Stretched.{counted-capped_count}
-use Rattle.hz_free.specs.Chains.{IsFeedbackFree}
-use Rattle.hz_free.specs.Inductive.{told_at, AreCounted, AreFreeWords, IsInductive}
+use Rattle.hz_free.specs.Inductive.{AreFreeWords}
 use Rattle.hz_free.proofs.NextWord.{default-same}
 use Rattle.hz_free.proofs.Enough.{is_free, many-enough}
 use Rattle.hz_free.proofs.FreeWords.{free-enough}
 use Rattle.hz_free.proofs.Laws.{begun, changing}
 use Rattle.hz_bounds.specs.declared.telling.Telling.{Telling}
-use Rattle.hz_bounds.specs.Telling.{CanBeTold, known_word, known_at, known_or, AllHave, AreStill, AreToldSoFar}
+use Rattle.hz_bounds.specs.Telling.{CanBeTold, known_word, known_at, AllHave}
 use Rattle.hz_bounds.proofs.Still.{known-or, constant-capped, still-enough}
 
 pub still-word : (start : Bool) (value : Tri) → IsKnown value → known_word start value None ≡ Some (constant_word start)

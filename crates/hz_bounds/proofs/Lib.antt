@@ -1,3 +1,5 @@
+-- The names that most proofs cite, passed on from one place
+pub mod Words
 -- A variable that Algorithm A keeps is told enough if it is told no change
 pub mod Still
 -- The word that its driver gives a variable, by what the variable is

@@ -1,23 +1,11 @@
 -- Where what is told and what the witness shows meet, the number is exact.
 use Rattle.std.proofs.Common.{◌≡◌, ℕ, ◌<◌, ◌≤◌, Bool, cond, not, List, [], ◌∷◌, length, get_or, refl, ap, ◌∙◌, subst, arith, inl, inr}
-use Rattle.std.proofs.lemmas.Bool.{cases_Bool}
-use Rattle.hz_lists.specs.Listed.{is_listed}
-use Rattle.hz_core.specs.declared.tri.Tri.{Tri}
-use Rattle.hz_core.specs.Netlist.{Netlist, IsCircuit, IsWhole}
-use Rattle.hz_net.specs.Network.{network_of, bit_at}
-use Rattle.hz_net.specs.Starts.{IsStableStart}
-use Rattle.hz_gmw.specs.Runs.{IsRun, state_after}
+use Rattle.hz_bounds.proofs.Words.{cases_Bool, is_listed, Tri, Netlist, IsCircuit, IsWhole, network_of, bit_at, IsStableStart, IsRun, state_after, Count, Exact, Word}
+use Rattle.hz_bounds.proofs.Words.{change_count, change_between, variable_history, told_at, IsInductive}
 use Rattle.hz_gmw.proofs.Flips.{length-state_after, at-state_after}
 use Rattle.hz_reach.specs.Spread.{changes_in}
 use Rattle.hz_reach.proofs.FlipCounts.{listed, changes-more}
-use Rattle.hz_word.specs.declared.count.Count.{Count}
-use Rattle.hz_word.specs.declared.count.Count.TheVariants.{Exact}
-use Rattle.hz_word.specs.declared.word.Word.{Word}
-use Rattle.hz_word.specs.Word.{change_count}
-use Rattle.hz_word.specs.Walk.{change_between}
 use Rattle.hz_word.specs.Covers.{Bounds}
-use Rattle.hz_free.specs.VariableWords.{variable_history}
-use Rattle.hz_free.specs.Inductive.{told_at, IsInductive}
 use Rattle.hz_free.proofs.Delays.{changes_along, change-same, change-not, change_count-history}
 use Rattle.hz_free.proofs.Inductively.{inductive-covers}
 use Rattle.hz_witness.specs.Witness.{IsWitness}

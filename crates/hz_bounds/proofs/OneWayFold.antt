@@ -1,22 +1,17 @@
 -- A gate that is pushed one way by pins that change at most once changes at most once.
 use Rattle.std.proofs.Common.{◌≡◌, ◌≢◌, ◌⊎◌, ℕ, suc, ◌+◌, ◌-◌, ◌<◌, ◌≤◌, Bool, true, false, List, [], ◌∷◌, map, length, drop, get_or, refl, sym, ap, ◌∙◌, subst, arith, inl, inr}
-use Rattle.std.proofs.lemmas.Bool.{le-leb}
-use Rattle.std.proofs.lemmas.List.{length-map}
+use Rattle.hz_bounds.proofs.Words.{le-leb, length-map, Kind, gate_value, Count, Exact, Many, Word, first_letter, change_count, current_letters, MayAdvance, after_move}
+use Rattle.hz_bounds.proofs.Words.{change_between, walk_changes, IsWordOf, IsWithinCap, IsFold, constant_word, IsAtMost, IsOnTheWay, stretched, AreWords-stretched}
+use Rattle.hz_bounds.proofs.Words.{map-capped-stretched}
 use Rattle.std.proofs.lemmas.List.Elements.{All-head, All-tail}
-use Rattle.hz_core.specs.declared.kind.Kind.{Kind}
-use Rattle.hz_core.specs.Gate.{gate_value}
-use Rattle.hz_word.specs.declared.count.Count.{Count}
-use Rattle.hz_word.specs.declared.count.Count.TheVariants.{Exact, Many}
-use Rattle.hz_word.specs.declared.word.Word.{Word}
-use Rattle.hz_word.specs.Word.{first_letter, last_letter, change_count}
-use Rattle.hz_word.specs.Walk.{current_letters, MayAdvance, after_move, IsWalk, change_between, walk_changes, IsWordOf}
-use Rattle.hz_word.specs.Capped.{capped_count, IsWithinCap, IsFold}
-use Rattle.hz_word.specs.Pairs.{last_after, constant_word}
-use Rattle.hz_word.specs.Capped.{IsAtMost}
+use Rattle.hz_word.specs.Word.{last_letter}
+use Rattle.hz_word.specs.Walk.{IsWalk}
+use Rattle.hz_word.specs.Capped.{capped_count}
+use Rattle.hz_word.specs.Pairs.{last_after}
 use Rattle.hz_word.proofs.Letters.{last_letter-last_after}
 use Rattle.hz_word.proofs.Longest.{first_letter-alternating, change_count-alternating}
-use Rattle.hz_bounds.specs.OneWay.{IsOnTheWay, IsOneWay, ended, first_letters, last_letters, AreAtMostOnce}
-use Rattle.hz_word.proofs.Stretched.{stretched, stretched_count, AreWords-stretched, map-capped-stretched}
+use Rattle.hz_bounds.specs.OneWay.{IsOneWay, ended, first_letters, last_letters, AreAtMostOnce}
+use Rattle.hz_word.proofs.Stretched.{stretched_count}
 
 -- each word has at most one change
 abbrev pub AreOnce : List (List Bool) → Type 0

@@ -1,13 +1,9 @@
 -- There is an order of the feedback-free variables of every network, each behind the variables that it reads. So hz_free proves it,
 -- where it is private.
 use Rattle.std.proofs.Common.{◌≡◌, ℕ, zero, suc, ◌+◌, ◌-◌, ◌<◌, ◌≤◌, Bool, List, [], ◌∷◌, ◌++◌, map, length, get_or, set, All, subst, arith, inl, inr, eqb, add-one}
-use Rattle.std.specs.List.{range_with_len}
-use Rattle.std.proofs.lemmas.Bool.{cases_lt, cases_eq, both_ways}
-use Rattle.std.proofs.lemmas.List.FromFn.{length-map-range_with_len, get_or-map-range_with_len}
+use Rattle.hz_bounds.proofs.Words.{range_with_len, cases_lt, cases_eq, both_ways, length-map-range_with_len, get_or-map-range_with_len, Netlist, IsCircuit, network_of}
 use Rattle.std.proofs.lemmas.List.Elements.{All-head, All-tail}
 use Rattle.std.proofs.Common.{false, refl}
-use Rattle.hz_core.specs.Netlist.{Netlist, IsCircuit}
-use Rattle.hz_net.specs.Network.{network_of}
 use Rattle.hz_net.specs.Reads.{readers_of}
 use Rattle.hz_net.proofs.Readers.{readers-inside}
 use Rattle.hz_free.specs.FreePart.{FreePart}

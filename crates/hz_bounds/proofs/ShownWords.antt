@@ -1,13 +1,8 @@
 -- Without feedback a word of two changes or more is shown by a run.
 use Rattle.std.proofs.Common.{ℕ, ◌<◌, ◌≤◌, Bool, List, length, get_or, []}
-use Rattle.hz_core.specs.Netlist.{Netlist, IsCircuit, IsWhole}
-use Rattle.hz_net.specs.Network.{network_of}
+use Rattle.hz_bounds.proofs.Words.{Netlist, IsCircuit, IsWhole, network_of, IsStableStart, IsRun, change_count, IsFeedbackFree, variable_history}
 use Rattle.hz_net.specs.Reads.{IsNode}
-use Rattle.hz_net.specs.Starts.{IsStableStart}
-use Rattle.hz_gmw.specs.Runs.{IsRun}
-use Rattle.hz_word.specs.Word.{change_count}
-use Rattle.hz_free.specs.Chains.{IsFeedbackFree}
-use Rattle.hz_free.specs.VariableWords.{AreVariableWords, variable_history}
+use Rattle.hz_free.specs.VariableWords.{AreVariableWords}
 use Rattle.hz_bounds.proofs.OrderExists.{ordered-marks}
 use Rattle.hz_bounds.proofs.FreeRun.{node-shown}
 

@@ -1,15 +1,12 @@
 -- Places in a list, rows on the way, one step of a run or none, and how often a run changes a value at least.
 use Rattle.std.proofs.Common.{◌≡◌, ◌≢◌, ◌⊎◌, ℕ, zero, suc, ◌+◌, ◌<◌, ◌≤◌, Bool, true, false, not, cond, List, [], ◌∷◌, ◌++◌, length, take, get_or, refl, sym, ap, arith, inl, inr, eqb}
-use Rattle.std.proofs.lemmas.Bool.{cases_Bool, or_cases, both_ways, eqb-true}
-use Rattle.hz_lists.specs.Listed.{is_listed, IsRepeatFree}
-use Rattle.hz_net.specs.Network.{Driver, Source, bit_at, IsUnstable}
-use Rattle.hz_gmw.specs.Runs.{state_after, end_of, IsReachable}
+use Rattle.hz_bounds.proofs.Words.{cases_Bool, both_ways, is_listed, Driver, Source, bit_at, state_after, change_count, current_letters, change_between, input_word, IsOnTheWay}
+use Rattle.std.proofs.lemmas.Bool.{or_cases, eqb-true}
+use Rattle.hz_lists.specs.Listed.{IsRepeatFree}
+use Rattle.hz_net.specs.Network.{IsUnstable}
+use Rattle.hz_gmw.specs.Runs.{end_of, IsReachable}
 use Rattle.hz_gmw.proofs.Flips.{state_after-none}
-use Rattle.hz_word.specs.Word.{change_count}
-use Rattle.hz_word.specs.Walk.{current_letters, change_between}
-use Rattle.hz_free.specs.VariableWords.{input_word}
 use Rattle.hz_free.proofs.Delays.{changes_along, change-same}
-use Rattle.hz_bounds.specs.OneWay.{IsOnTheWay}
 use Rattle.hz_bounds.proofs.TurnedBack.{other, ReturnsOne}
 
 -- the place of a number in a list

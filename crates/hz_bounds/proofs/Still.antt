@@ -1,39 +1,28 @@
 -- A variable that Algorithm A keeps is told enough if it is told no change, and so is everything that Algorithm A keeps.
 use Rattle.std.proofs.Common.{◌≡◌, ◌⊎◌, ℕ, ◌+◌, ◌<◌, Bool, true, false, List, [], map, length, get_or, IsTrue, refl, sym, ap, ◌∙◌, subst, arith, inl, inr}
-use Rattle.std.specs.Prelude.{slice_range}
-use Rattle.std.proofs.lemmas.Bool.{cases_lt, le-leb}
-use Rattle.std.proofs.lemmas.List.{length-map, get_or-map}
-use Rattle.hz_core.specs.declared.kind.Kind.{Kind}
-use Rattle.hz_core.specs.declared.tri.Tri.{Tri}
+use Rattle.hz_bounds.proofs.Words.{slice_range, cases_lt, le-leb, length-map, Kind, Tri, takes, Netlist, IsCircuit, IsWhole, Driver, External, Function, Source, network_of}
+use Rattle.hz_bounds.proofs.Words.{driver_at, bit_at, value_at, IsKnown, IsStableStart, length-part, at-part, Count, Exact, Word, first_letter, change_count, capped_word}
+use Rattle.hz_bounds.proofs.Words.{IsAtMost, IsWithinCap, constant_word, stretched, AreWords-stretched, map-capped-stretched, input_word, told_at, AreCounted, AreStill}
+use Rattle.std.proofs.lemmas.List.{get_or-map}
 use Rattle.hz_core.specs.declared.tri.Tri.TheVariants.{Zero, One, Unknown}
 use Rattle.hz_core.specs.Ternary.{tri_of, join_of, admits}
-use Rattle.hz_core.specs.Gate.{takes}
-use Rattle.hz_core.specs.Netlist.{Netlist, IsCircuit, IsWhole, gate_at}
+use Rattle.hz_core.specs.Netlist.{gate_at}
 use Rattle.hz_core.proofs.CircuitLemmas.{takes-at_gate}
 use Rattle.hz_core.proofs.Extensions.{gate_value-known}
 use Rattle.hz_core.proofs.Refinements.{get_or-Refines}
-use Rattle.hz_net.specs.Network.{Driver, External, Function, Source, network_of, driver_at, driver_value3, bit_at, value_at}
-use Rattle.hz_net.specs.Passes.{algorithm_a, excitations, IsResult, IsKnown, IsUnknown}
+use Rattle.hz_net.specs.Network.{driver_value3}
+use Rattle.hz_net.specs.Passes.{algorithm_a, excitations, IsResult, IsUnknown}
 use Rattle.hz_net.specs.Reads.{Reads}
-use Rattle.hz_net.specs.Starts.{IsStableStart}
 use Rattle.hz_net.proofs.Wired.{wired-network_of, is_gate_of}
 use Rattle.hz_net.proofs.Excitations.{length-excitations, at-excitations, at-join_each}
 use Rattle.hz_net.proofs.Sequences.{length-algorithm_a, start-refines, closed-result}
-use Rattle.hz_lists.proofs.PartLemmas.{length-part, at-part}
-use Rattle.hz_word.specs.declared.count.Count.{Count}
-use Rattle.hz_word.specs.declared.count.Count.TheVariants.{Exact}
-use Rattle.hz_word.specs.declared.word.Word.{Word}
-use Rattle.hz_word.specs.Word.{first_letter, change_count}
-use Rattle.hz_word.specs.Capped.{capped_word, capped_count, IsAtMost, IsWithinCap}
-use Rattle.hz_word.specs.Pairs.{constant_word, kind_word}
+use Rattle.hz_word.specs.Capped.{capped_count}
+use Rattle.hz_word.specs.Pairs.{kind_word}
 use Rattle.hz_word.proofs.Folds.{IsFold-kind_word}
 use Rattle.hz_word.proofs.Forms.{same_fields}
-use Rattle.hz_word.proofs.Stretched.{stretched, AreWords-stretched, map-capped-stretched}
-use Rattle.hz_free.specs.VariableWords.{input_word}
-use Rattle.hz_free.specs.Inductive.{told_at, GivesWord, AreCounted, IsToldEnough}
+use Rattle.hz_free.specs.Inductive.{GivesWord, IsToldEnough}
 use Rattle.hz_free.proofs.Chains.{reads-inside}
 use Rattle.hz_free.proofs.Changing.{AdmitsAll, AdmitWords, admits_all-unknown, admit-each, walk-constant, join-other, tri_of-or-not, input_word-differs}
-use Rattle.hz_bounds.specs.Telling.{AreStill}
 
 pub known-or : (value : Tri) → IsUnknown value ⊎ IsKnown value
 known-or Zero = inr (λ e. cc)

@@ -1,13 +1,11 @@
 -- A gate whose word has two changes or more is turned by pins that went to their other letter, and turned back by more of them, or by
 -- one that returns, whose own word has two changes or more.
 use Rattle.std.proofs.Common.{◌≡◌, ◌≢◌, ◌⊎◌, suc, ◌<◌, ◌≤◌, Bool, true, false, not, cond, List, [], ◌∷◌, map, length, drop, refl, sym, ap, ◌∙◌, arith, inl, inr}
+use Rattle.hz_bounds.proofs.Words.{le-leb, Kind, gate_value, AreWords, first_letter, change_count, current_letters, MayAdvance, after_move, change_between, walk_changes, IsWordOf}
+use Rattle.hz_bounds.proofs.Words.{IsOnTheWay}
 use Rattle.std.specs.Bool.{nat_le}
-use Rattle.std.proofs.lemmas.Bool.{le-leb}
-use Rattle.hz_core.specs.declared.kind.Kind.{Kind}
-use Rattle.hz_core.specs.Gate.{gate_value}
-use Rattle.hz_word.specs.Word.{IsWord, AreWords, first_letter, change_count}
-use Rattle.hz_word.specs.Walk.{current_letters, MayAdvance, after_move, IsWalk, change_between, walk_changes, IsWordOf}
-use Rattle.hz_bounds.specs.OneWay.{IsOnTheWay}
+use Rattle.hz_word.specs.Word.{IsWord}
+use Rattle.hz_word.specs.Walk.{IsWalk}
 
 -- the letter to which a pin can go: the other one if its word has a change
 abbrev pub far_letter : List Bool → Bool

@@ -1,23 +1,17 @@
 -- A gate that is pushed two ways changes at least twice along some walk, so its fold has two changes or more.
 use Rattle.std.proofs.Common.{◌≡◌, ◌≢◌, ◌⊎◌, ℕ, ◌+◌, ◌<◌, ◌≤◌, Bool, true, false, not, List, [], ◌∷◌, map, length, IsTrue, refl, sym, ap, ◌∙◌, subst, arith, inl, inr}
+use Rattle.hz_bounds.proofs.Words.{cases_Bool, length-map, Kind, takes, gate_value, Exact, Word, AreWords, first_letter, change_count, current_letters, MayAdvance, after_move}
+use Rattle.hz_bounds.proofs.Words.{change_between, walk_changes, IsWordOf, IsFold, constant_word, IsAtMost, IsOnTheWay, stretched, AreWords-stretched, map-capped-stretched}
 use Rattle.std.specs.Bool.{beq}
-use Rattle.std.proofs.lemmas.Bool.{cases_Bool, false≢true}
-use Rattle.std.proofs.lemmas.List.{length-map}
-use Rattle.hz_core.specs.declared.kind.Kind.{Kind}
-use Rattle.hz_core.specs.Gate.{takes, gate_value, some_pin}
-use Rattle.hz_word.specs.declared.count.Count.TheVariants.{Exact}
-use Rattle.hz_word.specs.declared.word.Word.{Word}
-use Rattle.hz_word.specs.Word.{IsWord, AreWords, first_letter, last_letter, change_count}
-use Rattle.hz_word.specs.Walk.{current_letters, MayAdvance, after_move, IsPartOfWalk, change_between, walk_changes, IsWordOf}
-use Rattle.hz_word.specs.Capped.{IsFold}
-use Rattle.hz_word.specs.Pairs.{constant_word}
+use Rattle.std.proofs.lemmas.Bool.{false≢true}
+use Rattle.hz_core.specs.Gate.{some_pin}
+use Rattle.hz_word.specs.Word.{IsWord, last_letter}
+use Rattle.hz_word.specs.Walk.{IsPartOfWalk}
 use Rattle.hz_word.proofs.Longest.{takes-HasPins, part-IsWordOf}
 use Rattle.hz_word.proofs.Moves.{after_move-AreWords, length-after_move}
 use Rattle.hz_free.proofs.Columns.{moved, moved-none, move-letters}
-use Rattle.hz_word.specs.Capped.{IsAtMost}
-use Rattle.hz_bounds.specs.OneWay.{IsOnTheWay, IsTwoWay, first_letters, last_letters, AreAtMostOnce}
+use Rattle.hz_bounds.specs.OneWay.{IsTwoWay, first_letters, last_letters, AreAtMostOnce}
 use Rattle.hz_word.proofs.AtMost.{at_most-capped}
-use Rattle.hz_word.proofs.Stretched.{stretched, AreWords-stretched, map-capped-stretched}
 use Rattle.hz_bounds.proofs.OneWayFold.{AreOnce, last-move, pins-once, counted-once}
 
 on-length : (ends before after : List Bool) → IsOnTheWay ends before after → length after ≡ length before

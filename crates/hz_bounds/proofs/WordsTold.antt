@@ -1,28 +1,17 @@
 -- Words for all variables that are inductive: what is known, and many changes for the others.
 use Rattle.std.proofs.Common.{◌≡◌, ℕ, ◌<◌, Bool, false, List, [], map, length, get_or, Option, Some, None, inl, inr, sym, ap, ◌∙◌, subst, arith}
-use Rattle.std.specs.List.{range_with_len}
-use Rattle.std.proofs.lemmas.Bool.{cases_lt}
-use Rattle.std.proofs.lemmas.List.FromFn.{get_or-map-range_with_len, length-map-range_with_len}
+use Rattle.hz_bounds.proofs.Words.{range_with_len, cases_lt, get_or-map-range_with_len, length-map-range_with_len, Tri, Netlist, IsCircuit, IsWhole, Driver, network_of, bit_at}
+use Rattle.hz_bounds.proofs.Words.{value_at, IsKnown, IsStableStart, Many, Word, change_count, capped_word, IsWithinCap, constant_word, counted-capped_count, IsFeedbackFree}
+use Rattle.hz_bounds.proofs.Words.{told_at, AreCounted, IsInductive, known_or, AreStill}
 use Rattle.std.proofs.lemmas.Option.{get_or_from_slice_get}
-use Rattle.hz_core.specs.declared.tri.Tri.{Tri}
-use Rattle.hz_core.specs.Netlist.{Netlist, IsCircuit, IsWhole}
-use Rattle.hz_net.specs.Network.{Driver, network_of, bit_at, value_at}
-use Rattle.hz_net.specs.Passes.{algorithm_a, IsKnown, IsResult}
-use Rattle.hz_net.specs.Starts.{IsStableStart}
-use Rattle.hz_word.specs.declared.count.Count.TheVariants.{Many}
-use Rattle.hz_word.specs.declared.word.Word.{Word}
-use Rattle.hz_word.specs.Word.{change_count}
-use Rattle.hz_word.specs.Capped.{capped_word, IsWithinCap}
-use Rattle.hz_word.specs.Pairs.{constant_word}
-use Rattle.hz_word.proofs.Stretched.{counted-capped_count}
-use Rattle.hz_free.specs.Chains.{IsFeedbackFree}
+use Rattle.hz_net.specs.Passes.{algorithm_a, IsResult}
 use Rattle.hz_free.specs.VariableWords.{AreCappedWords, WordsExist}
-use Rattle.hz_free.specs.Inductive.{told_at, AreCounted, AreFreeWords, IsInductive, IsToldEnough}
+use Rattle.hz_free.specs.Inductive.{AreFreeWords, IsToldEnough}
 use Rattle.hz_free.proofs.NextWord.{default-same}
 use Rattle.hz_free.proofs.Enough.{is_free, many-enough}
 use Rattle.hz_free.proofs.FreeWords.{free-enough}
 use Rattle.hz_free.proofs.Laws.{begun, changing}
-use Rattle.hz_bounds.specs.Telling.{known_word, known_or, AreStill}
+use Rattle.hz_bounds.specs.Telling.{known_word}
 use Rattle.hz_bounds.specs.Existence.{WordsAreTold}
 use Rattle.hz_bounds.proofs.Known.{still-word, within-word}
 use Rattle.hz_bounds.proofs.Still.{known-or, constant-capped, still-enough}

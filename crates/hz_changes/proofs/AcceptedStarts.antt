@@ -1,17 +1,16 @@
 -- The start of a script is listed, and it is accepted or refused.
 use Rattle.std.proofs.Common.{◌≡◌, ℕ, ◌<◌, ◌≤◌, Bool, List, length, take, All, Option, Some, None, IsSome, refl, subst, sym, ◌∙◌, ap, get_or, arith}
+use Rattle.hz_changes.proofs.Words.{length-take-le, Netlist, IsStartFault, StartPrints}
 use Rattle.std.proofs.lemmas.Bool.{false≢true}
-use Rattle.std.proofs.lemmas.List.{length-take-le, get_or-take}
+use Rattle.std.proofs.lemmas.List.{get_or-take}
 use Rattle.std.proofs.lemmas.List.Elements.{All-get_or}
 use Rattle.std.proofs.lemmas.Option.{slice_get-get_or}
-use Rattle.hz_core.specs.Netlist.{Netlist, primary_inputs}
+use Rattle.hz_core.specs.Netlist.{primary_inputs}
 use Rattle.hz_net.specs.Starts.{ListsInputs, IsAcceptedStart}
 use Rattle.hz_gen.specs.Starts.{IsCompletable}
-use Rattle.hz_pass.specs.Completed.{IsStartFault}
 use Rattle.hz_pass.specs.declared.completed_start.StartFault.{StartFault}
 use Rattle.hz_pass.specs.declared.completed_start.StartFault.TheVariants as start
 use Rattle.hz_refusal.specs.declared.status.Status.{Status}
-use Rattle.hz_refusal.specs.Refused.{StartPrints}
 
 -- an entry that lists its node has a bit
 pub listed-bit : (entry : Option Bool) → IsSome entry → (bit : Bool) × (entry ≡ Some bit)

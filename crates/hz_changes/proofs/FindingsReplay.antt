@@ -1,23 +1,20 @@
 -- The runs of a right finding are printed as a text that replays.
 use Rattle.std.proofs.Common.{◌≡◌, ◌∙◌, sym, ap, subst, refl, inl, inr, ℕ, ◌+◌, ◌≤◌, Bool, List, [], ◌∷◌, ◌++◌, map, None, Some, length, take, All, arith, length-append}
-use Rattle.std.proofs.lemmas.List.{length-take-le, length-map}
+use Rattle.hz_changes.proofs.Words.{length-take-le, Netlist, IsCircuit, network_of, IsStableStart, length-network_of, Row, FindingOf, values_b, IsFindingOfChange, Analysis, Found}
+use Rattle.hz_changes.proofs.Words.{Stopped, AreAnalyses}
+use Rattle.std.proofs.lemmas.List.{length-map}
 use Rattle.std.proofs.lemmas.List.Elements.{All-nil, All-cons}
 use Rattle.std.proofs.lemmas.List.Sums.{sum_by-append, count_by-le-length}
 use Rattle.hz_core.specs.Ternary.{is_unknown}
-use Rattle.hz_core.specs.Netlist.{Netlist, IsCircuit}
-use Rattle.hz_net.specs.Network.{network_of}
-use Rattle.hz_net.specs.Starts.{IsStableStart}
 use Rattle.hz_net.specs.Variables.{expansion_of}
-use Rattle.hz_net.proofs.Places.{length-network_of}
 use Rattle.hz_gmw.specs.Runs.{end_of}
 use Rattle.hz_gmw.specs.RunRecord.{flip_count}
 use Rattle.hz_reach.specs.Counts.{StepsAreNoMoreThanFlips}
 use Rattle.hz_run_text.specs.RunReadBack.{PrintedRunsAreRead}
 use Rattle.hz_run_text.specs.RunValue.{all_steps}
-use Rattle.hz_desk.specs.declared.finding.Row.{Row}
-use Rattle.hz_desk.specs.Finding.{FindingOf, values_a, values_b}
-use Rattle.hz_seq.specs.Sequence.{changed_input, IsFindingOfChange}
-use Rattle.hz_seq.specs.Analyses.{Analysis, Found, Stopped, AreAnalyses, all_stopped}
+use Rattle.hz_desk.specs.Finding.{values_a}
+use Rattle.hz_seq.specs.Sequence.{changed_input}
+use Rattle.hz_seq.specs.Analyses.{all_stopped}
 use Rattle.hz_seq.proofs.NextStart.{next-start}
 use Rattle.hz_seq.proofs.FirstAnalyses.{input-long}
 use Rattle.hz_report.specs.Report.{runs_of_finding}

@@ -1,3 +1,5 @@
+-- The names that most proofs cite, passed on from one place
+pub mod Words
 -- The start of a script is listed, and it is accepted or refused
 pub mod AcceptedStarts
 -- What a report may write: a finding that fits its network, and a variable that is there

@@ -1,11 +1,8 @@
 -- A script of one change.
 use Rattle.std.proofs.Common.{◌≡◌, ℕ, Bool, List, [], ◌∷◌, length, Some, None, sym, ap, subst, arith, slice_get}
-use Rattle.hz_core.specs.Netlist.{Netlist, IsCircuit}
-use Rattle.hz_net.specs.Starts.{IsStableStart}
-use Rattle.hz_desk.specs.Finding.{FindingOf}
-use Rattle.hz_seq.specs.Sequence.{SequenceState, IsFindingOfChange, IsLeftBy}
-use Rattle.hz_seq.specs.Analyses.{Found, AreAnalyses}
-use Rattle.hz_seq.proofs.FirstAnalyses.{AreFirstAnalyses, no-changes, one-found, all-analyses}
+use Rattle.hz_changes.proofs.Words.{Netlist, IsCircuit, IsStableStart, FindingOf, SequenceState, IsFindingOfChange, IsLeftBy, Found, AreAnalyses, AreFirstAnalyses, no-changes}
+use Rattle.hz_changes.proofs.Words.{all-analyses}
+use Rattle.hz_seq.proofs.FirstAnalyses.{one-found}
 
 some-same : {X : Type 0} (x y : X) → Some x ≡ Some y → x ≡ y
 some-same x y e = cc

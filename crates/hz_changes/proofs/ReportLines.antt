@@ -1,9 +1,8 @@
 -- The lines of one analysis more.
 use Rattle.std.proofs.Common.{◌≡◌, ◌∙◌, ℕ, suc, ◌+◌, Bool, List, [], ◌∷◌, ◌++◌, length, sym, ap, append_assoc, append-nil, arith}
-use Rattle.hz_core.specs.Netlist.{Netlist}
-use Rattle.hz_seq.specs.Analyses.{Analysis}
+use Rattle.hz_changes.proofs.Words.{Netlist, Analysis, analyses_text}
 use Rattle.hz_options.specs.declared.show.Show.{Show}
-use Rattle.hz_changes.specs.Reports.{analysis_text, analyses_text}
+use Rattle.hz_changes.specs.Reports.{analysis_text}
 
 -- they come behind those of the analyses before it
 pub text-more : (netlist : Netlist) (show : Show) (number : ℕ) (changes : List (List (ℕ × Bool))) (analyses : List Analysis) (change : List (ℕ × Bool)) (analysis : Analysis) → length analyses ≡ length changes

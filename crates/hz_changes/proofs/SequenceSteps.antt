@@ -1,9 +1,8 @@
 -- A sequence that goes on by one change more.
 use Rattle.std.proofs.Common.{ℕ, Bool, List, [], ◌∷◌, ◌++◌, sym, subst}
-use Rattle.hz_core.specs.Netlist.{Netlist, IsCircuit}
-use Rattle.hz_seq.specs.Sequence.{SequenceState}
-use Rattle.hz_seq.specs.Analyses.{Analysis, Found, Stopped, GoesOn}
-use Rattle.hz_seq.proofs.FirstAnalyses.{AreFirstAnalyses, one-found, one-stopped}
+use Rattle.hz_changes.proofs.Words.{Netlist, IsCircuit, SequenceState, Analysis, Found, Stopped, AreFirstAnalyses}
+use Rattle.hz_seq.specs.Analyses.{GoesOn}
+use Rattle.hz_seq.proofs.FirstAnalyses.{one-found, one-stopped}
 use Rattle.hz_changes.proofs.Writable.{IsStopInside, fits, left-inside}
 
 module _ (netlist : Netlist) (cap : ℕ) (start : List Bool) (changes : List (List (ℕ × Bool))) (analyses : List Analysis) (was now : SequenceState) (circuit : IsCircuit netlist) (first : AreFirstAnalyses netlist cap start changes analyses was) (change : List (ℕ × Bool)) where

@@ -1,6 +1,8 @@
 -- The text of changes, of which the first that leaves a variable unsettled is the last that is made.
 use Rattle.std.proofs.Common.{◌≡◌, ◌∙◌, ℕ, ◌+◌, ◌<◌, Bool, true, false, List, [], ◌∷◌, ◌++◌, length, map, take, get_or, codes, Option, None, refl, sym, ap, subst, arith, inl, inr}
-use Rattle.std.specs.List.{list_any, flat_map, Contains}
+use Rattle.hz_changes.proofs.Words.{flat_map, Netlist, Row, FindingOf, values_b, Analysis, Found, Stopped, AreAnalyses, SequenceState, IsFindingOfChange, IsLeftBy}
+use Rattle.hz_changes.proofs.Words.{AreFirstAnalyses, all-analyses, run_text, line_of, closed, is_unsettled, found_in, SplitsChange, SplitsChanges}
+use Rattle.std.specs.List.{list_any, Contains}
 use Rattle.std.proofs.lemmas.Bool.{false≢true}
 use Rattle.std.proofs.lemmas.List.{append-nil, map-append, take_more}
 use Rattle.std.proofs.lemmas.List.Concat.{flat_map-append}
@@ -9,20 +11,16 @@ use Rattle.std.proofs.lemmas.List.Folds.{list_any_at}
 use Rattle.hz_core.specs.declared.tri.Tri.{Tri}
 use Rattle.hz_core.specs.declared.tri.Tri.TheVariants.{Zero, Unknown}
 use Rattle.hz_core.specs.Ternary.{tri_of, is_unknown}
-use Rattle.hz_core.specs.Netlist.{Netlist}
-use Rattle.hz_desk.specs.declared.finding.Row.{Row}
-use Rattle.hz_desk.specs.Finding.{FindingOf, values_b}
-use Rattle.hz_seq.specs.Analyses.{Analysis, Found, Stopped, AreAnalyses, all_stopped}
-use Rattle.hz_seq.specs.Sequence.{SequenceState, IsFindingOfChange, IsFirstUnknown, IsLeftBy}
-use Rattle.hz_seq.proofs.FirstAnalyses.{AreFirstAnalyses, AreLaterAnalyses, all-analyses}
+use Rattle.hz_seq.specs.Analyses.{all_stopped}
+use Rattle.hz_seq.specs.Sequence.{IsFirstUnknown}
+use Rattle.hz_seq.proofs.FirstAnalyses.{AreLaterAnalyses}
 use Rattle.hz_seq.proofs.Existence.{settled-or-unknown}
 use Rattle.hz_refusal.specs.declared.status.Status.{Status}
 use Rattle.hz_refusal.specs.declared.status.Status.TheVariants as status
 use Rattle.hz_split.specs.Attempts.{outcome_of}
-use Rattle.hz_run_text.specs.RunPrinted.{states_text, run_text, run_text_printed}
+use Rattle.hz_run_text.specs.RunPrinted.{states_text, run_text_printed}
 use Rattle.hz_text.specs.RunParts.{RunOf}
-use Rattle.hz_write.specs.Writes.{line_of}
-use Rattle.hz_changes.specs.Splits.{closed, change_line, is_unsettled, changes_text, split_text, found_in, AreSplits, SplitsChange, SplitsChanges}
+use Rattle.hz_changes.specs.Splits.{change_line, changes_text, split_text, AreSplits}
 use Rattle.hz_changes.proofs.Writable.{first-inside}
 
 -- changes that leave no variable unsettled

@@ -1,21 +1,17 @@
 -- The runs of a change that end in stable states are accepted by a replay; and when a change may be split.
 use Rattle.std.proofs.Common.{◌≡◌, ℕ, ◌<◌, Bool, List, [], ◌∷◌, length, map, take, All, sym, subst, arith, true}
-use Rattle.std.proofs.lemmas.List.{length-take-le}
+use Rattle.hz_changes.proofs.Words.{length-take-le, Netlist, IsCircuit, network_of, IsStableStart, length-network_of, Row, FindingOf, finding_of, IsFindingOfChange, closed}
+use Rattle.hz_changes.proofs.Words.{found_in, is_unsettled}
 use Rattle.std.proofs.lemmas.List.Elements.{All-nil, All-cons, All-head, All-tail}
-use Rattle.hz_core.specs.Netlist.{Netlist, IsCircuit}
-use Rattle.hz_net.specs.Network.{Driver, network_of}
-use Rattle.hz_net.specs.Starts.{IsStableStart}
-use Rattle.hz_net.proofs.Places.{length-network_of}
-use Rattle.hz_desk.specs.declared.finding.Row.{Row}
-use Rattle.hz_desk.specs.Finding.{FindingOf, finding_of}
+use Rattle.hz_net.specs.Network.{Driver}
 use Rattle.hz_desk.specs.RightFinding.{IsRightFinding}
-use Rattle.hz_seq.specs.Sequence.{IsFindingOfChange, changed_input}
+use Rattle.hz_seq.specs.Sequence.{changed_input}
 use Rattle.hz_split.specs.Splits.{IsSettledRun, AreSettledRuns}
 use Rattle.hz_split.proofs.OutcomeRuns.{stable-cycle}
 use Rattle.hz_run_text.specs.RunReadBack.{PrintedRunsAreRead}
 use Rattle.hz_replay.specs.Replaying.{IsAcceptedRun, start_of}
 use Rattle.hz_changes.specs.declared.splitting.Unsettled.{Unsettled}
-use Rattle.hz_changes.specs.Splits.{closed, found_in, is_unsettled, runs_of_split, IsSplitOf}
+use Rattle.hz_changes.specs.Splits.{runs_of_split, IsSplitOf}
 use Rattle.hz_changes.specs.Unsettled.{CanBeSplit}
 use Rattle.hz_changes.proofs.Writable.{fits}
 use Rattle.hz_replay.proofs.ReadBack.{accepted-replays, stable-expansion_of}

@@ -1,16 +1,12 @@
 -- What a report may write: a finding that fits its network, and a variable that is there.
 use Rattle.std.proofs.Common.{◌≡◌, ◌∙◌, ℕ, ◌<◌, Bool, List, length, All, Option, IfSome, sym, ap, subst, arith, inl, inr}
+use Rattle.hz_changes.proofs.Words.{Netlist, IsCircuit, network_of, IsStableStart, Row, FindingOf, values_b, SequenceState, IsFindingOfChange, IsLeftBy}
 use Rattle.std.proofs.lemmas.Bool.{cases_lt}
 use Rattle.std.proofs.lemmas.List.{length-map, get_or_past}
 use Rattle.hz_core.specs.declared.tri.Tri.{Tri}
 use Rattle.hz_core.specs.declared.tri.Tri.TheVariants.{Zero, Unknown}
-use Rattle.hz_core.specs.Netlist.{Netlist, IsCircuit}
-use Rattle.hz_net.specs.Network.{network_of}
-use Rattle.hz_net.specs.Starts.{IsStableStart}
 use Rattle.hz_gmw.specs.Runs.{end_of}
-use Rattle.hz_desk.specs.declared.finding.Row.{Row}
-use Rattle.hz_desk.specs.Finding.{FindingOf, values_b}
-use Rattle.hz_seq.specs.Sequence.{SequenceState, IsFindingOfChange, IsFirstUnknown, IsLeftBy}
+use Rattle.hz_seq.specs.Sequence.{IsFirstUnknown}
 use Rattle.hz_seq.proofs.FirstAnalyses.{input-long}
 use Rattle.hz_replay.proofs.ReadBack.{run-inside}
 

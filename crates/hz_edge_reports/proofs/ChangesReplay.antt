@@ -1,13 +1,8 @@
 -- What is found of a change is printed as a run that replays.
 use Rattle.std.proofs.Common.{◌≡◌, ◌∙◌, sym, subst, ℕ, ◌≤◌, Bool, List, [], ◌∷◌, ◌++◌, length, take, None, All, arith}
-use Rattle.std.proofs.lemmas.List.{length-take-le, append-nil}
-use Rattle.std.proofs.lemmas.List.Elements.{All-nil, All-cons}
-use Rattle.hz_core.specs.Netlist.{Netlist, IsCircuit}
-use Rattle.hz_net.specs.Network.{network_of, value_at}
-use Rattle.hz_net.specs.Passes.{algorithm_a, algorithm_b, IsResult}
-use Rattle.hz_net.specs.Starts.{IsStableStart}
-use Rattle.hz_net.proofs.Places.{length-network_of}
-use Rattle.hz_core.specs.declared.tri.Tri.{Tri}
+use Rattle.hz_edge_reports.proofs.Words.{length-take-le, append-nil, All-nil, Netlist, IsCircuit, network_of, value_at, algorithm_a, algorithm_b, IsResult, IsStableStart}
+use Rattle.hz_edge_reports.proofs.Words.{length-network_of, Tri, Assumption, AreUsed, AreRightUnder, ChangeOf, IsRightChange}
+use Rattle.std.proofs.lemmas.List.Elements.{All-cons}
 use Rattle.hz_gmw.specs.Runs.{IsReachable, JoinsTo}
 use Rattle.hz_gmw.specs.RunRecord.{flip_count}
 use Rattle.hz_reach.specs.Existence.{AIsExact}
@@ -16,11 +11,9 @@ use Rattle.hz_run_text.specs.Limits.{most_steps}
 use Rattle.hz_run_text.specs.RunReadBack.{PrintedRunsAreRead}
 use Rattle.hz_run_text.specs.RunValue.{all_steps}
 use Rattle.hz_text.specs.RunParts.{RunOf}
-use Rattle.hz_timing.specs.declared.script.Assumption.{Assumption}
 use Rattle.hz_replay.specs.Replaying.{IsAcceptedRun, start_of}
 use Rattle.hz_replay.proofs.ReadBack.{stable-expansion_of, accepted-replays}
-use Rattle.hz_edge_reports.specs.UsedOrders.{AreUsed}
-use Rattle.hz_edge_reports.specs.EdgeChanges.{AreRightUnder, ChangeOf, IsRightChange, run_of_change}
+use Rattle.hz_edge_reports.specs.EdgeChanges.{run_of_change}
 use Rattle.hz_edge_reports.proofs.OrderedRight.{run-shown}
 
 -- all steps of one run without a cycle

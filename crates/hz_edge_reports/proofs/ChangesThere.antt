@@ -1,39 +1,24 @@
 -- Every change comes to something.
 use Rattle.std.proofs.Common.{◌≡◌, ◌∙◌, refl, subst, ℕ, suc, ◌<◌, ◌≤◌, Bool, true, false, not, List, [], ◌∷◌, length, replicate, All, ◌↔◌, ◌⊎◌, inl, inr}
+use Rattle.hz_edge_reports.proofs.Words.{Tri, tri_of, Refines, Netlist, IsCircuit, IsWhole, Driver, network_of, bit_at, value_at, algorithm_a, algorithm_b, IsResult}
+use Rattle.hz_edge_reports.proofs.Words.{IsStableStart, Word, greatest_cap, Order, IsInductiveUnder, AreTabled, Assumption, IsAssumptionOf, EdgesOf, AreFound, ChangeOf}
+use Rattle.hz_edge_reports.proofs.Words.{IsRightChange, AreEdgesUnder, ChangesExist, All-nil}
 use Rattle.std.proofs.lemmas.List.{length-replicate}
-use Rattle.hz_core.specs.declared.tri.Tri.{Tri}
 use Rattle.hz_core.specs.declared.tri.Tri.TheVariants.{Zero, One, Unknown}
-use Rattle.hz_core.specs.Ternary.{tri_of, Refines}
-use Rattle.hz_core.specs.Netlist.{Netlist, IsCircuit, IsWhole}
-use Rattle.hz_net.specs.Network.{Driver, network_of, bit_at, value_at}
-use Rattle.hz_net.specs.Passes.{algorithm_a, algorithm_b, IsResult}
 use Rattle.hz_net.specs.PassEnds.{ResultOfAExists, ResultOfBExists}
-use Rattle.hz_net.specs.Starts.{IsStableStart}
 use Rattle.hz_gmw.specs.Runs.{IsRun}
-use Rattle.hz_word.specs.declared.word.Word.{Word}
-use Rattle.hz_word.specs.Capped.{greatest_cap}
 use Rattle.hz_word.specs.Covers.{Covers}
 use Rattle.hz_free.specs.VariableWords.{variable_history}
 use Rattle.hz_free.specs.Inductive.{IsInductive, told_at}
 use Rattle.hz_bounds.specs.Existence.{WordsAreTold}
-use Rattle.hz_orders.specs.declared.order.Order.{Order}
 use Rattle.hz_orders.specs.Orders.{IsUsed, Keeps}
-use Rattle.hz_orders.specs.Inductive.{IsInductiveUnder}
-use Rattle.hz_orders.specs.Tabled.{AreTabled}
 use Rattle.hz_orders.proofs.WithTables.{tabled-exist}
-use Rattle.hz_timing.specs.declared.script.Assumption.{Assumption}
 use Rattle.hz_timing.specs.declared.script.Assumption.TheVariants as assumed
-use Rattle.hz_timing.specs.TimedText.{IsAssumptionOf}
-use Rattle.hz_edges.specs.Edges.{EdgesOf}
 use Rattle.hz_edges.specs.EdgesExist.{EdgesExist}
-use Rattle.hz_edge_reports.specs.UsedOrders.{AreFound, FollowsFrom}
-use Rattle.hz_edge_reports.specs.EdgeChanges.{ChangeOf, IsRightChange}
-use Rattle.hz_edge_reports.specs.OrderedEdges.{AreEdgesUnder}
-use Rattle.hz_edge_reports.specs.ChangesExist.{ChangesExist}
+use Rattle.hz_edge_reports.specs.UsedOrders.{FollowsFrom}
 use Rattle.hz_edge_reports.proofs.OrderedRight.{edges-under, long-outcome}
 use Rattle.hz_edge_reports.proofs.ChangesReplay.{ChangeLaws, right-change}
 use Rattle.hz_edge_reports.proofs.UsedMore.{found-orders, none-used, used-told}
-use Rattle.std.proofs.lemmas.List.Elements.{All-nil}
 
 -- what the laws of hz_orders say
 abbrev pub UsedByB : Type 0

@@ -1,9 +1,8 @@
 -- The lines of variables, line by line.
 use Rattle.std.proofs.Common.{◌≡◌, ◌∙◌, sym, ap, ℕ, ◌+◌, ◌<◌, Bool, List, [], ◌∷◌, ◌++◌, length, take, suc, get_or, arith, append_assoc}
-use Rattle.std.proofs.lemmas.List.{append-nil, take_more, length-take-le}
-use Rattle.hz_core.specs.declared.tri.Tri.{Tri}
-use Rattle.hz_core.specs.Netlist.{Netlist}
-use Rattle.hz_edges.specs.Edges.{EdgesOf, range_at}
+use Rattle.hz_edge_reports.proofs.Words.{append-nil, length-take-le, Tri, Netlist, EdgesOf}
+use Rattle.std.proofs.lemmas.List.{take_more}
+use Rattle.hz_edges.specs.Edges.{range_at}
 use Rattle.hz_edge_reports.specs.EdgeText.{edge_line, edge_lines}
 
 abbrev line_at : Netlist → EdgesOf → ℕ → Bool → Tri → List ℕ

@@ -1,17 +1,11 @@
 -- The changes so far, for a loop that makes one change after the other, and what the changes that are left come to.
 use Rattle.std.proofs.Common.{◌≡◌, ◌∙◌, ℕ, ◌≤◌, Bool, true, false, List, [], ◌∷◌, ◌++◌, length, take, All, Option, Some, None, refl, sym, ap, subst, append_assoc, append-nil, length-append, arith, inl, inr}
-use Rattle.hz_core.specs.Netlist.{Netlist, IsCircuit, IsWhole}
-use Rattle.hz_net.specs.Starts.{IsStableStart}
-use Rattle.hz_word.specs.Capped.{greatest_cap}
-use Rattle.hz_timing.specs.declared.script.Assumption.{Assumption}
-use Rattle.hz_timing.specs.TimedText.{IsAssumptionOf}
-use Rattle.hz_seq.specs.Sequence.{changed_input}
+use Rattle.hz_edge_reports.proofs.Words.{Netlist, IsCircuit, IsWhole, IsStableStart, greatest_cap, Assumption, IsAssumptionOf, changed_input, ChangeRoom, ChangesExist, ChangeOf}
+use Rattle.hz_edge_reports.proofs.Words.{EdgeAnalysis, AreEdgeAnalyses, IsNextStart, IsRightChange, IsStopper}
 use Rattle.hz_seq.proofs.FirstAnalyses.{input-long}
 use Rattle.hz_changes.proofs.Writable.{IsStopInside}
 use Rattle.hz_edge_reports.specs.declared.finding.Making.{Making}
-use Rattle.hz_edge_reports.specs.declared.room.ChangeRoom.{ChangeRoom}
-use Rattle.hz_edge_reports.specs.ChangesExist.{ChangesExist}
-use Rattle.hz_edge_reports.specs.EdgeChanges.{ChangeOf, EdgeAnalysis, Found, Stopped, AreEdgeAnalyses, IsChangeFrom, IsNextStart, IsRightChange, IsStopper, all_stopped}
+use Rattle.hz_edge_reports.specs.EdgeChanges.{Found, Stopped, IsChangeFrom, all_stopped}
 use Rattle.hz_edge_reports.specs.Going.{GoesOn}
 use Rattle.hz_edge_reports.specs.Room.{CanBeMade, Leads}
 use Rattle.hz_edge_reports.proofs.Leading.{found-leads, stopper-inside}

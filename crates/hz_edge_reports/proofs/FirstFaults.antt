@@ -1,15 +1,13 @@
 -- The first start that can't be completed is refused.
 use Rattle.std.proofs.Common.{◌≡◌, ℕ, zero, suc, ◌<◌, Bool, List, [], ◌∷◌, length, take, get_or, arith, inl, inr}
-use Rattle.hz_core.specs.Netlist.{Netlist}
+use Rattle.hz_edge_reports.proofs.Words.{Netlist, ScriptOf, Status, AreAcceptedStarts}
 use Rattle.hz_pass.specs.Completed.{IsStartFault}
 use Rattle.hz_pass.specs.declared.completed_start.StartFault.{StartFault}
 use Rattle.hz_pass.specs.declared.completed_start.StartFault.TheVariants as start
-use Rattle.hz_script.specs.ScriptValue.{ScriptOf}
-use Rattle.hz_refusal.specs.declared.status.Status.{Status}
 use Rattle.hz_refusal.specs.declared.status.Status.TheVariants as status
 use Rattle.hz_refusal.specs.Refused.{NamesNode, StartPrints, named_gate}
 use Rattle.hz_refusal.proofs.RefusedTexts.{start-refused}
-use Rattle.hz_timing.specs.Timed.{AreAcceptedStarts, FirstStartRefused}
+use Rattle.hz_timing.specs.Timed.{FirstStartRefused}
 use Rattle.hz_edge_reports.specs.StartFaults.{HasStartFault, IsFirstStartFault}
 
 has-fault : (netlist : Netlist) (part : ScriptOf) (fault : StartFault) → IsStartFault netlist part.start fault → HasStartFault netlist part fault

@@ -1,26 +1,14 @@
 -- What a room holds is found of the same change, by other names.
 use Rattle.std.proofs.Common.{◌≡◌, ◌∙◌, sym, subst, ap, ℕ, Bool, List, [], length}
+use Rattle.hz_edge_reports.proofs.Words.{Tri, Driver, network_of, algorithm_a, algorithm_b, IsResult, IsStableStart, Word, IsCircuit, IsWhole, Order, IsInductiveUnder, AreTabled}
+use Rattle.hz_edge_reports.proofs.Words.{Assumption, ChangeRoom, IsChangeRoom, change_of, AreFound, AreUsed, AreEdgesUnder, AreRightUnder, IsRightChange}
 use Rattle.std.specs.Prelude.{Vec}
-use Rattle.hz_core.specs.declared.tri.Tri.{Tri}
-use Rattle.hz_net.specs.Network.{Driver, network_of}
-use Rattle.hz_net.specs.Passes.{algorithm_a, algorithm_b, IsResult}
-use Rattle.hz_net.specs.Starts.{IsStableStart}
-use Rattle.hz_word.specs.declared.word.Word.{Word}
 use Rattle.hz_free.specs.Inductive.{IsInductive}
-use Rattle.hz_core.specs.Netlist.{IsCircuit, IsWhole}
-use Rattle.hz_orders.specs.declared.order.Order.{Order}
-use Rattle.hz_orders.specs.Inductive.{IsInductiveUnder}
-use Rattle.hz_orders.specs.Tabled.{AreTabled}
-use Rattle.hz_timing.specs.declared.script.Assumption.{Assumption}
 use Rattle.hz_edge_reports.specs.declared.finding.Making.{Making}
-use Rattle.hz_edge_reports.specs.declared.room.ChangeRoom.{ChangeRoom}
 use Rattle.hz_edge_reports.specs.declared.using.Known.{Known}
-use Rattle.hz_edge_reports.specs.Room.{CanBeMade, IsChangeRoom, change_of}
+use Rattle.hz_edge_reports.specs.Room.{CanBeMade}
 use Rattle.hz_edge_reports.specs.Passed.{AreToldFree, HavePassed, PassesRest, RestsFor}
 use Rattle.hz_edge_reports.specs.Using.{IsKnown}
-use Rattle.hz_edge_reports.specs.UsedOrders.{AreFound, AreUsed}
-use Rattle.hz_edge_reports.specs.OrderedEdges.{AreEdgesUnder}
-use Rattle.hz_edge_reports.specs.EdgeChanges.{AreRightUnder, IsRightChange}
 use Rattle.hz_edge_reports.proofs.ChangesReplay.{ChangeLaws, right-change}
 
 -- words that are inductive

@@ -1,31 +1,22 @@
 -- What is found of a change names variables, and leads somewhere: to a next start, or to a variable that stops.
 use Rattle.std.proofs.Common.{◌≡◌, ◌∙◌, ℕ, zero, suc, ◌<◌, ◌≤◌, ◌⊎◌, Bool, true, false, List, [], ◌∷◌, length, take, All, refl, sym, ap, subst, arith, inl, inr}
+use Rattle.hz_edge_reports.proofs.Words.{All-nil, Tri, Netlist, IsCircuit, Driver, network_of, bit_at, excitation, IsStableStart, Order, Word, Assumption, IsAssumptionOf}
+use Rattle.hz_edge_reports.proofs.Words.{changed_input, ChangeRoom, change_of, AreUsed, ChangeOf, AreRightUnder, IsNextStart, IsRightChange, IsStopper}
 use Rattle.std.proofs.lemmas.Bool.{cases_lt}
-use Rattle.std.proofs.lemmas.List.Elements.{All-nil, All-weaker}
-use Rattle.hz_core.specs.declared.tri.Tri.{Tri}
-use Rattle.hz_core.specs.Netlist.{Netlist, IsCircuit}
-use Rattle.hz_net.specs.Network.{Driver, network_of, bit_at, excitation, IsVariable}
+use Rattle.std.proofs.lemmas.List.Elements.{All-weaker}
+use Rattle.hz_net.specs.Network.{IsVariable}
 use Rattle.hz_net.specs.Reads.{Reads, IsWireInto}
-use Rattle.hz_net.specs.Starts.{IsStableStart}
 use Rattle.hz_net.proofs.Sequences.{length-algorithm_a, length-algorithm_b}
 use Rattle.hz_net.proofs.Wired.{wired-network_of}
 use Rattle.hz_free.proofs.Chains.{reads-inside}
 use Rattle.hz_lists.specs.Least.{IsLeast}
-use Rattle.hz_orders.specs.declared.order.Order.{Order}
 use Rattle.hz_orders.specs.Orders.{IsOrderOf}
 use Rattle.hz_orders.proofs.WithTables.{tabled-of-all}
-use Rattle.hz_word.specs.declared.word.Word.{Word}
-use Rattle.hz_timing.specs.declared.script.Assumption.{Assumption}
-use Rattle.hz_timing.specs.TimedText.{IsAssumptionOf}
-use Rattle.hz_seq.specs.Sequence.{changed_input}
 use Rattle.hz_seq.proofs.FirstAnalyses.{input-long}
 use Rattle.hz_seq.proofs.Existence.{settled-or-unknown}
 use Rattle.hz_replay.proofs.ReadBack.{run-inside}
 use Rattle.hz_changes.proofs.Writable.{first-inside}
-use Rattle.hz_edge_reports.specs.declared.room.ChangeRoom.{ChangeRoom}
-use Rattle.hz_edge_reports.specs.Room.{change_of}
-use Rattle.hz_edge_reports.specs.UsedOrders.{AreUsed}
-use Rattle.hz_edge_reports.specs.EdgeChanges.{ChangeOf, AreRightUnder, IsChangeFrom, IsNextStart, IsRightChange, IsStopper, IsUnstableVariable}
+use Rattle.hz_edge_reports.specs.EdgeChanges.{IsChangeFrom, IsUnstableVariable}
 use Rattle.hz_edge_reports.proofs.UsedMore.{found-orders}
 use Rattle.hz_edge_reports.proofs.NextStart.{next-start, first-unstable}
 

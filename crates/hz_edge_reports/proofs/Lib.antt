@@ -1,3 +1,5 @@
+-- The names that most proofs cite, passed on from one place
+pub mod Words
 -- Where no variable is unstable, the next change may start
 pub mod NextStart
 -- Orders that are found to be used, one assumption after the other

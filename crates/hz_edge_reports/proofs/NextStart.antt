@@ -1,16 +1,14 @@
 -- Where no variable is unstable under the new input, the next change may start.
 use Rattle.std.proofs.Common.{◌≡◌, ℕ, ◌<◌, ◌≤◌, Bool, true, false, List, length, take, ap, sym, ◌∙◌, refl, subst, arith, inl, inr, Option, Some, None}
+use Rattle.hz_edge_reports.proofs.Words.{length-take-le, Tri, tri_of, Netlist, IsCircuit, network_of, bit_at, excitation, length-network_of, IsNextStart, IsStopper}
 use Rattle.std.specs.Prelude.{MatchOption}
 use Rattle.std.proofs.lemmas.Bool.{cases_lt}
-use Rattle.std.proofs.lemmas.List.{ext_get_or, get_or-take, length-map, length-take-le}
-use Rattle.hz_core.specs.declared.tri.Tri.{Tri}
-use Rattle.hz_core.specs.Ternary.{tri_of}
-use Rattle.hz_core.specs.Netlist.{Netlist, IsCircuit}
-use Rattle.hz_net.specs.Network.{driver_value, network_of, bit_at, excitation, IsStable}
-use Rattle.hz_net.proofs.Places.{driver_at-input, length-network_of}
+use Rattle.std.proofs.lemmas.List.{ext_get_or, get_or-take, length-map}
+use Rattle.hz_net.specs.Network.{driver_value, IsStable}
+use Rattle.hz_net.proofs.Places.{driver_at-input}
 use Rattle.hz_lists.specs.Least.{IsLeast, IsLeastOf}
 use Rattle.hz_seq.specs.Sequence.{IsSettledAt}
-use Rattle.hz_edge_reports.specs.EdgeChanges.{IsNextStart, IsStopper, IsUnstableVariable}
+use Rattle.hz_edge_reports.specs.EdgeChanges.{IsUnstableVariable}
 
 -- two bits that do not differ are the same
 not-different : (one other : Bool) → ((one ≡ other → ⊥) → ⊥) → one ≡ other

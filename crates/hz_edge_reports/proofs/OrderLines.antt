@@ -1,9 +1,7 @@
 -- Lines that are there only if orders are used, or if something is assumed.
 use Rattle.std.proofs.Common.{◌≡◌, ◌∙◌, ℕ, Bool, true, false, List, [], ◌∷◌, length, eqb, refl, sym, arith}
-use Rattle.std.proofs.lemmas.Bool.{eq-eqb, eqb-true, false≢true}
-use Rattle.hz_orders.specs.declared.order.Order.{Order}
-use Rattle.hz_timing.specs.declared.script.Assumption.{Assumption}
-use Rattle.hz_edge_reports.specs.EdgeChanges.{ChangeOf}
+use Rattle.hz_edge_reports.proofs.Words.{eqb-true, Order, Assumption, ChangeOf}
+use Rattle.std.proofs.lemmas.Bool.{eq-eqb, false≢true}
 use Rattle.hz_edge_reports.specs.EdgeText.{kept_line, kept_text, orders_line, orders_text, shown_run}
 
 -- a list with an item is not empty

@@ -1,25 +1,19 @@
 -- What is told under orders, and a run that keeps them, are right edges under the orders.
 use Rattle.std.proofs.Common.{◌≡◌, ◌∙◌, refl, sym, ap, subst, ℕ, ◌<◌, Bool, true, false, List, [], ◌∷◌, ◌++◌, length, IfSome, IsTrue}
-use Rattle.hz_core.specs.declared.tri.Tri.{Tri}
-use Rattle.hz_core.specs.Ternary.{Refines}
-use Rattle.hz_net.specs.Network.{Driver}
+use Rattle.hz_edge_reports.proofs.Words.{Tri, Refines, Driver, Word, Order, EdgesOf, AreEdgesUnder, AreRightUnder, ChangeOf}
 use Rattle.hz_gmw.specs.Runs.{IsRun}
 use Rattle.hz_gmw.proofs.CoverB.{length-end_of}
 use Rattle.hz_word.specs.declared.count.Count.{Count}
 use Rattle.hz_word.specs.declared.count.Count.TheVariants.{Exact, Many}
-use Rattle.hz_word.specs.declared.word.Word.{Word}
 use Rattle.hz_word.specs.Covers.{Bounds, Covers}
 use Rattle.hz_free.specs.VariableWords.{variable_history}
 use Rattle.hz_free.specs.Inductive.{told_at}
 use Rattle.hz_witness.specs.Witness.{AreCounts}
 use Rattle.hz_bounds.specs.Ranges.{bound_of}
-use Rattle.hz_orders.specs.declared.order.Order.{Order}
 use Rattle.hz_orders.specs.Orders.{Keeps}
 use Rattle.hz_orders.specs.Outcomes.{IsKeptOutcome}
 use Rattle.hz_kept.specs.Kept.{IsKeptRun}
-use Rattle.hz_edges.specs.Edges.{EdgesOf}
-use Rattle.hz_edge_reports.specs.OrderedEdges.{AreEdgesUnder, ChangesAtMostUnder}
-use Rattle.hz_edge_reports.specs.EdgeChanges.{AreRightUnder, ChangeOf}
+use Rattle.hz_edge_reports.specs.OrderedEdges.{ChangesAtMostUnder}
 
 -- words cover all runs that keep orders
 abbrev pub AllCover : List Order → List Driver → List Bool → List Bool → List Word → Type 0

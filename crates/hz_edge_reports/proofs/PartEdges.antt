@@ -1,17 +1,9 @@
 -- The parts so far, and what the parts that are left come to.
 use Rattle.std.proofs.Common.{◌≡◌, ℕ, zero, suc, ◌<◌, ◌≤◌, Bool, List, [], ◌∷◌, ◌++◌, length, drop, get_or, slice_get, All, Some, refl, ap, subst, arith}
-use Rattle.std.proofs.lemmas.Option.{get_or_from_slice_get}
-use Rattle.hz_core.specs.Netlist.{Netlist, IsCircuit, IsWhole}
-use Rattle.hz_net.specs.Starts.{IsAcceptedStart, IsStableStart}
-use Rattle.hz_word.specs.Capped.{greatest_cap}
+use Rattle.hz_edge_reports.proofs.Words.{get_or_from_slice_get, Netlist, IsCircuit, IsWhole, IsStableStart, greatest_cap, ScriptOf, Assumption, IsAssumptionOf, AreAcceptedStarts}
+use Rattle.hz_edge_reports.proofs.Words.{ChangesExist, EdgeAnalysis, ArePartAnalyses}
+use Rattle.hz_net.specs.Starts.{IsAcceptedStart}
 use Rattle.hz_script.specs.ScriptText.{IsScriptFor}
-use Rattle.hz_script.specs.ScriptValue.{ScriptOf}
-use Rattle.hz_timing.specs.declared.script.Assumption.{Assumption}
-use Rattle.hz_timing.specs.TimedText.{IsAssumptionOf}
-use Rattle.hz_timing.specs.Timed.{AreAcceptedStarts}
-use Rattle.hz_edge_reports.specs.ChangesExist.{ChangesExist}
-use Rattle.hz_edge_reports.specs.EdgeChanges.{EdgeAnalysis}
-use Rattle.hz_edge_reports.specs.EdgeReports.{ArePartAnalyses}
 use Rattle.hz_edge_reports.proofs.FirstEdges.{edges-exist}
 
 -- changes may start at an accepted start

@@ -1,13 +1,9 @@
 -- The lines of changes and of parts, one after the other.
 use Rattle.std.proofs.Common.{◌≡◌, ◌∙◌, ℕ, suc, ◌+◌, Bool, List, [], ◌∷◌, ◌++◌, length, sum_by, sym, ap, append_assoc, append-nil, arith}
+use Rattle.hz_edge_reports.proofs.Words.{Netlist, start_line, ScriptOf, Assumption, EdgeAnalysis, analyses_text, parts_text}
 use Rattle.std.proofs.lemmas.List.Sums.{sum_by-cons}
-use Rattle.hz_core.specs.Netlist.{Netlist}
 use Rattle.hz_options.specs.declared.show.Show.{Show}
-use Rattle.hz_report.specs.Report.{start_line}
-use Rattle.hz_script.specs.ScriptValue.{ScriptOf}
-use Rattle.hz_timing.specs.declared.script.Assumption.{Assumption}
-use Rattle.hz_edge_reports.specs.EdgeChanges.{EdgeAnalysis}
-use Rattle.hz_edge_reports.specs.EdgeText.{analysis_text, analyses_text, parts_text}
+use Rattle.hz_edge_reports.specs.EdgeText.{analysis_text}
 
 -- how many changes a part has
 abbrev pub changes_of : ScriptOf → ℕ

@@ -1,23 +1,16 @@
 -- Orders that are found, one assumption after the other, and those of them that are used.
 use Rattle.std.proofs.Common.{◌≡◌, ℕ, suc, ◌+◌, ◌<◌, ◌≤◌, Bool, List, [], ◌∷◌, ◌++◌, length, take, get_or, refl, sym, ap, ◌∙◌, subst, inl, inr, arith, append_assoc, append-nil, true, false, eqb, All, IsTrue}
-use Rattle.std.proofs.lemmas.Bool.{eqb-true}
+use Rattle.hz_edge_reports.proofs.Words.{eqb-true, All-nil, Netlist, IsCircuit, Driver, network_of, Order, IsInductiveUnder, AreTabled, Assumption, IsAssumptionOf, Word, AreFound}
+use Rattle.hz_edge_reports.proofs.Words.{AreUsed}
 use Rattle.std.proofs.lemmas.List.{take_more}
-use Rattle.std.proofs.lemmas.List.Elements.{All-nil, All-cons, All-append, All-head, All-tail, All-weaker}
-use Rattle.hz_core.specs.Netlist.{Netlist, IsCircuit}
-use Rattle.hz_net.specs.Network.{Driver, network_of}
+use Rattle.std.proofs.lemmas.List.Elements.{All-cons, All-append, All-head, All-tail, All-weaker}
 use Rattle.hz_net.specs.Reads.{IsWireInto, Reads}
 use Rattle.hz_net.proofs.Wired.{wired-network_of}
 use Rattle.hz_free.proofs.Chains.{reads-inside}
-use Rattle.hz_orders.specs.declared.order.Order.{Order}
 use Rattle.hz_orders.specs.Orders.{IsOrderOf, IsUsed}
-use Rattle.hz_orders.specs.Inductive.{IsInductiveUnder}
-use Rattle.hz_orders.specs.Tabled.{AreTabled}
-use Rattle.hz_timing.specs.declared.script.Assumption.{Assumption}
 use Rattle.hz_timing.specs.declared.script.Assumption.TheVariants as assumed
-use Rattle.hz_timing.specs.TimedText.{IsAssumptionOf}
-use Rattle.hz_word.specs.declared.word.Word.{Word}
 use Rattle.hz_edge_reports.specs.declared.using.Known.{Known}
-use Rattle.hz_edge_reports.specs.UsedOrders.{AreFound, AreUsed, FollowsFrom}
+use Rattle.hz_edge_reports.specs.UsedOrders.{FollowsFrom}
 use Rattle.hz_edge_reports.specs.Using.{AddsFound}
 
 module _ (net : List Driver) (input start : List Bool) where

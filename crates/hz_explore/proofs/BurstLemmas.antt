@@ -1,11 +1,10 @@
 -- The bursts of a script: how many there are, and which inputs they name.
 use Rattle.std.proofs.Common.{◌≡◌, ◌∙◌, refl, sym, ap, ℕ, zero, suc, ◌+◌, ◌-◌, ◌*◌, ◌<◌, ◌≤◌, Bool, true, false, List, [], ◌∷◌, ◌++◌, length, take, drop, get_or, slice_get, Some, All, flat_map, append-nil, arith}
-use Rattle.std.specs.List.{list_all, range_with_len}
-use Rattle.std.proofs.lemmas.List.{length-map, map-id}
-use Rattle.std.proofs.lemmas.List.Concat.{flat_map-append}
-use Rattle.std.proofs.lemmas.List.Elements.{All-nil, All-cons, All-map}
+use Rattle.hz_explore.proofs.Words.{list_all, range_with_len, length-map, flat_map-append, All-nil, All-cons, applies, each_alone, each_input}
+use Rattle.std.proofs.lemmas.List.{map-id}
+use Rattle.std.proofs.lemmas.List.Elements.{All-map}
 use Rattle.std.proofs.lemmas.List.FromFn.{map-range_with_len_more}
-use Rattle.hz_explore.specs.Bursts.{applies, bursts_of, bursts_or, each_alone, each_input, is_changed}
+use Rattle.hz_explore.specs.Bursts.{bursts_of, bursts_or, is_changed}
 
 -- both changes of one input
 abbrev both : ℕ → List (ℕ × Bool)

@@ -1,25 +1,15 @@
 -- One transition that is made, and its line.
 use Rattle.std.proofs.Common.{◌≡◌, ◌∙◌, refl, sym, ap, subst, ℕ, Bool, true, false, List, [], ◌∷◌, ◌++◌, Option, is_some, decimal, append-nil}
-use Rattle.std.specs.List.{flat_map}
-use Rattle.hz_core.specs.Netlist.{Netlist}
+use Rattle.hz_explore.proofs.Words.{flat_map, Netlist, has_state, number_of, Assumption, ChangeOf, Classes, Totals, ExploreRoom, applies, nodes_of, Outcome, Settled, Unsettled}
+use Rattle.hz_explore.proofs.Words.{Transition, IsRightTransition, ends_of, NotSettled, count_if, is_clean_change, found_by, found_with, transition_line, Extends, counted, Counts}
+use Rattle.hz_explore.proofs.Words.{Makes}
 use Rattle.hz_write.specs.Writes.{newline}
-use Rattle.hz_states.specs.States.{has_state, number_of}
-use Rattle.hz_timing.specs.declared.script.Assumption.{Assumption}
-use Rattle.hz_edge_reports.specs.EdgeChanges.{ChangeOf}
-use Rattle.hz_explore.specs.declared.counting.Classes.{Classes}
-use Rattle.hz_explore.specs.declared.counting.Totals.{Totals}
 use Rattle.hz_explore.specs.declared.room.End.{End}
 use Rattle.hz_explore.specs.declared.room.End.TheVariants as end
-use Rattle.hz_explore.specs.declared.room.ExploreRoom.{ExploreRoom}
 use Rattle.hz_explore.specs.declared.room.Made.{Made}
-use Rattle.hz_explore.specs.Bursts.{applies}
-use Rattle.hz_explore.specs.Reached.{nodes_of}
-use Rattle.hz_explore.specs.Transitions.{Outcome, Settled, Unsettled, Transition, IsRightTransition, ends_of}
-use Rattle.hz_explore.specs.Counts.{NotSettled, count_if, is_clean_change, totals_of}
-use Rattle.hz_explore.specs.Exploration.{found_by, found_with}
-use Rattle.hz_explore.specs.ExploreText.{transition_line, used_text}
-use Rattle.hz_explore.specs.Progress.{Extends, counted}
-use Rattle.hz_explore.specs.Inside.{Counts, IsMade, Makes, end_text}
+use Rattle.hz_explore.specs.Counts.{totals_of}
+use Rattle.hz_explore.specs.ExploreText.{used_text}
+use Rattle.hz_explore.specs.Inside.{IsMade, end_text}
 use Rattle.hz_explore.proofs.FoundLemmas.{extends-with, has-number, number-among}
 use Rattle.hz_explore.proofs.TransitionLemmas.{totals-more, transition-not, transition-one}
 

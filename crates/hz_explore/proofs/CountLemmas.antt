@@ -1,9 +1,7 @@
 -- Counts of the classes of nodes.
 use Rattle.std.proofs.Common.{subst, ℕ, ◌≤◌, Bool, map, count_by}
-use Rattle.std.specs.List.{range_with_len}
-use Rattle.std.proofs.lemmas.List.FromFn.{length-map-range_with_len}
+use Rattle.hz_explore.proofs.Words.{range_with_len, length-map-range_with_len, EdgeClass}
 use Rattle.std.proofs.lemmas.List.Sums.{count_by-le-length}
-use Rattle.hz_bounds.specs.declared.range.EdgeClass.{EdgeClass}
 
 -- no more nodes are counted than there are
 pub counts-few : (test : EdgeClass → Bool) (class_of : ℕ → EdgeClass) (n : ℕ) → count_by test (map class_of (range_with_len 0 n)) ≤ n

@@ -1,31 +1,22 @@
 -- An exploration that is done: if no state was left out, it has every state that bursts lead to.
 use Rattle.std.proofs.Common.{◌≡◌, ◌∙◌, refl, sym, ap, subst, ℕ, zero, suc, ◌<◌, ◌≤◌, Bool, true, false, ◌||◌, List, [], ◌∷◌, length, map, filter, get_or, length-take, All, Contains, Option, Some, arith}
-use Rattle.std.specs.List.{cons_option, IsDistinct}
-use Rattle.std.proofs.lemmas.Bool.{true≢false}
-use Rattle.std.proofs.lemmas.List.Elements.{All-contains, All-nil, All-append, All-head, All-tail, Contains-append_left, Contains-append_right}
+use Rattle.hz_explore.proofs.Words.{IsDistinct, true≢false, All-nil, All-append, All-head, All-tail, Tri, tri_of, Refines, Netlist, same-Refines, network_of, IsStableStart}
+use Rattle.hz_explore.proofs.Words.{expansion_of, Order, has_state, same_state, Assumption, ChangeOf, applies, nodes_of, SettlesUnder, Outcome, Settled, Unsettled, Transition}
+use Rattle.hz_explore.proofs.Words.{IsRightOutcome, IsRightTransition, AreTransitions, end_of, ends_of, Clean, count_of, count_of_outcome, is_hazard, is_not_settled, is_shown}
+use Rattle.hz_explore.proofs.Words.{Explored, all_nodes, all_transitions, IsSoFar}
+use Rattle.std.specs.List.{cons_option}
+use Rattle.std.proofs.lemmas.List.Elements.{All-contains, Contains-append_left, Contains-append_right}
 use Rattle.std.proofs.lemmas.List.Sums.{AllPass-from_list_all}
-use Rattle.hz_core.specs.declared.tri.Tri.{Tri}
-use Rattle.hz_core.specs.Ternary.{tri_of, Refines}
-use Rattle.hz_core.specs.Netlist.{Netlist, IsCircuit}
-use Rattle.hz_core.proofs.Refinements.{Refines-map, same-Refines}
-use Rattle.hz_net.specs.Network.{network_of}
+use Rattle.hz_core.specs.Netlist.{IsCircuit}
+use Rattle.hz_core.proofs.Refinements.{Refines-map}
 use Rattle.hz_net.specs.Passes.{algorithm_a, algorithm_b, IsResult}
-use Rattle.hz_net.specs.Starts.{IsStableStart}
-use Rattle.hz_net.specs.Variables.{expansion_of}
 use Rattle.hz_net.proofs.TernaryStarts.{result-once}
 use Rattle.hz_edges.specs.Edges.{ChangesAtMost}
-use Rattle.hz_orders.specs.declared.order.Order.{Order}
-use Rattle.hz_states.specs.States.{has_state, same_state}
 use Rattle.hz_states.specs.Key.{same_state-Decides}
 use Rattle.hz_reach.specs.Counts.{EndsByChanges}
-use Rattle.hz_timing.specs.declared.script.Assumption.{Assumption}
-use Rattle.hz_edge_reports.specs.EdgeChanges.{ChangeOf}
-use Rattle.hz_explore.specs.Bursts.{applies}
-use Rattle.hz_explore.specs.Reached.{nodes_of, input_after, AreResults, Settles, SettlesUnder, Leads, LeadTo, IsReached}
-use Rattle.hz_explore.specs.Transitions.{Outcome, Settled, Unsettled, Transition, IsRightOutcome, IsRightTransition, AreTransitions, end_of, ends_of}
-use Rattle.hz_explore.specs.Counts.{Clean, count_of, count_of_outcome, is_hazard, is_not_settled, is_shown}
-use Rattle.hz_explore.specs.Exploration.{Explored, ChangesOnce, ComesTo, IsExploration, IsOfAllRuns, IsTransitionAt, all_nodes, all_transitions, hazards_in, is_whole, state_of, unsettled_in}
-use Rattle.hz_explore.specs.Progress.{IsFound, IsSoFar}
+use Rattle.hz_explore.specs.Reached.{input_after, AreResults, Settles, Leads, LeadTo, IsReached}
+use Rattle.hz_explore.specs.Exploration.{ChangesOnce, ComesTo, IsExploration, IsOfAllRuns, IsTransitionAt, hazards_in, is_whole, state_of, unsettled_in}
+use Rattle.hz_explore.specs.Progress.{IsFound}
 use Rattle.hz_explore.proofs.FoundLemmas.{has-first}
 use Rattle.hz_explore.proofs.ProgressLemmas.{HasSteps, all-unmap}
 use Rattle.hz_explore.proofs.PlainLemmas.{IsPlain, plain, none-used, results-of, settles-plain, outcome-ends, never-stopped}

@@ -1,16 +1,12 @@
 -- States that are found one after the other.
 use Rattle.std.proofs.Common.{◌≡◌, ◌∙◌, refl, sym, ap, subst, inl, inr, ℕ, ◌+◌, ◌<◌, ◌≤◌, ◌⊎◌, Bool, true, false, ◌||◌, List, [], ◌∷◌, ◌++◌, length, is_some, All, nat_le, append_assoc, append-nil, length-append, arith}
-use Rattle.std.specs.List.{list_any, position_from, IsDistinct, AllByRecursion}
-use Rattle.std.proofs.lemmas.Bool.{true≢false, false_from_ne_true}
-use Rattle.std.proofs.lemmas.Bool.Decides.{nat_tests}
+use Rattle.hz_explore.proofs.Words.{list_any, IsDistinct, true≢false, nat_tests, All-nil, All-cons, All-head, All-tail, All-append, has_state, number_of, same_state, most_states}
+use Rattle.hz_explore.proofs.Words.{found_by, found_with, Extends}
+use Rattle.std.specs.List.{position_from, AllByRecursion}
+use Rattle.std.proofs.lemmas.Bool.{false_from_ne_true}
 use Rattle.std.proofs.lemmas.Iterator.Adapters.{position_from-zero}
-use Rattle.std.proofs.lemmas.List.Elements.{All-nil, All-cons, All-head, All-tail, All-append}
 use Rattle.std.proofs.lemmas.List.Folds.{list_any-append}
-use Rattle.hz_states.specs.States.{has_state, number_of, same_state}
 use Rattle.hz_states.specs.Key.{same_state-Decides}
-use Rattle.hz_explore.specs.Limits.{most_states}
-use Rattle.hz_explore.specs.Exploration.{found_by, found_with}
-use Rattle.hz_explore.specs.Progress.{Extends}
 
 -- the test finds a state in itself, and the same whichever of two states comes first
 pub same-self : (nodes : List Bool) → same_state nodes nodes ≡ true

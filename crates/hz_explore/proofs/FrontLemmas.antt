@@ -1,9 +1,6 @@
 -- Where an exploration stands.
 use Rattle.std.proofs.Common.{◌≡◌, ◌∙◌, refl, sym, ap, subst, ℕ, ◌<◌, ◌≤◌, Bool, List, [], ◌∷◌, ◌++◌, length, take, append-nil, length-append, arith}
-use Rattle.hz_core.specs.Netlist.{Netlist}
-use Rattle.hz_net.specs.Variables.{expansion_of}
-use Rattle.hz_states.specs.States.{state_at}
-use Rattle.hz_explore.specs.Reached.{nodes_of}
+use Rattle.hz_explore.proofs.Words.{Netlist, expansion_of, state_at, nodes_of}
 
 -- one state alone
 pub single-state : (states : List (List Bool)) → length states ≡ 1 → states ≡ state_at states 0 ∷ []

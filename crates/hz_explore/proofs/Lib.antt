@@ -1,3 +1,5 @@
+-- The names that most proofs cite, passed on from one place
+pub mod Words
 -- States that are found one after the other
 pub mod FoundLemmas
 -- The transitions of a state, burst after burst

@@ -1,14 +1,7 @@
 -- Transitions that are made one after the other, and their lines.
 use Rattle.std.proofs.Common.{◌≡◌, ◌∙◌, refl, sym, ap, subst, ℕ, Bool, true, false, List, [], ◌++◌, append_assoc, append-nil}
-use Rattle.std.proofs.lemmas.Bool.{true≢false}
+use Rattle.hz_explore.proofs.Words.{true≢false, Netlist, Assumption, ExploreRoom, Transition, AreTransitions, ends_of, found_by, found_with, Extends, Counts, Makes}
 use Rattle.std.proofs.lemmas.List.Sums.{fold-append}
-use Rattle.hz_core.specs.Netlist.{Netlist}
-use Rattle.hz_timing.specs.declared.script.Assumption.{Assumption}
-use Rattle.hz_explore.specs.declared.room.ExploreRoom.{ExploreRoom}
-use Rattle.hz_explore.specs.Transitions.{Transition, AreTransitions, ends_of}
-use Rattle.hz_explore.specs.Exploration.{found_by, found_with}
-use Rattle.hz_explore.specs.Progress.{Extends}
-use Rattle.hz_explore.specs.Inside.{Counts, Makes}
 use Rattle.hz_explore.proofs.TransitionLemmas.{transitions-none, transitions-append, ends-append}
 
 -- states that are found by some transitions and then by others

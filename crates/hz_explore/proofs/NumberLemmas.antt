@@ -1,9 +1,7 @@
 -- The numbers of assumptions, one after the other.
 use Rattle.std.proofs.Common.{◌≡◌, ◌∙◌, sym, ap, ℕ, suc, ◌+◌, ◌<◌, List, [], ◌∷◌, ◌++◌, length, take, get_or, append_assoc, append-nil, arith, add-one}
-use Rattle.std.proofs.lemmas.List.{length-take-le}
+use Rattle.hz_explore.proofs.Words.{length-take-le, Order, Assumption}
 use Rattle.std.proofs.Math.Seq.{take-suc}
-use Rattle.hz_orders.specs.declared.order.Order.{Order}
-use Rattle.hz_timing.specs.declared.script.Assumption.{Assumption}
 use Rattle.hz_explore.specs.ExploreText.{used_number, used_numbers}
 
 -- that of one assumption more stands at the end

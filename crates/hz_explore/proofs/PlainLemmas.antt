@@ -1,22 +1,17 @@
 -- What is found of a change that uses no order is right of all runs. So is each change if nothing is assumed.
 use Rattle.std.proofs.Common.{◌≡◌, ◌∙◌, sym, ap, subst, inl, inr, ℕ, Bool, List, [], ◌∷◌, length, true, false}
-use Rattle.hz_core.specs.declared.tri.Tri.{Tri}
-use Rattle.hz_core.specs.declared.tri.Tri.TheVariants.{Unknown}
-use Rattle.hz_core.specs.Ternary.{tri_of, Refines}
-use Rattle.hz_core.specs.Netlist.{Netlist}
-use Rattle.hz_core.proofs.Refinements.{same-Refines}
-use Rattle.hz_net.specs.Network.{network_of, value_at, bit_at, excitation}
+use Rattle.hz_explore.proofs.Words.{Tri, Unknown, tri_of, Refines, Netlist, same-Refines, network_of, value_at, bit_at, Order, ChangeOf, SettlesUnder}
+use Rattle.hz_net.specs.Network.{excitation}
 use Rattle.hz_net.specs.Passes.{algorithm_a, algorithm_b, IsKnown, IsResult}
 use Rattle.hz_net.proofs.Ranks.{at-tri_of}
 use Rattle.hz_gmw.specs.Runs.{end_of}
 use Rattle.hz_gmw.proofs.CoverB.{covers_outcomes}
 use Rattle.hz_edges.specs.Edges.{AreEdgesOfChange}
-use Rattle.hz_orders.specs.declared.order.Order.{Order}
 use Rattle.hz_orders.specs.Tabled.{AreTabled}
 use Rattle.hz_seq.specs.Sequence.{IsSettledAt}
-use Rattle.hz_edge_reports.specs.EdgeChanges.{ChangeOf, AreRightUnder, IsChangeFrom, IsRightChange, IsStopper}
+use Rattle.hz_edge_reports.specs.EdgeChanges.{AreRightUnder, IsChangeFrom, IsRightChange, IsStopper}
 use Rattle.hz_explore.specs.Exploration.{IsOutcomeUnder}
-use Rattle.hz_explore.specs.Reached.{AreResults, input_after, Settles, SettlesUnder}
+use Rattle.hz_explore.specs.Reached.{AreResults, input_after, Settles}
 
 -- each variable comes to what Algorithm B says, and what is told of edges is right of all runs
 pub record IsPlain (netlist : Netlist) (cap : ℕ) (found : ChangeOf) : Type 0 where

@@ -1,21 +1,15 @@
 -- An exploration state by state.
 use Rattle.std.proofs.Common.{◌≡◌, ◌∙◌, refl, sym, ap, subst, ℕ, zero, suc, ◌+◌, ◌≤◌, Bool, true, false, List, [], ◌∷◌, ◌++◌, length, map, filter, All, Contains, append_assoc, append-nil, length-append, arith}
-use Rattle.std.specs.List.{cons_option, IsDistinct}
-use Rattle.std.proofs.lemmas.List.{map-append, length-map}
-use Rattle.std.proofs.lemmas.List.Concat.{flat_map-append}
-use Rattle.std.proofs.lemmas.List.Elements.{All-nil, All-cons, All-head, All-tail, All-append, All-contains_itself}
+use Rattle.hz_explore.proofs.Words.{IsDistinct, length-map, flat_map-append, All-nil, All-cons, All-head, All-tail, All-append, Netlist, IsStableStart, expansion_of, same_state}
+use Rattle.hz_explore.proofs.Words.{Assumption, most_states, applies, nodes_of, SettlesUnder, Outcome, Settled, Unsettled, Transition, IsRightOutcome, IsRightTransition}
+use Rattle.hz_explore.proofs.Words.{AreTransitions, end_of, ends_of, Explored, all_nodes, all_transitions, found_by, found_with, Extends, IsSoFar}
+use Rattle.std.specs.List.{cons_option}
+use Rattle.std.proofs.lemmas.List.{map-append}
+use Rattle.std.proofs.lemmas.List.Elements.{All-contains_itself}
 use Rattle.std.proofs.lemmas.List.Sums.{fold-append}
-use Rattle.hz_core.specs.Netlist.{Netlist}
-use Rattle.hz_net.specs.Starts.{IsStableStart}
-use Rattle.hz_net.specs.Variables.{expansion_of}
-use Rattle.hz_states.specs.States.{same_state}
-use Rattle.hz_timing.specs.declared.script.Assumption.{Assumption}
-use Rattle.hz_explore.specs.Limits.{most_states}
-use Rattle.hz_explore.specs.Bursts.{applies}
-use Rattle.hz_explore.specs.Reached.{nodes_of, Settling, SettlesUnder, Leads, LeadTo, IsReached}
-use Rattle.hz_explore.specs.Transitions.{Outcome, Settled, Unsettled, Transition, IsRightOutcome, IsRightTransition, AreTransitions, end_of, ends_of}
-use Rattle.hz_explore.specs.Exploration.{Explored, all_nodes, all_transitions, found_by, found_with, state_of}
-use Rattle.hz_explore.specs.Progress.{Extends, IsFound, IsSoFar}
+use Rattle.hz_explore.specs.Reached.{Settling, Leads, LeadTo, IsReached}
+use Rattle.hz_explore.specs.Exploration.{state_of}
+use Rattle.hz_explore.specs.Progress.{IsFound}
 use Rattle.hz_explore.proofs.FoundLemmas.{all-by, once-by, few-by, grows-by, extends-self, extends-by}
 use Rattle.hz_explore.proofs.TransitionLemmas.{transitions-none, transitions-append, transition-one, transition-not, ends-append}
 

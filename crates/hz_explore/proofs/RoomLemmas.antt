@@ -1,24 +1,13 @@
 -- A room before and after a change.
 use Rattle.std.proofs.Common.{◌≡◌, ◌∙◌, ℕ, ◌<◌, ◌≤◌, Bool, List, [], ◌∷◌, length, Option, Some, None, IfSome, sym, ap, subst, is_some, arith}
-use Rattle.hz_core.specs.Netlist.{Netlist}
-use Rattle.hz_net.specs.Starts.{IsStableStart}
-use Rattle.hz_states.specs.States.{number_of}
+use Rattle.hz_explore.proofs.Words.{Netlist, IsStableStart, number_of, ChangeOf, Classes, Totals, ExploreRoom, most_states, nodes_of, NotSettled, count_if, found_with, counted}
 use Rattle.hz_states.proofs.StateLaws.{number-inside}
 use Rattle.hz_edge_reports.specs.declared.finding.Making.{Making}
-use Rattle.hz_edge_reports.specs.EdgeChanges.{ChangeOf}
 use Rattle.hz_edge_reports.specs.Room.{CanBeMade}
 use Rattle.hz_edge_reports.proofs.Leading.{stopper-inside}
-use Rattle.hz_explore.specs.declared.counting.Classes.{Classes}
-use Rattle.hz_explore.specs.declared.counting.Totals.{Totals}
 use Rattle.hz_explore.specs.declared.room.End.{End}
 use Rattle.hz_explore.specs.declared.room.End.TheVariants as end
-use Rattle.hz_explore.specs.declared.room.ExploreRoom.{ExploreRoom}
 use Rattle.hz_explore.specs.declared.room.Made.{Made}
-use Rattle.hz_explore.specs.Limits.{most_states}
-use Rattle.hz_explore.specs.Reached.{nodes_of}
-use Rattle.hz_explore.specs.Counts.{NotSettled, count_if}
-use Rattle.hz_explore.specs.Exploration.{found_with}
-use Rattle.hz_explore.specs.Progress.{counted}
 use Rattle.hz_explore.specs.Inside.{IsMade, IsNoted, IsTellable}
 use Rattle.hz_explore.proofs.FoundLemmas.{few-by}
 

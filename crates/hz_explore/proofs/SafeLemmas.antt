@@ -1,27 +1,22 @@
 -- A clean transition: each node changes at most once in it, along every run that keeps the orders it uses.
 use Rattle.std.proofs.Common.{◌≡◌, ◌∙◌, refl, sym, ap, subst, ℕ, ◌<◌, ◌≤◌, Bool, true, false, ◌&&◌, not, cond, List, [], ◌∷◌, length, Option, Some, None, IfSome, Contains, count_by, nat_le, nat_eq, le_trans, zero-add, arith}
-use Rattle.std.specs.List.{list_all}
-use Rattle.std.proofs.lemmas.Bool.{true≢false}
-use Rattle.std.proofs.lemmas.Bool.Decides.{nat_tests}
+use Rattle.hz_explore.proofs.Words.{list_all, true≢false, nat_tests, length-map-range_with_len, Tri, Zero, Unknown, Netlist, network_of, EdgeClass, Order, Assumption, ChangeOf}
+use Rattle.hz_explore.proofs.Words.{Outcome, Settled, Unsettled, Transition, IsRightTransition, class_at, Clean, NotSettled, count_if, count_of, count_of_outcome, is_clean_change}
+use Rattle.hz_explore.proofs.Words.{is_hazard, is_not_settled, is_shown}
 use Rattle.std.proofs.lemmas.List.Elements.{All-contains}
 use Rattle.std.proofs.lemmas.List.Folds.{sum_by-zero}
-use Rattle.std.proofs.lemmas.List.FromFn.{length-map-range_with_len, get_or-map-range_with_len}
+use Rattle.std.proofs.lemmas.List.FromFn.{get_or-map-range_with_len}
 use Rattle.std.proofs.lemmas.List.Sums.{AllPass-from_list_all}
-use Rattle.hz_core.specs.declared.tri.Tri.{Tri}
-use Rattle.hz_core.specs.declared.tri.Tri.TheVariants.{Zero, One, Unknown}
-use Rattle.hz_core.specs.Netlist.{Netlist}
-use Rattle.hz_net.specs.Network.{Driver, network_of}
+use Rattle.hz_core.specs.declared.tri.Tri.TheVariants.{One}
+use Rattle.hz_net.specs.Network.{Driver}
 use Rattle.hz_bounds.specs.declared.range.Range.{Range}
-use Rattle.hz_bounds.specs.declared.range.EdgeClass.{EdgeClass}
 use Rattle.hz_bounds.specs.declared.range.EdgeClass.TheVariants.{Steady}
 use Rattle.hz_bounds.specs.Ranges.{class_by_end, edge_class_of, is_bounded, settled_class_of}
 use Rattle.hz_edges.specs.Edges.{ChangesAtMost, range_at}
-use Rattle.hz_orders.specs.declared.order.Order.{Order}
-use Rattle.hz_timing.specs.declared.script.Assumption.{Assumption}
 use Rattle.hz_edge_reports.specs.OrderedEdges.{ChangesAtMostUnder}
-use Rattle.hz_edge_reports.specs.EdgeChanges.{ChangeOf, AreRightUnder}
-use Rattle.hz_explore.specs.Transitions.{Outcome, Settled, Unsettled, Transition, IsRightTransition, class_at, node_classes}
-use Rattle.hz_explore.specs.Counts.{Count, Clean, Hazard, NotSettled, count_if, count_of, count_of_outcome, is_clean_change, is_clean_class, is_hazard, is_not_settled, is_shown}
+use Rattle.hz_edge_reports.specs.EdgeChanges.{AreRightUnder}
+use Rattle.hz_explore.specs.Transitions.{node_classes}
+use Rattle.hz_explore.specs.Counts.{Count, Hazard, is_clean_class}
 use Rattle.hz_explore.specs.Exploration.{ChangesOnce}
 
 -- what is counted nowhere is not there

@@ -1,15 +1,12 @@
 -- Every burst from a stable state comes to something, by the law of changes.
 use Rattle.std.proofs.Common.{◌≡◌, refl, inl, inr, ℕ, Bool, List, length, take, arith}
-use Rattle.std.proofs.lemmas.List.{length-take-le}
-use Rattle.hz_net.specs.Starts.{IsStableStart}
-use Rattle.hz_net.proofs.Places.{length-network_of}
+use Rattle.hz_explore.proofs.Words.{length-take-le, IsStableStart, length-network_of, Settled, Unsettled, Transition, IsRightTransition}
 use Rattle.hz_replay.proofs.ReadBack.{stable-expansion_of}
 use Rattle.hz_edge_reports.specs.declared.finding.Making.{Making}
 use Rattle.hz_edge_reports.specs.ChangesExist.{ChangesExist}
 use Rattle.hz_edge_reports.specs.Room.{CanBeMade}
 use Rattle.hz_edge_reports.proofs.FirstEdges.{one-exists}
 use Rattle.hz_edge_reports.proofs.Leading.{found-leads}
-use Rattle.hz_explore.specs.Transitions.{Settled, Unsettled, Transition, IsRightTransition}
 use Rattle.hz_explore.proofs.ProgressLemmas.{HasSteps}
 
 module _ (exist : ChangesExist) (making : Making) (can : CanBeMade making) where

@@ -1,9 +1,7 @@
 -- The lines of states, one state after the other.
 use Rattle.std.proofs.Common.{◌≡◌, ◌∙◌, sym, ap, ℕ, suc, ◌+◌, Bool, List, [], ◌∷◌, ◌++◌, length, append_assoc, append-nil, arith}
-use Rattle.hz_core.specs.Netlist.{Netlist}
-use Rattle.hz_timing.specs.declared.script.Assumption.{Assumption}
-use Rattle.hz_explore.specs.Exploration.{Explored}
-use Rattle.hz_explore.specs.ExploreText.{all_explored_text, explored_text}
+use Rattle.hz_explore.proofs.Words.{Netlist, Assumption, Explored, all_explored_text}
+use Rattle.hz_explore.specs.ExploreText.{explored_text}
 
 -- the lines of further states come behind
 pub text-append : (netlist : Netlist) (assumptions : List Assumption) (states : List (List Bool)) (number : ℕ) (explored more : List Explored) →

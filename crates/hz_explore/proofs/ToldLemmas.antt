@@ -1,32 +1,27 @@
 -- In a transition that settles each node is steady or counted. If nothing is assumed, none may change and come back without doing so along
 -- the witness.
 use Rattle.std.proofs.Common.{◌≡◌, ◌∙◌, refl, sym, ap, subst, inl, inr, ℕ, ◌%◌, ◌<◌, ◌≤◌, ◌⊎◌, ◌==◌, Bool, true, false, not, List, [], ◌∷◌, length, get_or, All, nat_le, if◌then◌else◌, zero-add, arith}
-use Rattle.std.proofs.lemmas.Bool.{true≢false, cases_lt}
-use Rattle.std.proofs.lemmas.Bool.Decides.{nat_tests}
-use Rattle.std.proofs.lemmas.List.FromFn.{length-map-range_with_len, get_or-map-range_with_len}
-use Rattle.hz_core.specs.declared.tri.Tri.{Tri}
-use Rattle.hz_core.specs.declared.tri.Tri.TheVariants.{Zero, One, Unknown}
-use Rattle.hz_core.specs.Ternary.{tri_of, Refines}
-use Rattle.hz_core.specs.Netlist.{Netlist, IsCircuit, gate_at}
-use Rattle.hz_core.proofs.Refinements.{same-Refines}
-use Rattle.hz_net.specs.Network.{External, Function, Source, network_of, bit_at, value_at}
+use Rattle.hz_explore.proofs.Words.{true≢false, nat_tests, length-map-range_with_len, Tri, Zero, Unknown, tri_of, Refines, Netlist, same-Refines, network_of, bit_at, value_at}
+use Rattle.hz_explore.proofs.Words.{IsStableStart, length-network_of, EdgeClass, Assumption, ChangeOf, Outcome, Settled, Unsettled, Transition, IsRightOutcome, IsRightTransition}
+use Rattle.hz_explore.proofs.Words.{class_at}
+use Rattle.std.proofs.lemmas.Bool.{cases_lt}
+use Rattle.std.proofs.lemmas.List.FromFn.{get_or-map-range_with_len}
+use Rattle.hz_core.specs.declared.tri.Tri.TheVariants.{One}
+use Rattle.hz_core.specs.Netlist.{IsCircuit, gate_at}
+use Rattle.hz_net.specs.Network.{External, Function, Source}
 use Rattle.hz_net.specs.Reads.{IsNode}
 use Rattle.hz_net.specs.Variables.{first_wire}
-use Rattle.hz_net.specs.Starts.{IsStableStart}
-use Rattle.hz_net.proofs.Places.{driver_at-gate, driver_at-input, length-network_of}
+use Rattle.hz_net.proofs.Places.{driver_at-gate, driver_at-input}
 use Rattle.hz_net.proofs.Ranks.{at-tri_of}
 use Rattle.hz_gmw.specs.Runs.{end_of}
 use Rattle.hz_reach.specs.Counts.{EndsByChanges}
 use Rattle.hz_reach.specs.Spread.{changes_in}
 use Rattle.hz_word.specs.declared.word.Word.{Word}
 use Rattle.hz_bounds.specs.declared.range.Range.{Range}
-use Rattle.hz_bounds.specs.declared.range.EdgeClass.{EdgeClass}
 use Rattle.hz_bounds.specs.Ranges.{bound_of, class_by_end, edge_class_of, is_bounded, settled_class_of}
 use Rattle.hz_edges.specs.Edges.{range_at}
 use Rattle.hz_seq.specs.Sequence.{IsSettledAt}
-use Rattle.hz_timing.specs.declared.script.Assumption.{Assumption}
-use Rattle.hz_edge_reports.specs.EdgeChanges.{ChangeOf, IsRightChange}
-use Rattle.hz_explore.specs.Transitions.{Outcome, Settled, Unsettled, Transition, IsRightOutcome, IsRightTransition, class_at}
+use Rattle.hz_edge_reports.specs.EdgeChanges.{IsRightChange}
 use Rattle.hz_explore.specs.Counts.{AreTold, is_told_class}
 use Rattle.hz_explore.proofs.PlainLemmas.{IsPlain, plain}
 

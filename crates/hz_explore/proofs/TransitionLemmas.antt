@@ -1,19 +1,13 @@
 -- The transitions of a state, burst after burst.
 use Rattle.std.proofs.Common.{◌≡◌, ◌∙◌, refl, sym, ap, ℕ, ◌+◌, Bool, true, false, ◌&&◌, cond, List, [], ◌∷◌, ◌++◌, map, filter, count_by, arith}
-use Rattle.std.specs.List.{list_all}
+use Rattle.hz_explore.proofs.Words.{list_all, All-nil, All-cons, All-append, Netlist, has_state, Assumption, Totals, applies, nodes_of, Outcome, Settled, Unsettled, Transition}
+use Rattle.hz_explore.proofs.Words.{IsRightTransition, AreTransitions, end_of, ends_of, Clean, NotSettled, count_of, count_if, count_of_outcome, is_hazard, is_not_settled}
+use Rattle.hz_explore.proofs.Words.{counted}
 use Rattle.std.proofs.lemmas.List.{map-append}
-use Rattle.std.proofs.lemmas.List.Elements.{All-nil, All-cons, All-append, filter-append, filter_map-append}
+use Rattle.std.proofs.lemmas.List.Elements.{filter-append, filter_map-append}
 use Rattle.std.proofs.lemmas.List.Folds.{list_all-append}
 use Rattle.std.proofs.lemmas.List.Sums.{sum_by-append}
-use Rattle.hz_core.specs.Netlist.{Netlist}
-use Rattle.hz_states.specs.States.{has_state}
-use Rattle.hz_timing.specs.declared.script.Assumption.{Assumption}
-use Rattle.hz_explore.specs.declared.counting.Totals.{Totals}
-use Rattle.hz_explore.specs.Bursts.{applies}
-use Rattle.hz_explore.specs.Reached.{nodes_of}
-use Rattle.hz_explore.specs.Transitions.{Outcome, Settled, Unsettled, Transition, IsRightTransition, AreTransitions, end_of, ends_of}
-use Rattle.hz_explore.specs.Counts.{Count, Clean, Hazard, NotSettled, count_of, count_if, count_of_outcome, is_clean, is_hazard, is_not_settled, totals_of}
-use Rattle.hz_explore.specs.Progress.{counted}
+use Rattle.hz_explore.specs.Counts.{Count, Hazard, is_clean, totals_of}
 
 module _ (netlist : Netlist) (cap : ℕ) (assumptions : List Assumption) (state : List Bool) where
   -- no burst

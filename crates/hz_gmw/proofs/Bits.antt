@@ -1,7 +1,6 @@
 -- Bits that are compared.
 use Rattle.std.proofs.Common.{◌≡◌, Bool, true, false, not, refl}
-use Rattle.std.specs.Bool.{beq}
-use Rattle.std.proofs.lemmas.Bool.{false≢true}
+use Rattle.hz_gmw.proofs.Words.{beq, false≢true}
 
 pub beq-same : (a b : Bool) → beq a b ≡ true → a ≡ b
 beq-same true true e = refl

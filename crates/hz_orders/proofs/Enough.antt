@@ -1,27 +1,13 @@
 -- Numbers of changes that are enough for a variable under orders, by what drives it, and words that are told so far.
 use Rattle.std.proofs.Common.{◌≡◌, ℕ, ◌+◌, ◌<◌, ◌≤◌, Bool, true, false, List, length, set, sym, subst, ◌∙◌, arith}
-use Rattle.std.specs.Prelude.{slice_range}
-use Rattle.std.proofs.lemmas.List.{length-set}
+use Rattle.hz_orders.proofs.Words.{slice_range, length-set, Kind, length-part, at-part, Driver, External, Function, Source, network_of, driver_at, bit_at, Count, Exact, Many}
+use Rattle.hz_orders.proofs.Words.{Word, change_count, walk_changes, IsAtMost, IsWithinCap, at_most-trans, gate_value, input_word, told_at, Order, IsBoundUnder, IsEnoughUnder}
+use Rattle.hz_orders.proofs.Words.{IsInductiveHolding, AreTabled, AreToldSoFar}
 use Rattle.std.proofs.lemmas.List.Elements.{All-set}
-use Rattle.hz_core.specs.declared.kind.Kind.{Kind}
-use Rattle.hz_lists.proofs.PartLemmas.{length-part, at-part}
-use Rattle.hz_net.specs.Network.{Driver, External, Function, Source, network_of, driver_at, bit_at}
-use Rattle.hz_word.specs.declared.count.Count.{Count}
-use Rattle.hz_word.specs.declared.count.Count.TheVariants.{Exact, Many}
-use Rattle.hz_word.specs.declared.word.Word.{Word}
-use Rattle.hz_word.specs.Word.{change_count}
-use Rattle.hz_word.specs.Walk.{walk_changes}
-use Rattle.hz_word.specs.Capped.{IsAtMost, IsWithinCap}
-use Rattle.hz_word.proofs.AtMost.{at_most-trans, at_most-same}
-use Rattle.hz_core.specs.Gate.{gate_value}
-use Rattle.hz_free.specs.VariableWords.{input_word}
-use Rattle.hz_free.specs.Inductive.{told_at, AreCounted}
-use Rattle.hz_orders.specs.declared.order.Order.{Order}
+use Rattle.hz_word.proofs.AtMost.{at_most-same}
+use Rattle.hz_free.specs.Inductive.{AreCounted}
 use Rattle.hz_orders.specs.declared.telling.Telling.{Telling}
-use Rattle.hz_orders.specs.Parts.{IsBoundUnder}
-use Rattle.hz_orders.specs.Inductive.{IsEnoughUnder, IsInductiveHolding}
-use Rattle.hz_orders.specs.Tabled.{AreTabled}
-use Rattle.hz_orders.specs.Telling.{input_count, AreToldSoFar, IsEnoughFor, IsToldEnough}
+use Rattle.hz_orders.specs.Telling.{input_count, IsEnoughFor, IsToldEnough}
 
 input-enough : (old new : Bool) → IsAtMost (Exact (change_count (input_word old new))) (input_count old new)
 input-enough true true = omega arith

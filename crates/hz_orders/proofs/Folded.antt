@@ -1,34 +1,21 @@
 -- The word of a gate bounds its changes under any orders, so words that are inductive are so under orders; and without orders those that are
 -- inductive under them are inductive.
 use Rattle.std.proofs.Common.{◌≡◌, ℕ, ◌+◌, ◌<◌, Bool, false, List, [], ◌∷◌, map, length, All, IsTrue, refl, sym, ap, ◌∙◌, subst, arith}
-use Rattle.std.specs.Prelude.{slice_range}
+use Rattle.hz_orders.proofs.Words.{slice_range, length-map, Kind, takes, gate_value, Netlist, IsCircuit, IsWhole, gate_at, Driver, External, Function, Source, network_of}
+use Rattle.hz_orders.proofs.Words.{driver_at, bit_at, Reads, wired-network_of, is_gate_of, length-part, at-part, Count, Exact, Many, Word, change_count, after_move, IsPartOfWalk}
+use Rattle.hz_orders.proofs.Words.{walk_changes, capped_word, IsWithinCap, IsAtMost, constant_word, at_most-trans, input_word, reads-inside, told_at, Order, IsBoundUnder}
+use Rattle.hz_orders.proofs.Words.{IsEnoughUnder, IsInductiveHolding, IsInductiveUnder}
 use Rattle.std.proofs.lemmas.Bool.{le-leb}
-use Rattle.std.proofs.lemmas.List.{length-map}
-use Rattle.hz_core.specs.declared.kind.Kind.{Kind}
-use Rattle.hz_core.specs.Gate.{takes, gate_value}
-use Rattle.hz_core.specs.Netlist.{Netlist, IsCircuit, IsWhole, gate_at}
 use Rattle.hz_core.proofs.CircuitLemmas.{takes-at_gate}
-use Rattle.hz_net.specs.Network.{Driver, External, Function, Source, network_of, driver_at, bit_at}
-use Rattle.hz_net.specs.Reads.{Reads}
-use Rattle.hz_net.proofs.Wired.{wired-network_of, is_gate_of}
-use Rattle.hz_lists.proofs.PartLemmas.{length-part, at-part}
-use Rattle.hz_word.specs.declared.count.Count.{Count}
-use Rattle.hz_word.specs.declared.count.Count.TheVariants.{Exact, Many}
-use Rattle.hz_word.specs.declared.word.Word.{Word}
-use Rattle.hz_word.specs.Word.{change_count}
-use Rattle.hz_word.specs.Walk.{after_move, IsWalk, IsPartOfWalk, walk_changes}
-use Rattle.hz_word.specs.Capped.{capped_word, capped_count, IsWithinCap, IsAtMost, IsFold}
-use Rattle.hz_word.specs.Pairs.{constant_word, kind_word}
+use Rattle.hz_word.specs.Walk.{IsWalk}
+use Rattle.hz_word.specs.Capped.{capped_count, IsFold}
+use Rattle.hz_word.specs.Pairs.{kind_word}
 use Rattle.hz_word.proofs.Longest.{takes-HasPins, part-IsWordOf}
 use Rattle.hz_word.proofs.Folds.{IsFold-kind_word}
-use Rattle.hz_word.proofs.AtMost.{at_most-trans, at_most-capped, at_most-same, at_most-many}
+use Rattle.hz_word.proofs.AtMost.{at_most-capped, at_most-same, at_most-many}
 use Rattle.hz_word.proofs.Stretched.{stretched, counted-capped_count, map-capped-stretched, AreWords-stretched}
-use Rattle.hz_free.specs.VariableWords.{input_word}
-use Rattle.hz_free.proofs.Chains.{reads-inside}
-use Rattle.hz_free.specs.Inductive.{told_at, GivesWord, IsInductive}
-use Rattle.hz_orders.specs.declared.order.Order.{Order}
-use Rattle.hz_orders.specs.Parts.{IsBoundUnder, IsCountUnder}
-use Rattle.hz_orders.specs.Inductive.{IsEnoughUnder, IsInductiveHolding, IsInductiveUnder}
+use Rattle.hz_free.specs.Inductive.{GivesWord, IsInductive}
+use Rattle.hz_orders.specs.Parts.{IsCountUnder}
 
 pub fold-bound : (orders : List Order) (kind : Kind) (wire : ℕ) (pins : List Word) (cap : ℕ) (outcome : Word) (bound : Count) → IsTrue (takes kind (length pins)) → IsFold kind pins cap outcome → IsAtMost outcome.changes bound → IsBoundUnder orders kind wire pins cap bound
 fold-bound orders kind wire pins cap outcome bound taken is_fold below words are_words capped moves keeping =

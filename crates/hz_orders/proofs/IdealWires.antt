@@ -1,27 +1,17 @@
 -- A run that keeps orders, and in which a wire is ideal, keeps the orders that follow from it. Until the wire's source moves the second wire
 -- has changed less than n times, and in the next step the ideal wire changes.
 use Rattle.std.proofs.Common.{◌≡◌, ℕ, zero, suc, ◌+◌, ◌<◌, ◌≤◌, Bool, true, false, not, cond, List, [], ◌∷◌, length, take, get_or, refl, sym, ap, ◌∙◌, subst, arith, inl, inr}
+use Rattle.hz_orders.proofs.Words.{cases_Bool, cases_lt, false≢true, Netlist, IsCircuit, IsWhole, is_listed, Driver, Source, network_of, driver_at, bit_at, IsStableStart, Reads}
+use Rattle.hz_orders.proofs.Words.{wired-network_of, IsRun, state_after, end_of, length-end_of, Exact, change_count, change_between, at_most-trans, told_at, reads-inside}
+use Rattle.hz_orders.proofs.Words.{changes_along, change-same, Order, Keeps}
 use Rattle.std.specs.Bool.{nat_eq}
-use Rattle.std.proofs.lemmas.Bool.{cases_Bool, cases_lt, eqb-true, false≢true}
-use Rattle.hz_core.specs.Netlist.{Netlist, IsCircuit, IsWhole}
-use Rattle.hz_lists.specs.Listed.{is_listed}
-use Rattle.hz_net.specs.Network.{Driver, Source, network_of, driver_at, driver_value, bit_at, IsUnstable}
-use Rattle.hz_net.specs.Starts.{IsStableStart}
-use Rattle.hz_net.specs.Reads.{Reads, IsWireInto}
-use Rattle.hz_net.proofs.Wired.{wired-network_of}
-use Rattle.hz_gmw.specs.Runs.{IsRun, state_after, end_of}
+use Rattle.std.proofs.lemmas.Bool.{eqb-true}
+use Rattle.hz_net.specs.Network.{driver_value, IsUnstable}
+use Rattle.hz_net.specs.Reads.{IsWireInto}
 use Rattle.hz_gmw.proofs.Flips.{at-state_after}
-use Rattle.hz_gmw.proofs.CoverB.{length-end_of}
-use Rattle.hz_word.specs.declared.count.Count.TheVariants.{Exact}
-use Rattle.hz_word.specs.Word.{change_count}
-use Rattle.hz_word.specs.Walk.{change_between}
-use Rattle.hz_word.proofs.AtMost.{at_most-trans}
 use Rattle.hz_free.specs.VariableWords.{variable_history}
-use Rattle.hz_free.specs.Inductive.{told_at}
-use Rattle.hz_free.proofs.Chains.{reads-inside}
-use Rattle.hz_free.proofs.Delays.{changes_along, change-same, change-not, change_count-history}
-use Rattle.hz_orders.specs.declared.order.Order.{Order}
-use Rattle.hz_orders.specs.Orders.{Keeps, KeepsOrder}
+use Rattle.hz_free.proofs.Delays.{change-not, change_count-history}
+use Rattle.hz_orders.specs.Orders.{KeepsOrder}
 use Rattle.hz_orders.specs.Ideal.{IsIdeal, FollowsFromIdeal}
 use Rattle.hz_orders.proofs.Under.{next-bounded}
 use Rattle.hz_orders.proofs.Outcomes.{unchanged}

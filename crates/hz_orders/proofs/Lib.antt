@@ -1,3 +1,5 @@
+-- The names that most proofs cite, passed on from one place
+pub mod Words
 -- A list of positions is as long as its list of ends
 pub mod PositionList
 -- The positions of pins: each stands in the list, and they stand in the order of their numbers

@@ -1,22 +1,19 @@
 -- Moves of a gate's pins lead from one position to another, and back: each way is a part of walks, and each part of a walk a way.
 use Rattle.std.proofs.Common.{◌≡◌, ◌≢◌, ℕ, zero, suc, ◌+◌, ◌<◌, ◌≤◌, Bool, true, false, not, List, [], ◌∷◌, map, length, take, drop, get_or, All, if◌then◌else◌, refl, sym, ap, ◌∙◌, subst, arith, inl, inr}
+use Rattle.hz_orders.proofs.Words.{◌==◌, cases_Bool, false≢true, Kind, gate_value, Count, Exact, Many, Word, change_count, current_letters, after_move, IsPartOfWalk}
+use Rattle.hz_orders.proofs.Words.{change_between, walk_changes, capped_word, IsAtMost, last_after, Order, advances, IsKeptAt, IsExact, AreExact, IsPosition, value_of, IsOnward}
+use Rattle.hz_orders.proofs.Words.{KeepsAt, IsMostFrom, begin}
 use Rattle.std.specs.Bool.{beq, nat_lt, nat_le}
-use Rattle.std.specs.Prelude.{◌%◌, ◌==◌}
-use Rattle.std.proofs.lemmas.Bool.{cases_Bool, ltb-true, ltb-false, false≢true}
-use Rattle.hz_core.specs.declared.kind.Kind.{Kind}
-use Rattle.hz_core.specs.Gate.{some_pin, gate_value}
-use Rattle.hz_word.specs.declared.count.Count.{Count}
-use Rattle.hz_word.specs.declared.count.Count.TheVariants.{Exact, Many}
-use Rattle.hz_word.specs.declared.word.Word.{Word}
-use Rattle.hz_word.specs.Word.{IsWord, AreWords, first_letter, change_count}
-use Rattle.hz_word.specs.Walk.{current_letters, MayAdvance, after_move, IsPartOfWalk, change_between, walk_changes}
-use Rattle.hz_word.specs.Capped.{capped_word, capped_count, IsAtMost}
-use Rattle.hz_word.specs.Pairs.{last_after}
+use Rattle.std.specs.Prelude.{◌%◌}
+use Rattle.std.proofs.lemmas.Bool.{ltb-true, ltb-false}
+use Rattle.hz_core.specs.Gate.{some_pin}
+use Rattle.hz_word.specs.Word.{IsWord, AreWords, first_letter}
+use Rattle.hz_word.specs.Walk.{MayAdvance}
+use Rattle.hz_word.specs.Capped.{capped_count}
 use Rattle.hz_word.proofs.Moves.{after_move-AreWords}
 use Rattle.hz_word.proofs.Letters.{last_after-suc, last_after-zero}
-use Rattle.hz_orders.specs.declared.order.Order.{Order}
-use Rattle.hz_orders.specs.Parts.{advances, IsKeptAt, IsMostUnder}
-use Rattle.hz_orders.specs.Positions.{IsExact, AreExact, IsPosition, letters_at, value_of, IsOnward, KeepsAt, IsKeptMove, IsWay, way_changes, IsMostFrom, begin}
+use Rattle.hz_orders.specs.Parts.{IsMostUnder}
+use Rattle.hz_orders.specs.Positions.{letters_at, IsKeptMove, IsWay, way_changes}
 
 -- what is left of a pin's word after it has advanced so often
 abbrev IsLeft : Word → ℕ → List Bool → Type 0

@@ -1,20 +1,14 @@
 -- What all kept outcomes refine, they refine if an X takes its excitation.
 use Rattle.std.proofs.Common.{◌≡◌, ℕ, ◌<◌, Bool, List, ◌++◌, length, take, drop, set, IsTrue, sym, ap, ◌∙◌, subst, arith, inl, inr}
-use Rattle.std.proofs.lemmas.Bool.{cases_lt}
-use Rattle.std.proofs.lemmas.List.{take-append-le, take_all, length-map, length-set, get_or-set_same, get_or-set_other}
-use Rattle.std.proofs.Math.Seq.{take-length}
-use Rattle.hz_core.specs.declared.tri.Tri.{Tri}
-use Rattle.hz_core.specs.declared.tri.Tri.TheVariants.{Zero, Unknown}
-use Rattle.hz_core.specs.Ternary.{admits, Refines}
+use Rattle.hz_orders.proofs.Words.{cases_lt, length-map, length-set, take-length, Tri, Zero, Unknown, Refines, network_of, bit_at, value_at, driver_at, excitation, end_of}
+use Rattle.hz_orders.proofs.Words.{length-end_of, Word, IsInductiveUnder, told_value}
+use Rattle.std.proofs.lemmas.List.{take-append-le, take_all, get_or-set_same, get_or-set_other}
+use Rattle.hz_core.specs.Ternary.{admits}
 use Rattle.hz_core.proofs.Refinements.{known-admits, Refines-get_or, get_or-Refines}
-use Rattle.hz_net.specs.Network.{network_of, bit_at, value_at, driver_at, excitation, excitation3}
+use Rattle.hz_net.specs.Network.{excitation3}
 use Rattle.hz_net.proofs.Excitations.{admits-driver_value}
-use Rattle.hz_gmw.specs.Runs.{end_of}
 use Rattle.hz_gmw.proofs.Paths.{end_of-append, IsRun-rest}
-use Rattle.hz_gmw.proofs.CoverB.{length-end_of}
-use Rattle.hz_word.specs.declared.word.Word.{Word}
-use Rattle.hz_orders.specs.Inductive.{IsInductiveUnder}
-use Rattle.hz_orders.specs.Outcomes.{IsKeptOutcome, told_value, told_values}
+use Rattle.hz_orders.specs.Outcomes.{IsKeptOutcome, told_values}
 use Rattle.hz_orders.specs.Ends.{CanEnd, CoversKept}
 use Rattle.hz_orders.specs.declared.telling.OrderedChange.{OrderedChange}
 use Rattle.hz_orders.proofs.Outcomes.{told-refined, holds-rest, has-throughout, admits-narrow, admits-unknown}

@@ -1,7 +1,6 @@
 -- From one position to another each pin advances once or stays: pin by pin, and as a move.
 use Rattle.std.proofs.Common.{◌≡◌, ℕ, zero, suc, ◌+◌, ◌<◌, ◌≤◌, List, [], ◌∷◌, length, get_or, refl, sym, ap, arith}
-use Rattle.hz_orders.specs.Positions.{IsOnward}
-use Rattle.hz_orders.specs.Tables.{AdvancesEach}
+use Rattle.hz_orders.proofs.Words.{IsOnward, AdvancesEach}
 
 -- a pin advances once or stays
 abbrev AdvancesAt : List ℕ → List ℕ → ℕ → Type 0

@@ -1,37 +1,21 @@
 -- All outcome states of runs that keep orders refine what words that are inductive under them narrow to.
 use Rattle.std.proofs.Common.{◌≡◌, ◌≢◌, ℕ, zero, suc, ◌<◌, ◌≤◌, Bool, true, false, not, cond, List, [], ◌∷◌, ◌++◌, length, take, IsTrue, refl, sym, ap, ◌∙◌, subst, arith, inl, inr}
+use Rattle.hz_orders.proofs.Words.{◌==◌, cases_Bool, length-map, get_or-map, take-length, Tri, Zero, Unknown, Refines, Netlist, IsCircuit, IsWhole, Driver, network_of, bit_at}
+use Rattle.hz_orders.proofs.Words.{value_at, driver_at, excitation, IsStableStart, is_listed, state_after, IsRun, end_of, length-end_of, Count, Exact, Many, Word, change_between}
+use Rattle.hz_orders.proofs.Words.{constant_word, changes_along, IsAtMost, told_at, Order, Keeps, IsInductiveUnder, told_value}
 use Rattle.std.specs.List.{AllByRecursion}
-use Rattle.std.specs.Prelude.{◌==◌}
-use Rattle.std.proofs.lemmas.Bool.{cases_Bool, eqb-true}
-use Rattle.std.proofs.lemmas.List.{length-map, get_or-map}
-use Rattle.std.proofs.Math.Seq.{take-length}
-use Rattle.hz_core.specs.declared.tri.Tri.{Tri}
-use Rattle.hz_core.specs.declared.tri.Tri.TheVariants.{Zero, One, Unknown}
-use Rattle.hz_core.specs.Ternary.{tri_of, admits, Refines}
-use Rattle.hz_core.specs.Netlist.{Netlist, IsCircuit, IsWhole}
+use Rattle.std.proofs.lemmas.Bool.{eqb-true}
+use Rattle.hz_core.specs.declared.tri.Tri.TheVariants.{One}
+use Rattle.hz_core.specs.Ternary.{tri_of, admits}
 use Rattle.hz_core.proofs.Refinements.{admits-tri_of, known-admits, Refines-get_or, get_or-Refines}
-use Rattle.hz_net.specs.Network.{Driver, network_of, bit_at, value_at, driver_at, driver_value3, excitation, IsUnstable}
+use Rattle.hz_net.specs.Network.{driver_value3, IsUnstable}
 use Rattle.hz_net.specs.Passes.{excitations}
-use Rattle.hz_net.specs.Starts.{IsStableStart}
 use Rattle.hz_net.proofs.Excitations.{admits-driver_value, length-excitations, at-excitations}
-use Rattle.hz_lists.specs.Listed.{is_listed}
-use Rattle.hz_gmw.specs.Runs.{state_after, IsRun, end_of, states_of}
+use Rattle.hz_gmw.specs.Runs.{states_of}
 use Rattle.hz_gmw.specs.Cycles.{IsNontransient}
 use Rattle.hz_gmw.proofs.Flips.{length-state_after, at-state_after}
 use Rattle.hz_gmw.proofs.Paths.{end_of-append, IsRun-rest, IsCut, value-somewhere}
-use Rattle.hz_gmw.proofs.CoverB.{length-end_of}
-use Rattle.hz_word.specs.declared.count.Count.{Count}
-use Rattle.hz_word.specs.declared.count.Count.TheVariants.{Exact, Many}
-use Rattle.hz_word.specs.declared.word.Word.{Word}
-use Rattle.hz_word.specs.Walk.{change_between}
-use Rattle.hz_word.specs.Pairs.{constant_word}
-use Rattle.hz_free.proofs.Delays.{changes_along}
-use Rattle.hz_word.specs.Capped.{IsAtMost}
-use Rattle.hz_free.specs.Inductive.{told_at}
-use Rattle.hz_orders.specs.declared.order.Order.{Order}
-use Rattle.hz_orders.specs.Orders.{Keeps}
-use Rattle.hz_orders.specs.Inductive.{IsInductiveUnder}
-use Rattle.hz_orders.specs.Outcomes.{IsKeptOutcome, told_value, told_values, narrow_of, narrow_each, narrowings}
+use Rattle.hz_orders.specs.Outcomes.{IsKeptOutcome, told_values, narrow_of, narrow_each, narrowings}
 use Rattle.hz_orders.proofs.Under.{all-bounded, none-held}
 
 -- what holds of each state of a run, by the steps that lead to it

@@ -1,13 +1,9 @@
 -- Of each position of a gate's wires the orders of these wires say the same as all orders.
 use Rattle.std.proofs.Common.{◌≡◌, ◌↔◌, ℕ, ◌+◌, ◌<◌, List, [], ◌∷◌, ◌++◌, length, Some, sym, subst, arith, inl, inr}
-use Rattle.std.proofs.lemmas.Bool.{cases_lt}
+use Rattle.hz_orders.proofs.Words.{cases_lt, IsKeptAt, KeepsAt, Order, OrderedGate}
 use Rattle.std.proofs.lemmas.List.Elements.{All-push, All-pop}
 use Rattle.std.specs.List.{slice_index_or}
-use Rattle.hz_orders.specs.Parts.{IsKeptAt}
-use Rattle.hz_orders.specs.Positions.{KeepsAt}
 use Rattle.hz_orders.specs.Tables.{AreWithOrder, IsOfOthers}
-use Rattle.hz_orders.specs.declared.order.Order.{Order}
-use Rattle.hz_orders.specs.declared.table.OrderedGate.{OrderedGate}
 
 -- a position keeps an order
 abbrev pub IsKeptBy : OrderedGate → List ℕ → Order → Type 0

@@ -1,9 +1,7 @@
 -- What is told of each position of a gate's wires.
 use Rattle.std.proofs.Common.{◌≡◌, ◌⊎◌, ℕ, ◌+◌, ◌<◌, ◌≤◌, Bool, List, [], length, get_or, IsTrue, sym, ap, ◌∙◌, subst, inl, inr}
-use Rattle.hz_word.specs.Walk.{change_between}
-use Rattle.hz_orders.specs.Positions.{KeepsAt, value_of}
-use Rattle.hz_orders.specs.Tables.{AdvancesEach, IsPlaceAt, no_place}
-use Rattle.hz_orders.specs.declared.table.OrderedGate.{OrderedGate}
+use Rattle.hz_orders.proofs.Words.{change_between, KeepsAt, value_of, AdvancesEach, OrderedGate}
+use Rattle.hz_orders.specs.Tables.{IsPlaceAt, no_place}
 use Rattle.hz_orders.specs.declared.table.Place.{Place}
 use Rattle.hz_orders.proofs.Rows.{through}
 

@@ -1,16 +1,14 @@
 -- The table, place by place: the most from a place on follows from what is told of the later ones.
 use Rattle.std.proofs.Common.{◌≡◌, ◌≢◌, ◌⊎◌, ℕ, zero, suc, ◌+◌, ◌-◌, ◌*◌, ◌<◌, ◌≤◌, Bool, true, false, List, [], ◌∷◌, ◌++◌, length, map, max, take, set, get_or, refl, sym, ap, ◌∙◌, subst, arith, inl, inr}
-use Rattle.std.proofs.lemmas.Bool.{cases_lt, eq-eqb, false≢true}
-use Rattle.std.specs.Prelude.{◌==◌, slice_range, Result, Ok, Err, IfOk, Option, Some, None, IfSome}
-use Rattle.std.proofs.lemmas.List.{append_assoc, map-append, take_all, length-set, get_or-set_same, get_or-set_other}
-use Rattle.std.proofs.Math.Seq.{take-length, take-suc}
+use Rattle.hz_orders.proofs.Words.{cases_lt, false≢true, ◌==◌, slice_range, length-set, take-length, Word, change_between, last_after, constant_word, IsExact, AreExact}
+use Rattle.hz_orders.proofs.Words.{IsPosition, behind_numbers, positions_of, begin, value_of, IsOnward, KeepsAt, IsMostFrom, AdvancesEach, OrderedGate}
+use Rattle.std.proofs.lemmas.Bool.{eq-eqb}
+use Rattle.std.specs.Prelude.{Result, Ok, Err, IfOk, Option, Some, None, IfSome}
+use Rattle.std.proofs.lemmas.List.{append_assoc, map-append, take_all, get_or-set_same, get_or-set_other}
+use Rattle.std.proofs.Math.Seq.{take-suc}
 use Rattle.std.proofs.Math.Nat.{suc-mul, mul-suc}
-use Rattle.hz_word.specs.declared.word.Word.{Word}
-use Rattle.hz_word.specs.Walk.{change_between}
-use Rattle.hz_word.specs.Pairs.{last_after, constant_word}
-use Rattle.hz_orders.specs.Positions.{IsExact, AreExact, number_of, IsPosition, behind_numbers, positions_of, most_places, HaveTable, begin, letters_at, value_of, IsOnward, KeepsAt, IsKeptMove, IsWay, way_changes, IsMostFrom}
-use Rattle.hz_orders.specs.Tables.{AdvancesEach, IsRow, AreMostBehind, changes_through, LeadsTo, IsBest}
-use Rattle.hz_orders.specs.declared.table.OrderedGate.{OrderedGate}
+use Rattle.hz_orders.specs.Positions.{number_of, most_places, HaveTable, letters_at, IsKeptMove, IsWay, way_changes}
+use Rattle.hz_orders.specs.Tables.{IsRow, AreMostBehind, changes_through, LeadsTo, IsBest}
 use Rattle.hz_orders.proofs.Sorted.{Stands, every-stands, each-inside, length-position, stands-later, stands-once, length-behind_numbers, some-positions, begins-first}
 use Rattle.hz_orders.proofs.Onward.{onward-each, each-onward}
 

@@ -1,13 +1,10 @@
 -- The positions of pins: each stands in the list, and they stand in the order of their numbers.
 use Rattle.std.proofs.Common.{◌≡◌, ◌≢◌, ◌⊎◌, ℕ, zero, suc, ◌+◌, ◌*◌, ◌-◌, ◌<◌, ◌≤◌, List, [], ◌∷◌, ◌++◌, map, length, get_or, refl, sym, ap, ◌∙◌, subst, arith, inl, inr}
-use Rattle.std.proofs.lemmas.Bool.{cases_lt}
-use Rattle.std.proofs.lemmas.List.{length-append, length-map, get_or-map, get_or_append_left, get_or-append_right}
+use Rattle.hz_orders.proofs.Words.{cases_lt, length-map, get_or-map, Count, Exact, Many, Word, IsAtMost, IsExact, AreExact, IsPosition, behind_numbers, positions_of, begin}
+use Rattle.hz_orders.proofs.Words.{IsOnward}
+use Rattle.std.proofs.lemmas.List.{length-append, get_or_append_left, get_or-append_right}
 use Rattle.std.proofs.Math.Nat.{suc-mul}
-use Rattle.hz_word.specs.declared.count.Count.{Count}
-use Rattle.hz_word.specs.declared.count.Count.TheVariants.{Exact, Many}
-use Rattle.hz_word.specs.declared.word.Word.{Word}
-use Rattle.hz_word.specs.Capped.{IsAtMost}
-use Rattle.hz_orders.specs.Positions.{IsExact, AreExact, number_of, IsPosition, behind_numbers, positions_of, begin, IsOnward}
+use Rattle.hz_orders.specs.Positions.{number_of}
 
 -- a position stands in a list
 abbrev pub Stands : List (List ℕ) → List ℕ → Type 0

@@ -1,15 +1,13 @@
 -- Rows of letters that change along a run are a part of a walk, in which each word advances as often as its column changes.
 use Rattle.std.proofs.Common.{◌≡◌, ℕ, zero, suc, ◌+◌, ◌<◌, ◌≤◌, Bool, true, false, List, [], ◌∷◌, length, take, drop, get_or, if◌then◌else◌, refl, sym, ◌∙◌, arith, inl, inr}
-use Rattle.std.proofs.lemmas.Bool.{cases_Bool}
+use Rattle.hz_orders.proofs.Words.{cases_Bool, state_after, change_count, current_letters, after_move, IsPartOfWalk, change_between, walk_changes, changes_along, change-same}
+use Rattle.hz_orders.proofs.Words.{advances}
 use Rattle.hz_core.specs.Gate.{some_pin}
-use Rattle.hz_gmw.specs.Runs.{state_after}
-use Rattle.hz_word.specs.Word.{AreWords, change_count}
-use Rattle.hz_word.specs.Walk.{current_letters, MayAdvance, after_move, IsPartOfWalk, change_between, walk_changes}
+use Rattle.hz_word.specs.Word.{AreWords}
+use Rattle.hz_word.specs.Walk.{MayAdvance}
 use Rattle.hz_word.proofs.Moves.{after_move-AreWords, length-after_move}
 use Rattle.hz_gmw.proofs.Flips.{length-state_after}
-use Rattle.hz_free.proofs.Delays.{changes_along, change-same}
 use Rattle.hz_free.proofs.Columns.{moved, moved-none, move-may, move-letters}
-use Rattle.hz_orders.specs.Parts.{advances}
 
 -- each word has as many changes less as its letter changed
 dropped : (word : List Bool) → 1 < length word → change_count (drop 1 word) + 1 ≡ change_count word

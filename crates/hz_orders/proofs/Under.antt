@@ -1,38 +1,21 @@
 -- Along every run that keeps the orders, and in which what is held stays, each word that is told covers the history of its variable: by
 -- induction on the number of steps, so it does not matter what reads what.
 use Rattle.std.proofs.Common.{◌≡◌, ℕ, zero, suc, ◌+◌, ◌<◌, ◌≤◌, Bool, true, false, List, [], ◌∷◌, map, length, take, get_or, All, refl, sym, ap, ◌∙◌, subst, arith, inl, inr}
-use Rattle.std.proofs.lemmas.Bool.{cases_Bool, false≢true}
-use Rattle.std.specs.Prelude.{slice_range}
-use Rattle.std.proofs.lemmas.List.{ext_get_or, length-map, get_or-map}
-use Rattle.std.proofs.Math.Seq.{take-length}
-use Rattle.hz_core.specs.declared.kind.Kind.{Kind}
-use Rattle.hz_core.specs.Gate.{gate_value}
-use Rattle.hz_core.specs.Netlist.{Netlist, IsCircuit, IsWhole}
-use Rattle.hz_net.specs.Network.{Driver, External, Function, Source, network_of, driver_at, driver_value, bit_at, excitation}
-use Rattle.hz_net.specs.Starts.{IsStableStart}
-use Rattle.hz_net.specs.Reads.{Reads}
-use Rattle.hz_net.proofs.Wired.{wired-network_of}
-use Rattle.hz_lists.specs.Listed.{is_listed}
-use Rattle.hz_lists.proofs.PartLemmas.{length-part, at-part}
-use Rattle.hz_gmw.specs.Runs.{IsRun, state_after}
-use Rattle.hz_word.specs.declared.count.Count.TheVariants.{Exact}
-use Rattle.hz_word.specs.declared.word.Word.{Word}
-use Rattle.hz_word.specs.Word.{first_letter, change_count}
-use Rattle.hz_word.specs.Walk.{current_letters, change_between, walk_changes}
-use Rattle.hz_word.specs.Capped.{capped_word, IsWithinCap, IsAtMost}
+use Rattle.hz_orders.proofs.Words.{cases_Bool, false≢true, slice_range, length-map, get_or-map, take-length, Kind, gate_value, Netlist, IsCircuit, IsWhole, Driver, External}
+use Rattle.hz_orders.proofs.Words.{Function, Source, network_of, driver_at, bit_at, excitation, IsStableStart, Reads, wired-network_of, is_listed, length-part, at-part, IsRun}
+use Rattle.hz_orders.proofs.Words.{state_after, Exact, Word, change_count, current_letters, change_between, walk_changes, capped_word, IsWithinCap, IsAtMost, constant_word}
+use Rattle.hz_orders.proofs.Words.{input_word, reads-inside, changes_along, change-same, told_at, at_most-trans, Order, Keeps, advances, IsKeptAt, IsBoundUnder, IsEnoughUnder}
+use Rattle.hz_orders.proofs.Words.{IsInductiveHolding, IsInductiveUnder}
+use Rattle.std.proofs.lemmas.List.{ext_get_or}
+use Rattle.hz_net.specs.Network.{driver_value}
+use Rattle.hz_word.specs.Word.{first_letter}
 use Rattle.hz_word.specs.Covers.{Covers}
-use Rattle.hz_word.specs.Pairs.{constant_word}
 use Rattle.hz_word.proofs.Longest.{first_letter-alternating}
-use Rattle.hz_free.specs.VariableWords.{input_word, variable_history}
-use Rattle.hz_free.proofs.Chains.{reads-inside}
+use Rattle.hz_free.specs.VariableWords.{variable_history}
 use Rattle.hz_free.proofs.Covered.{same-driver_value-input, source-place, function-place}
-use Rattle.hz_free.proofs.Delays.{delay-before, changes_along, change-same, constant-along, same-along, change_count-history, first_letter-history}
-use Rattle.hz_free.specs.Inductive.{told_at}
-use Rattle.hz_word.proofs.AtMost.{at_most-trans, at_most-less, at_most-zero, covers-at_most}
-use Rattle.hz_orders.specs.declared.order.Order.{Order}
-use Rattle.hz_orders.specs.Orders.{Keeps, KeepsOrder}
-use Rattle.hz_orders.specs.Parts.{advances, IsKeptAt, IsBoundUnder}
-use Rattle.hz_orders.specs.Inductive.{IsEnoughUnder, IsInductiveHolding, IsInductiveUnder}
+use Rattle.hz_free.proofs.Delays.{delay-before, constant-along, same-along, change_count-history, first_letter-history}
+use Rattle.hz_word.proofs.AtMost.{at_most-less, at_most-zero, covers-at_most}
+use Rattle.hz_orders.specs.Orders.{KeepsOrder}
 use Rattle.hz_orders.proofs.Tracked.{tracked-along, Tracks}
 use Rattle.hz_word.proofs.Stretched.{stretched, stretched_count, map-capped-stretched, AreWords-stretched, bound-stretched}
 

@@ -1,14 +1,11 @@
 -- A wire must move exactly if Algorithm B ends at its other value.
 use Rattle.std.proofs.Common.{◌≡◌, ◌∙◌, ℕ, Bool, true, false, not, List, refl, sym}
+use Rattle.hz_orders.proofs.Words.{false≢true, Tri, Zero, Unknown, Netlist, IsCircuit, network_of, bit_at, value_at, IsStableStart}
 use Rattle.std.specs.Prelude.{◌↔◌}
-use Rattle.std.proofs.lemmas.Bool.{false≢true, true≢false}
-use Rattle.hz_core.specs.declared.tri.Tri.{Tri}
-use Rattle.hz_core.specs.declared.tri.Tri.TheVariants.{Zero, One, Unknown}
+use Rattle.std.proofs.lemmas.Bool.{true≢false}
+use Rattle.hz_core.specs.declared.tri.Tri.TheVariants.{One}
 use Rattle.hz_core.specs.Ternary.{tri_of, IsJoinOf}
-use Rattle.hz_core.specs.Netlist.{Netlist, IsCircuit}
-use Rattle.hz_net.specs.Network.{network_of, bit_at, value_at}
 use Rattle.hz_net.specs.Passes.{algorithm_a, algorithm_b, IsResult}
-use Rattle.hz_net.specs.Starts.{IsStableStart}
 use Rattle.hz_gmw.specs.Runs.{JoinsTo}
 use Rattle.hz_gmw.specs.Cycles.{IsOutcome}
 use Rattle.hz_cycle.specs.Exact.{BIsExact}

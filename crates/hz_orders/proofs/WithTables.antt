@@ -1,26 +1,15 @@
 -- Pins have a table or not, the orders whose gates have tables, and what they bound.
 use Rattle.std.proofs.Common.{◌≡◌, ◌≢◌, ◌⊎◌, ℕ, suc, ◌+◌, ◌<◌, ◌≤◌, List, [], ◌∷◌, ◌++◌, length, take, get_or, All, refl, sym, ap, ◌∙◌, subst, inl, inr, arith, append-nil, IsTrue, IfOk, Result, Ok, Err}
-use Rattle.std.specs.Prelude.{slice_range}
-use Rattle.std.proofs.lemmas.Bool.{cases_lt}
-use Rattle.std.proofs.lemmas.List.{length-map, take_more}
+use Rattle.hz_orders.proofs.Words.{slice_range, cases_lt, length-map, Kind, takes, Netlist, IsCircuit, gate_at, Driver, Function, Source, network_of, driver_at, first_wire, Reads}
+use Rattle.hz_orders.proofs.Words.{is_gate_of, wired-network_of, reads-inside, Count, Exact, Many, Word, capped_word, Order, advances, IsBoundUnder, IsKeptAt, AreExact, IsExact}
+use Rattle.hz_orders.proofs.Words.{positions_of, AreTabled}
+use Rattle.std.proofs.lemmas.List.{take_more}
 use Rattle.std.proofs.lemmas.List.Elements.{All-nil, All-cons, All-head, All-tail}
-use Rattle.hz_core.specs.declared.kind.Kind.{Kind}
-use Rattle.hz_core.specs.Gate.{takes}
-use Rattle.hz_core.specs.Netlist.{Netlist, IsCircuit, gate_at}
-use Rattle.hz_net.specs.Network.{Driver, Function, Source, network_of, driver_at}
-use Rattle.hz_net.specs.Variables.{first_wire}
-use Rattle.hz_net.specs.Reads.{IsWireInto, Reads}
-use Rattle.hz_net.proofs.Wired.{is_gate_of, wired-network_of}
-use Rattle.hz_free.proofs.Chains.{reads-inside}
-use Rattle.hz_word.specs.declared.count.Count.{Count}
-use Rattle.hz_word.specs.declared.count.Count.TheVariants.{Exact, Many}
-use Rattle.hz_word.specs.declared.word.Word.{Word}
-use Rattle.hz_word.specs.Capped.{capped_word, IsFold}
-use Rattle.hz_orders.specs.declared.order.Order.{Order}
+use Rattle.hz_net.specs.Reads.{IsWireInto}
+use Rattle.hz_word.specs.Capped.{IsFold}
 use Rattle.hz_orders.specs.Orders.{IsOrderOf}
-use Rattle.hz_orders.specs.Parts.{advances, IsBoundUnder, IsKeptAt}
-use Rattle.hz_orders.specs.Positions.{AreExact, HaveTable, IsExact, most_places, positions_of}
-use Rattle.hz_orders.specs.Tabled.{AddsTabled, AreTabled, HasTableAt, HoldAlike}
+use Rattle.hz_orders.specs.Positions.{HaveTable, most_places}
+use Rattle.hz_orders.specs.Tabled.{AddsTabled, HasTableAt, HoldAlike}
 use Rattle.hz_orders.proofs.Folded.{own-bound}
 
 -- two facts of a value that is there

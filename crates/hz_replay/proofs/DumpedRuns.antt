@@ -1,19 +1,10 @@
 -- The last of runs that are accepted may be written as a dump: each of its steps changes variables, none of them twice.
 use Rattle.std.proofs.Common.{◌≡◌, ◌∙◌, refl, sym, ap, subst, ℕ, ◌+◌, ◌-◌, ◌<◌, Bool, List, [], ◌∷◌, ◌++◌, length, get_or, Option, Some, None, IfSome, All, arith}
-use Rattle.std.proofs.lemmas.List.{length-append}
-use Rattle.std.proofs.lemmas.List.Elements.{All-nil, All-cons}
-use Rattle.hz_core.specs.Netlist.{Netlist}
-use Rattle.hz_net.specs.Network.{Driver, network_of}
-use Rattle.hz_gmw.specs.Runs.{IsStep, IsRun, state_after}
-use Rattle.hz_gmw.specs.Cycles.{IsNontransient}
+use Rattle.hz_replay.proofs.Words.{length-append, All-nil, All-cons, Netlist, Driver, network_of, IsStep, IsRun, state_after, IsNontransient, IsRunTextFor, RunOf, cycle_steps}
+use Rattle.hz_replay.proofs.Words.{RunTextOf, steps_of, AreAccepted, no_run}
 use Rattle.hz_lists.proofs.ListedLemmas.{All-each}
-use Rattle.hz_run_text.specs.RunText.{IsRunTextFor}
-use Rattle.hz_text.specs.RunParts.{RunOf, cycle_steps}
-use Rattle.hz_run_text.specs.RunValue.{RunTextOf}
 use Rattle.hz_vcd.specs.Dump.{AreFlips, variables_of}
 use Rattle.hz_replay.specs.Dumps.{last_run}
-use Rattle.hz_replay.specs.Replaying.{steps_of, AreAccepted}
-use Rattle.hz_replay.specs.Named.{no_run}
 use Rattle.hz_replay.proofs.RunSteps.{run-few}
 
 -- a step changes variables

@@ -1,3 +1,5 @@
+-- The names that most proofs cite, passed on from one place
+pub mod Words
 -- What the steps of a run make of a replayer, and where they are refused
 pub mod ReplayerStepLemmas
 -- The runs of a text, one after the other

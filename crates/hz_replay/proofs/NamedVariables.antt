@@ -1,26 +1,14 @@
 -- A variable that the first refusal of a run text names is one of the network.
 use Rattle.std.proofs.Common.{◌≡◌, ◌≢◌, ◌∙◌, refl, sym, subst, ℕ, ◌<◌, inl, inr, Bool, false, List, ◌∷◌, ◌++◌, length, All, arith}
-use Rattle.std.proofs.lemmas.Bool.{cases_lt}
-use Rattle.std.proofs.lemmas.List.{length-append, get_or_past}
-use Rattle.hz_core.specs.Netlist.{Netlist}
-use Rattle.hz_net.specs.Network.{network_of, bit_at}
-use Rattle.hz_gmw.specs.Runs.{end_of}
-use Rattle.hz_gmw.specs.ReplayFaults.{IsStepFault, IsCycleFault}
-use Rattle.hz_gmw.specs.declared.replay_fault.StepFault.{StepFault}
+use Rattle.hz_replay.proofs.Words.{cases_lt, length-append, Netlist, network_of, bit_at, end_of, IsStepFault, IsCycleFault, StepFault, CycleFault, IsRunTextFor, RunOf, RunTextOf}
+use Rattle.hz_replay.proofs.Words.{all_steps, RunRefusal, Step, Cycle, steps_of, IsRefusedRun, IsFirstRefusal, AreVariables, no_run}
+use Rattle.std.proofs.lemmas.List.{get_or_past}
 use Rattle.hz_gmw.specs.declared.replay_fault.StepFault.TheVariants.{Empty, Repeated, Stable}
-use Rattle.hz_gmw.specs.declared.replay_fault.CycleFault.{CycleFault}
 use Rattle.hz_gmw.specs.declared.replay_fault.CycleFault.TheVariants.{Differs, NotStable, Transient}
 use Rattle.hz_gmw.proofs.CoverB.{length-end_of}
 use Rattle.hz_lists.proofs.ListedLemmas.{All-listed}
 use Rattle.hz_gmw.proofs.LeastLemmas.{times_listed-listed}
-use Rattle.hz_run_text.specs.RunText.{IsRunTextFor}
-use Rattle.hz_text.specs.RunParts.{RunOf}
-use Rattle.hz_run_text.specs.RunValue.{RunTextOf, all_steps}
-use Rattle.hz_replay.specs.declared.replaying.RunRefusal.{RunRefusal}
-use Rattle.hz_replay.specs.declared.replaying.RunRefusal.TheVariants.{Step, Cycle}
-use Rattle.hz_replay.specs.Replaying.{steps_of, IsRefusedRun, IsFirstRefusal}
-use Rattle.hz_replay.specs.ReplayerSteps.{AreVariables}
-use Rattle.hz_replay.specs.Named.{no_run, step_variable, cycle_variable, named_variable, NamesVariable}
+use Rattle.hz_replay.specs.Named.{step_variable, cycle_variable, named_variable, NamesVariable}
 use Rattle.hz_replay.proofs.RunSteps.{run-variables}
 use Rattle.hz_replay.proofs.Refusals.{middle, All-middle}
 

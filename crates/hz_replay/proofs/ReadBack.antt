@@ -1,23 +1,16 @@
 -- Runs that are accepted are printed as a text that replays.
 use Rattle.std.proofs.Common.{◌≡◌, ◌∙◌, sym, ap, refl, inl, inr, ℕ, suc, ◌-◌, ◌<◌, ◌≤◌, Bool, false, List, [], ◌∷◌, ◌++◌, Option, None, Some, IfSome, length, get_or, take, All, arith}
-use Rattle.std.proofs.lemmas.Bool.{cases_lt}
-use Rattle.std.proofs.lemmas.List.{length-take-le, get_or-take}
-use Rattle.std.proofs.lemmas.List.Elements.{All-nil, All-cons, All-head, All-tail, All-append}
-use Rattle.hz_core.specs.Netlist.{Netlist, IsCircuit, variable_count}
-use Rattle.hz_net.specs.Network.{Driver, network_of, wires_of, bit_at, driver_value, IsStable}
-use Rattle.hz_net.specs.Variables.{expansion_of}
+use Rattle.hz_replay.proofs.Words.{cases_lt, length-take-le, All-nil, All-cons, Netlist, Driver, network_of, bit_at, expansion_of, state_after, IsRun, end_of, IsNontransient}
+use Rattle.hz_replay.proofs.Words.{IsRunTextFor, RunOf, cycle_steps, RunTextOf, all_steps, IsAcceptedRun, start_of, AreAccepted, most_steps}
+use Rattle.std.proofs.lemmas.List.{get_or-take}
+use Rattle.std.proofs.lemmas.List.Elements.{All-head, All-tail, All-append}
+use Rattle.hz_core.specs.Netlist.{IsCircuit, variable_count}
+use Rattle.hz_net.specs.Network.{wires_of, driver_value, IsStable}
 use Rattle.hz_net.proofs.Places.{no_wire, All-wires_of, length-wires_of, length-network_of, driver_at-wire, length-expansion_of, bit_at-expansion_of-node, bit_at-expansion_of-wire}
-use Rattle.hz_gmw.specs.Runs.{state_after, IsRun, end_of}
-use Rattle.hz_gmw.specs.Cycles.{IsNontransient}
 use Rattle.hz_gmw.specs.RunRecord.{flip_count}
 use Rattle.hz_run_text.specs.RunPrinted.{run_text_printed}
 use Rattle.hz_run_text.specs.RunReadBack.{PrintedRunsAreRead}
-use Rattle.hz_run_text.specs.RunText.{IsRunTextFor}
-use Rattle.hz_text.specs.RunParts.{RunOf, cycle_steps}
-use Rattle.hz_run_text.specs.RunValue.{RunTextOf, all_steps}
-use Rattle.hz_replay.specs.Replaying.{IsAcceptedRun, start_of, AreAccepted}
 use Rattle.hz_replay.specs.RunTexts.{ReplaysAs}
-use Rattle.hz_run_text.specs.Limits.{most_steps}
 use Rattle.hz_lists.proofs.ListedLemmas.{All-each}
 
 -- Bits of one length that are the same at each place are the same.

@@ -1,18 +1,10 @@
 -- A run is accepted or refused, and never both.
 use Rattle.std.proofs.Common.{◌≡◌, refl, subst, ℕ, Bool, List, [], ◌∷◌, ◌++◌, length, get_or, Option, Some, None, IfSome, All, arith}
-use Rattle.std.proofs.lemmas.List.{length-append}
-use Rattle.hz_core.specs.Netlist.{Netlist}
-use Rattle.hz_net.specs.Network.{Driver, network_of}
-use Rattle.hz_gmw.specs.Runs.{IsRun, end_of}
-use Rattle.hz_gmw.specs.Cycles.{IsNontransient}
-use Rattle.hz_gmw.specs.declared.replay_fault.StepFault.{StepFault}
+use Rattle.hz_replay.proofs.Words.{length-append, Netlist, Driver, network_of, IsRun, end_of, IsNontransient, StepFault, RunOf, cycle_steps, RunTextOf, RunRefusal, Step, Cycle}
+use Rattle.hz_replay.proofs.Words.{steps_of, IsAcceptedRun, IsRefusedStep, IsRefusedRun, start_of, AreAccepted}
 use Rattle.hz_gmw.proofs.Paths.{IsRun-append, IsRun-rest}
 use Rattle.hz_gmw.proofs.ReplayLemmas.{step-or-fault, cycle-or-fault}
-use Rattle.hz_text.specs.RunParts.{RunOf, cycle_steps}
-use Rattle.hz_run_text.specs.RunValue.{RunTextOf}
-use Rattle.hz_replay.specs.declared.replaying.RunRefusal.{RunRefusal}
-use Rattle.hz_replay.specs.declared.replaying.RunRefusal.TheVariants.{Step, Cycle}
-use Rattle.hz_replay.specs.Replaying.{steps_of, IsAcceptedRun, IsRefusedStep, IsRefusedRun, start_of, AreAccepted, IsRefusalOfText}
+use Rattle.hz_replay.specs.Replaying.{IsRefusalOfText}
 
 -- no step of a run is refused
 run-or-refused : (net : List Driver) (input start : List Bool) (steps : List (List ℕ)) (number : ℕ) (fault : StepFault) → IsRun net input start steps → IsRefusedStep net input start steps number fault → ⊥

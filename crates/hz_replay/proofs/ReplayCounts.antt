@@ -1,11 +1,7 @@
 -- The counts in the line of a replay.
 use Rattle.std.proofs.Common.{◌≡◌, ap, ℕ, ◌+◌, ◌<◌, ◌≤◌, List, length, take, get_or, Option, Some, arith}
-use Rattle.std.proofs.lemmas.List.{length-append}
+use Rattle.hz_replay.proofs.Words.{length-append, RunOf, cycle_steps, steps_of, total_steps, no_run, most_steps}
 use Rattle.std.proofs.lemmas.List.Folds.{length-flat_map-take}
-use Rattle.hz_text.specs.RunParts.{RunOf, cycle_steps}
-use Rattle.hz_replay.specs.Replaying.{steps_of, total_steps}
-use Rattle.hz_replay.specs.Named.{no_run}
-use Rattle.hz_run_text.specs.Limits.{most_steps}
 
 -- the steps of a run, and those of the runs before it, are no more than there are
 pub steps-within : (runs : List RunOf) (number : ℕ) → number < length runs → length (steps_of (get_or runs number no_run)) + total_steps (take number runs) ≤ total_steps runs

@@ -1,35 +1,28 @@
 -- One of both holds: a list of variables is a step or has a fault, a run is a nontransient cycle or has one, and so a run text
 -- of a network is accepted or refused.
 use Rattle.std.proofs.Common.{◌≡◌, ◌≢◌, ◌∙◌, refl, sym, ap, subst, ℕ, zero, suc, ◌+◌, ◌<◌, ◌≤◌, ◌⊎◌, inl, inr, Bool, true, false, not, List, [], ◌∷◌, ◌++◌, length, replicate, Option, Some, None, IsTrue, All, arith}
+use Rattle.hz_replay.proofs.Words.{cases_lt, length-append, All-nil, All-cons, Netlist, Driver, network_of, bit_at, state_after, IsStep, IsRun, end_of, IsNontransient, Replayer}
+use Rattle.hz_replay.proofs.Words.{initial_replayer, IsStepFault, IsCycleFault, StepFault, CycleFault, IsRunTextFor, RunOf, cycle_steps, RunTextOf, all_steps, RunRefusal, Step}
+use Rattle.hz_replay.proofs.Words.{Cycle, steps_of, IsAcceptedRun, IsRefusedStep, IsRefusedRun, IsFirstRefusal, start_of, AreAccepted, AreVariables, run_of}
 use Rattle.std.specs.Bool.{beq}
-use Rattle.std.proofs.lemmas.Bool.{cases_lt, false≢true, not-true, not_from_false, false_from_ne_true}
-use Rattle.std.proofs.lemmas.List.{append-nil, append_assoc, get_or_past, length-replicate, length-append, get_or_append_left}
-use Rattle.std.proofs.lemmas.List.Elements.{All-head, All-tail, All-nil, All-cons}
-use Rattle.hz_core.specs.Netlist.{Netlist, IsCircuit}
-use Rattle.hz_net.specs.Network.{Driver, network_of, bit_at, IsUnstable}
+use Rattle.std.proofs.lemmas.Bool.{false≢true, not-true, not_from_false, false_from_ne_true}
+use Rattle.std.proofs.lemmas.List.{append-nil, append_assoc, get_or_past, length-replicate, get_or_append_left}
+use Rattle.std.proofs.lemmas.List.Elements.{All-head, All-tail}
+use Rattle.hz_core.specs.Netlist.{IsCircuit}
+use Rattle.hz_net.specs.Network.{IsUnstable}
 use Rattle.hz_lists.specs.Listed.{is_listed}
-use Rattle.hz_gmw.specs.Runs.{state_after, IsStep, IsRun, end_of}
-use Rattle.hz_gmw.specs.Cycles.{IsNontransient}
 use Rattle.hz_gmw.specs.Instability.{is_unstable, unstable_variables}
 use Rattle.hz_lists.specs.Least.{IsLeastOf}
 use Rattle.hz_gmw.specs.LeastListed.{least_from, least_repeat}
-use Rattle.hz_gmw.specs.Replayer.{Replayer, StandsFor, initial_replayer, replayer_after}
-use Rattle.hz_gmw.specs.ReplayFaults.{times_listed, IsStepFault, IsCycleFault}
-use Rattle.hz_gmw.specs.declared.replay_fault.StepFault.{StepFault}
+use Rattle.hz_gmw.specs.Replayer.{StandsFor, replayer_after}
+use Rattle.hz_gmw.specs.ReplayFaults.{times_listed}
 use Rattle.hz_gmw.specs.declared.replay_fault.StepFault.TheVariants.{Empty, Repeated, Stable}
-use Rattle.hz_gmw.specs.declared.replay_fault.CycleFault.{CycleFault}
 use Rattle.hz_gmw.specs.declared.replay_fault.CycleFault.TheVariants.{Differs, NotStable, Transient}
 use Rattle.hz_gmw.proofs.Flips.{length-state_after}
 use Rattle.hz_gmw.proofs.CoverB.{length-end_of}
 use Rattle.hz_gmw.proofs.Paths.{IsRun-front, IsRun-rest}
 use Rattle.hz_net.proofs.Places.{length-expansion_of}
-use Rattle.hz_run_text.specs.RunText.{IsRunTextFor}
-use Rattle.hz_text.specs.RunParts.{RunOf, cycle_steps}
-use Rattle.hz_run_text.specs.RunValue.{RunTextOf, all_steps}
-use Rattle.hz_replay.specs.declared.replaying.RunRefusal.{RunRefusal}
-use Rattle.hz_replay.specs.declared.replaying.RunRefusal.TheVariants.{Step, Cycle}
-use Rattle.hz_replay.specs.Replaying.{steps_of, IsAcceptedRun, IsRefusedStep, IsRefusedRun, IsFirstRefusal, start_of, AreAccepted, IsRefusalOfText}
-use Rattle.hz_replay.specs.ReplayerSteps.{AreVariables, run_of}
+use Rattle.hz_replay.specs.Replaying.{IsRefusalOfText}
 use Rattle.hz_gmw.proofs.Bits.{beq-same, beq-refl}
 use Rattle.hz_lists.proofs.LeastLemmas.{IsLeastOf-same}
 use Rattle.hz_gmw.proofs.LeastLemmas.{least-listed, least-repeated}

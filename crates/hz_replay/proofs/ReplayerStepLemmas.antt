@@ -1,18 +1,11 @@
 -- What the steps of a run make of a replayer, and where they are refused.
 use Rattle.std.proofs.Common.{◌≡◌, ◌∙◌, refl, sym, ap, subst, ℕ, ◌+◌, ◌<◌, Bool, List, [], ◌∷◌, ◌++◌, length, take, drop, get_or, Some, arith}
-use Rattle.std.proofs.lemmas.List.{take_more, take-append-drop, append-nil, append_assoc, length-take-le, length-append}
-use Rattle.hz_net.specs.Network.{Driver, network_of}
-use Rattle.hz_gmw.specs.Runs.{IsStep, IsRun, state_after, end_of}
-use Rattle.hz_gmw.specs.Cycles.{IsNontransient}
-use Rattle.hz_gmw.specs.Replayer.{Replayer, StandsFor, replayer_at, replayer_after}
-use Rattle.hz_gmw.specs.ReplayFaults.{IsStepFault, IsCycleFault}
-use Rattle.hz_gmw.specs.declared.replay_fault.StepFault.{StepFault}
-use Rattle.hz_gmw.specs.declared.replay_fault.CycleFault.{CycleFault}
+use Rattle.hz_replay.proofs.Words.{length-take-le, length-append, Driver, network_of, IsStep, IsRun, state_after, end_of, IsNontransient, Replayer, IsStepFault, IsCycleFault}
+use Rattle.hz_replay.proofs.Words.{StepFault, CycleFault, RunRefusal, Step, Cycle, IsRefusedStep, IsRefusedRun, run_of, MakesSteps}
+use Rattle.std.proofs.lemmas.List.{take_more, take-append-drop, append-nil, append_assoc}
+use Rattle.hz_gmw.specs.Replayer.{StandsFor, replayer_at, replayer_after}
 use Rattle.hz_gmw.proofs.Paths.{end_of-append, IsRun-append}
-use Rattle.hz_replay.specs.declared.replaying.RunRefusal.{RunRefusal}
-use Rattle.hz_replay.specs.declared.replaying.RunRefusal.TheVariants.{Step, Cycle}
-use Rattle.hz_replay.specs.Replaying.{IsRefusedStep, IsRefusedRun}
-use Rattle.hz_replay.specs.ReplayerSteps.{run_of, MakesSteps, IsRefusedFrom}
+use Rattle.hz_replay.specs.ReplayerSteps.{IsRefusedFrom}
 
 -- a list is what stands before a place, what stands there, and what stands behind it
 pub cut-at : {X : Type 0} (list : List X) (i : ℕ) (d : X) → i < length list → list ≡ take i list ++ get_or list i d ∷ drop (i + 1) list

@@ -1,24 +1,15 @@
 -- The runs of a text, one after the other.
 use Rattle.std.proofs.Common.{◌≡◌, ◌∙◌, refl, sym, ap, subst, ℕ, ◌+◌, ◌-◌, ◌<◌, ◌≤◌, Bool, List, ◌∷◌, ◌++◌, length, take, drop, get_or, Option, Some, Result, Ok, Err, MatchResult, All, arith}
-use Rattle.std.specs.Option.{option_map}
+use Rattle.hz_replay.proofs.Words.{option_map, length-take-le, length-append, Netlist, Driver, network_of, expansion_of, IsNontransient, Replayer, initial_replayer, RunOf}
+use Rattle.hz_replay.proofs.Words.{cycle_steps, RunTextOf, all_steps, RunRefusal, steps_of, total_steps, IsAcceptedRun, IsRefusedRun, IsFirstRefusal, AreVariables, run_of}
+use Rattle.hz_replay.proofs.Words.{MakesSteps, no_run, most_steps}
 use Rattle.std.specs.List.{flat_map}
-use Rattle.std.proofs.lemmas.List.{take_more, length-take-le, length-append, get_or-append_right}
+use Rattle.std.proofs.lemmas.List.{take_more, get_or-append_right}
 use Rattle.std.proofs.lemmas.List.Concat.{get_or-flat_map}
 use Rattle.std.proofs.lemmas.List.Folds.{length-flat_map-take}
 use Rattle.std.proofs.lemmas.List.Elements.{All-push}
-use Rattle.hz_core.specs.Netlist.{Netlist}
-use Rattle.hz_net.specs.Network.{Driver, network_of}
-use Rattle.hz_net.specs.Variables.{expansion_of}
-use Rattle.hz_gmw.specs.Cycles.{IsNontransient}
-use Rattle.hz_gmw.specs.Replayer.{Replayer, initial_replayer}
-use Rattle.hz_text.specs.RunParts.{RunOf, cycle_steps}
-use Rattle.hz_run_text.specs.RunValue.{RunTextOf, all_steps}
-use Rattle.hz_replay.specs.declared.replaying.RunRefusal.{RunRefusal}
-use Rattle.hz_replay.specs.Replaying.{steps_of, total_steps, IsAcceptedRun, IsRefusedRun, IsFirstRefusal}
-use Rattle.hz_replay.specs.ReplayerSteps.{AreVariables, run_of, KeepsInitialState, MakesSteps, IsRefusedFrom}
-use Rattle.hz_replay.specs.Named.{no_run}
+use Rattle.hz_replay.specs.ReplayerSteps.{KeepsInitialState, IsRefusedFrom}
 use Rattle.hz_replay.proofs.ReplayerStepLemmas.{cut-at, run-refused}
-use Rattle.hz_run_text.specs.Limits.{most_steps}
 
 -- the steps behind others name variables too
 behind-variables : (netlist : Netlist) (lead steps : List (List ℕ)) → AreVariables netlist (lead ++ steps) → AreVariables netlist steps

@@ -1,23 +1,22 @@
 -- Attempts are runs, and those that stop end in stable outcome states.
 use Rattle.std.proofs.Common.{◌≡◌, ◌∙◌, ℕ, zero, suc, ◌+◌, ◌-◌, ◌*◌, ◌<◌, ◌≤◌, Bool, true, false, not, List, [], ◌∷◌, ◌++◌, length, Option, Some, None, IfSome, cond, IsTrue, refl, sym, ap, subst, arith, inl, inr}
+use Rattle.hz_split.proofs.Words.{false≢true, append-nil, Driver, state_after, end_of, IsRun, is_unstable, unstable_variables, turns_from, flips_alone, attempt, is_settled, Pick}
+use Rattle.hz_split.proofs.Words.{Least, Greatest}
 use Rattle.std.specs.Prelude.{count_by, nat_eq}
-use Rattle.std.proofs.lemmas.Bool.{false≢true, ne_eqb}
-use Rattle.std.proofs.lemmas.List.{length-append, append-nil, append_assoc, map-append}
+use Rattle.std.proofs.lemmas.Bool.{ne_eqb}
+use Rattle.std.proofs.lemmas.List.{length-append, append_assoc, map-append}
 use Rattle.std.specs.Option.{is_none, is_some, option_map}
 use Rattle.std.proofs.lemmas.List.Sums.{sum_by-cons}
 use Rattle.std.proofs.lemmas.List.FromFn.{length-map-range_with_len}
-use Rattle.hz_net.specs.Network.{Driver, IsUnstable}
+use Rattle.hz_net.specs.Network.{IsUnstable}
 use Rattle.hz_lists.specs.Listed.{is_listed}
-use Rattle.hz_gmw.specs.Runs.{state_after, end_of, IsStep, IsRun}
-use Rattle.hz_gmw.specs.Instability.{is_unstable, unstable_variables}
+use Rattle.hz_gmw.specs.Runs.{IsStep}
 use Rattle.hz_lists.proofs.ListedLemmas.{first-or-later}
 use Rattle.hz_gmw.proofs.Paths.{end_of-append, IsRun-append}
 use Rattle.hz_gmw.proofs.ReplayLemmas.{unstable-true, at-unstable_variables}
 use Rattle.hz_lists.specs.NumberSets.{least_of, greatest_of, later_or_first}
 use Rattle.hz_lists.proofs.Members.{IsMember, least-member, greatest-member}
-use Rattle.hz_split.specs.Attempts.{picked, turn_then, turns_from, flips_alone, attempt, is_settled}
-use Rattle.hz_split.specs.declared.pick.Pick.{Pick}
-use Rattle.hz_split.specs.declared.pick.Pick.TheVariants.{Least, Greatest}
+use Rattle.hz_split.specs.Attempts.{picked, turn_then}
 
 -- what is picked is marked
 pub picked-member : (pick : Pick) (marks : List Bool) → IfSome (picked pick marks) (IsMember marks)

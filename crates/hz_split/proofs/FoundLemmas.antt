@@ -1,14 +1,9 @@
 -- One run more.
 use Rattle.std.proofs.Common.{◌≡◌, ◌∙◌, ℕ, zero, suc, ◌+◌, ◌-◌, ◌*◌, ◌<◌, ◌≤◌, Bool, true, false, List, [], ◌∷◌, ◌++◌, length, take, get_or, inl, inr, Option, Some, None, cond, refl, sym, ap, subst, arith}
-use Rattle.std.specs.List.{range_with_len}
-use Rattle.hz_net.specs.Network.{Driver}
-use Rattle.hz_gmw.specs.Instability.{unstable_variables}
-use Rattle.hz_gmw.specs.Runs.{state_after, end_of}
-use Rattle.hz_split.specs.Attempts.{is_other, is_settled, picked, turn_then, turns_from, flips_alone}
-use Rattle.hz_split.specs.FoundRuns.{FoundOf, with_run, found_with, with_attempt, with_attempts}
-use Rattle.std.proofs.lemmas.Bool.{cases_Bool}
-use Rattle.hz_split.specs.declared.pick.Pick.{Pick}
-use Rattle.hz_split.specs.declared.pick.Pick.TheVariants.{Least, Greatest}
+use Rattle.hz_split.proofs.Words.{range_with_len, Driver, unstable_variables, state_after, end_of, is_other, is_settled, turns_from, flips_alone, FoundOf, with_attempts}
+use Rattle.hz_split.proofs.Words.{cases_Bool, Pick, Least, Greatest}
+use Rattle.hz_split.specs.Attempts.{picked, turn_then}
+use Rattle.hz_split.specs.FoundRuns.{with_run, found_with, with_attempt}
 
 -- runs whose first one ends in a state
 abbrev pub found_as : List Bool → List (List (List ℕ)) → FoundOf

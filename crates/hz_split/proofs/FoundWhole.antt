@@ -1,18 +1,15 @@
 -- The runs that are found are those of the definition: those that stand for the attempts so far, and for all of them.
 use Rattle.std.proofs.Common.{◌≡◌, ◌∙◌, ℕ, zero, suc, ◌+◌, ◌*◌, ◌≤◌, Bool, true, false, List, [], ◌∷◌, ◌++◌, length, take, get_or, map, cond, inl, inr, refl, sym, ap, subst, arith}
-use Rattle.std.specs.List.{filter, flat_map, range_with_len}
+use Rattle.hz_split.proofs.Words.{range_with_len, cases_Bool, append-nil, Driver, state_after, end_of, is_other, is_settled, turns_from, flips_alone, attempt, FoundOf}
+use Rattle.hz_split.proofs.Words.{with_attempts, Pick, Least, Greatest}
+use Rattle.std.specs.List.{filter, flat_map}
 use Rattle.std.proofs.Math.Seq.{take-suc}
-use Rattle.std.proofs.lemmas.Bool.{cases_Bool}
-use Rattle.std.proofs.lemmas.List.{append-nil, append_assoc}
+use Rattle.std.proofs.lemmas.List.{append_assoc}
 use Rattle.std.proofs.lemmas.List.Concat.{flat_map-cons}
 use Rattle.std.proofs.lemmas.List.Elements.{filter-append}
-use Rattle.hz_net.specs.Network.{Driver}
-use Rattle.hz_gmw.specs.Runs.{state_after, end_of}
 use Rattle.hz_gmw.proofs.Paths.{end_of-append}
-use Rattle.hz_split.specs.Attempts.{is_other, is_settled, turns_from, flips_alone, attempt, first_and_other}
-use Rattle.hz_split.specs.FoundRuns.{FoundOf, found_with, with_run, with_attempt, with_attempts}
-use Rattle.hz_split.specs.declared.pick.Pick.{Pick}
-use Rattle.hz_split.specs.declared.pick.Pick.TheVariants.{Least, Greatest}
+use Rattle.hz_split.specs.Attempts.{first_and_other}
+use Rattle.hz_split.specs.FoundRuns.{found_with, with_run, with_attempt}
 use Rattle.hz_split.proofs.FoundLemmas.{attempt-variables}
 
 -- a filter of one element

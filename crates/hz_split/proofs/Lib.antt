@@ -1,3 +1,5 @@
+-- The names that most proofs cite, passed on from one place
+pub mod Words
 -- Steps one after the other
 mod Steps
 -- The marks of unstable variables, when a variable flips

@@ -1,24 +1,22 @@
 -- Attempts that stop end in stable outcome states, and two that are found in different ones.
 use Rattle.std.proofs.Common.{◌≡◌, ◌≢◌, ◌∙◌, ℕ, zero, suc, ◌≤◌, Bool, true, false, not, List, [], ◌∷◌, ◌++◌, length, take, drop, map, cond, All, inl, inr, refl, sym, ap, subst, arith}
+use Rattle.hz_split.proofs.Words.{cases_Bool, false≢true, Netlist, Driver, network_of, bit_at, is_unstable, end_of, IsRun, is_other, is_settled, attempt, Least, Greatest}
 use Rattle.std.specs.Bool.{beq}
 use Rattle.std.specs.List.{filter, flat_map, AllPairs}
-use Rattle.std.proofs.lemmas.Bool.{cases_Bool, eqb-true, false≢true}
+use Rattle.std.proofs.lemmas.Bool.{eqb-true}
 use Rattle.std.proofs.lemmas.List.{take-append-drop}
 use Rattle.std.proofs.lemmas.List.Concat.{flat_map-cons}
 use Rattle.std.proofs.lemmas.List.Elements.{All-nil, All-cons, All-head, All-tail, All-append, All-filter}
 use lib.Pointwise.{pointwise}
-use Rattle.hz_core.specs.Netlist.{Netlist}
-use Rattle.hz_net.specs.Network.{Driver, network_of, bit_at, excitation, IsStable}
+use Rattle.hz_net.specs.Network.{excitation, IsStable}
 use Rattle.hz_gmw.specs.Cycles.{IsOutcome, IsNontransient}
-use Rattle.hz_gmw.specs.Instability.{is_unstable, unstable_count}
-use Rattle.hz_gmw.specs.Runs.{end_of, IsRun}
+use Rattle.hz_gmw.specs.Instability.{unstable_count}
 use Rattle.hz_gmw.proofs.Bits.{beq-refl}
 use Rattle.hz_gmw.proofs.Counting.{weight}
 use Rattle.hz_gmw.proofs.Counts.{one-bound}
 use Rattle.hz_gmw.proofs.Paths.{IsRun-append, IsRun-front}
-use Rattle.hz_split.specs.Attempts.{is_other, is_settled, attempt, first_and_other}
+use Rattle.hz_split.specs.Attempts.{first_and_other}
 use Rattle.hz_split.specs.Splits.{IsSettledRun, AreSettledRuns}
-use Rattle.hz_split.specs.declared.pick.Pick.TheVariants.{Least, Greatest}
 use Rattle.hz_split.proofs.AttemptLemmas.{attempt-run}
 
 -- no variable is unstable

@@ -1,13 +1,11 @@
 -- What a right finding says of its runs: their steps change variables that are there, and each once, and they are few.
 use Rattle.std.proofs.Common.{◌≡◌, ◌∙◌, ℕ, ◌<◌, ◌≤◌, Bool, List, [], ◌∷◌, length, All, sym, ap, arith}
+use Rattle.hz_split.proofs.Words.{Driver, flip_count, state_after, end_of, IsRun}
 use Rattle.std.proofs.lemmas.List.{length-map}
 use Rattle.std.proofs.lemmas.List.Elements.{All-nil, All-cons}
 use Rattle.hz_core.specs.Ternary.{unknown_count}
-use Rattle.hz_net.specs.Network.{Driver}
 use Rattle.hz_net.proofs.Sequences.{unknown_count-le-length}
-use Rattle.hz_gmw.specs.RunRecord.{flip_count}
 use Rattle.hz_lists.specs.Listed.{IsRepeatFree}
-use Rattle.hz_gmw.specs.Runs.{state_after, end_of, IsRun}
 use Rattle.hz_desk.specs.declared.finding.Row.{Row}
 use Rattle.hz_desk.specs.Finding.{FindingOf, values_a, values_b}
 use Rattle.hz_desk.specs.RightFinding.{IsRightFinding}

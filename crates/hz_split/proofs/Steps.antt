@@ -1,12 +1,9 @@
 -- Steps one after the other.
 use Rattle.std.proofs.Common.{◌≡◌, ◌∙◌, ℕ, suc, ◌+◌, ◌<◌, ◌≤◌, Bool, List, [], ◌∷◌, ◌++◌, length, drop, get_or, refl, sym, ap, arith}
+use Rattle.hz_split.proofs.Words.{flip_count, state_after, end_of, flips_alone, length-state_after}
 use Rattle.std.proofs.Math.Seq.{drop-cons}
 use Rattle.std.proofs.lemmas.List.{drop_all}
 use Rattle.std.proofs.lemmas.List.Sums.{sum_by-cons, sum_by-append}
-use Rattle.hz_gmw.specs.RunRecord.{flip_count}
-use Rattle.hz_gmw.specs.Runs.{state_after, end_of}
-use Rattle.hz_split.specs.Attempts.{flips_alone}
-use Rattle.hz_gmw.proofs.Flips.{length-state_after}
 
 -- the next step, and the steps after it
 pub next-step : {X : Type 0} (list : List X) (number : ℕ) (x d : X) → number < length list → x ≡ get_or list number d → drop number list ≡ x ∷ drop (number + 1) list

@@ -1,15 +1,13 @@
 -- The marks of unstable variables, when a variable flips.
 use Rattle.std.proofs.Common.{◌≡◌, ◌∙◌, ℕ, ◌<◌, Bool, true, false, List, [], ◌∷◌, length, set, inl, inr, refl, sym, ap, subst, arith}
-use Rattle.std.proofs.lemmas.Bool.{cases_eq, cases_Bool, false≢true}
-use Rattle.std.proofs.lemmas.List.{length-set, get_or-set_same, get_or-set_other, append-nil}
+use Rattle.hz_split.proofs.Words.{cases_Bool, false≢true, length-set, append-nil, Netlist, Driver, network_of, bit_at, is_unstable, unstable_variables, state_after}
+use Rattle.std.proofs.lemmas.Bool.{cases_eq}
+use Rattle.std.proofs.lemmas.List.{get_or-set_same, get_or-set_other}
 use Rattle.std.proofs.lemmas.List.FromFn.{length-map-range_with_len}
-use Rattle.hz_core.specs.Netlist.{Netlist, IsCircuit}
-use Rattle.hz_net.specs.Network.{Driver, network_of, bit_at}
+use Rattle.hz_core.specs.Netlist.{IsCircuit}
 use Rattle.hz_net.specs.Reads.{readers_of}
 use Rattle.hz_gmw.specs.CurrentState.{with_readers}
-use Rattle.hz_gmw.specs.Instability.{is_unstable, unstable_variables}
 use Rattle.hz_lists.specs.Listed.{is_listed}
-use Rattle.hz_gmw.specs.Runs.{state_after}
 use Rattle.hz_lists.proofs.ListedLemmas.{listed-first, first-or-later, listed-other}
 use Rattle.hz_gmw.proofs.ReplayLemmas.{at-unstable_variables, unstable-list}
 use Rattle.hz_gmw.proofs.Unchanged.{is_unstable-state_after}

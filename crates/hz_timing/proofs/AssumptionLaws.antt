@@ -1,12 +1,12 @@
 -- The assumptions of statements without a fault are assumptions on the network.
 use Rattle.std.proofs.Common.{◌≡◌, ◌∙◌, ℕ, ◌<◌, ◌≤◌, Bool, true, false, not, ◌&&◌, cond, nat_eq, nat_le, List, [], ◌∷◌, Option, Some, None, length, map, refl, ap, sym, arith, slice_get}
-use Rattle.std.specs.List.{All, cons_option}
+use Rattle.hz_timing.proofs.Words.{All, nat_tests, length-map, All-nil, All-cons, Netlist, IsCircuit, Numbered, true-false, variable_named, Ordered, Ideal, Start, Change}
+use Rattle.hz_timing.proofs.Words.{ResolvedTimed, resolve_timed, names_unknown, is_unpaired, assumptions_in}
+use Rattle.std.specs.List.{cons_option}
 use Rattle.std.specs.Option.{IfSome, is_none}
-use Rattle.std.proofs.lemmas.Bool.Decides.{nat_tests}
-use Rattle.std.proofs.lemmas.List.{length-map}
-use Rattle.std.proofs.lemmas.List.Elements.{All-nil, All-cons, All-head, All-tail}
+use Rattle.std.proofs.lemmas.List.Elements.{All-head, All-tail}
 use Rattle.std.proofs.lemmas.Option.{same_Some, slice_get_within, slice_get_past}
-use Rattle.hz_core.specs.Netlist.{Netlist, IsCircuit, IsWhole}
+use Rattle.hz_core.specs.Netlist.{IsWhole}
 use Rattle.hz_net.specs.Driven.{IsWireAt}
 use Rattle.hz_net.specs.Entries.{entries_of, entry_kind}
 use Rattle.hz_net.specs.Network.{network_of}
@@ -15,17 +15,15 @@ use Rattle.hz_net.specs.declared.variable.VarKind.{VarKind}
 use Rattle.hz_net.specs.declared.variable.VarKind.TheVariants.{Input, Gate as GateVariable, Wire as WireVariable}
 use Rattle.hz_net.proofs.DrivenLemmas.{driven-as}
 use Rattle.hz_net.proofs.Places.{length-network_of, length-entries_of, variable_kinds-entries}
-use Rattle.hz_line.specs.Statement.{Numbered}
 use Rattle.hz_text.specs.Decimal.{is_decimal, number_by}
-use Rattle.hz_text.proofs.PassLaws.{true-false, not-false}
+use Rattle.hz_text.proofs.PassLaws.{not-false}
 use Rattle.hz_text.proofs.BuildLemmas.{or_parts}
-use Rattle.hz_run_text.specs.RunResolution.{variable_named}
 use Rattle.hz_timing.specs.declared.script.Assumption.{Assumption}
 use Rattle.hz_timing.specs.declared.script.Assumption.TheVariants as assumption
-use Rattle.hz_timing.specs.TimedStatement.{Ordered, Ideal, Start, Change, TimedStatement}
-use Rattle.hz_timing.specs.TimedResolution.{ResolvedTimed, resolve_timed, resolve_numbered_timed, number_of}
-use Rattle.hz_timing.specs.TimedFault.{gate_by, gate_into, are_same, names_unknown, is_unpaired}
-use Rattle.hz_timing.specs.TimedText.{assumption_of, assumptions_in, IsAssumptionOf}
+use Rattle.hz_timing.specs.TimedStatement.{TimedStatement}
+use Rattle.hz_timing.specs.TimedResolution.{resolve_numbered_timed, number_of}
+use Rattle.hz_timing.specs.TimedFault.{gate_by, gate_into, are_same}
+use Rattle.hz_timing.specs.TimedText.{assumption_of, IsAssumptionOf}
 use Rattle.hz_timing.specs.Limits.{most_nth}
 
 -- there is one kind for each variable

@@ -1,14 +1,10 @@
 -- Passes with a test that sees the statements before: they answer the least line on which it passes.
 use Rattle.std.proofs.Common.{◌≡◌, ◌∙◌, ℕ, ◌≤◌, Bool, true, false, ◌||◌, cond, List, [], ◌∷◌, ◌++◌, Option, Some, None, suc, refl, ap, sym, inl, inr, arith}
+use Rattle.hz_timing.proofs.Words.{IsLeastOf, Numbered, true-false, Ordered, Ideal, Start, Change, ResolvedTimed, is_start, is_change, has_begun, first_line_behind}
+use Rattle.hz_timing.proofs.Words.{misplaced_behind, misplaced_from, first_out_of_order}
 use Rattle.std.specs.List.{list_any}
-use Rattle.hz_lists.specs.Least.{IsLeastOf}
-use Rattle.hz_line.specs.Statement.{Numbered}
 use Rattle.hz_line.proofs.StatementLemmas.{Ascends}
-use Rattle.hz_text.proofs.PassLaws.{true-false}
-use Rattle.hz_timing.specs.TimedStatement.{Ordered, Ideal, Start, Change}
-use Rattle.hz_timing.specs.TimedResolution.{ResolvedTimed}
-use Rattle.hz_timing.specs.TimedFault.{PassesBehind, is_start, is_change, is_misplaced, has_begun, BreaksOrder}
-use Rattle.hz_timing.specs.TimedRules.{first_line_behind, misplaced_behind, misplaced_from, first_out_of_order}
+use Rattle.hz_timing.specs.TimedFault.{PassesBehind, is_misplaced, BreaksOrder}
 
 -- where a test passes, the line is none before the first
 pub PassesBehind-above : {S : Type 0} (test : List S → S → Bool) (before : List S) (statements : List (Numbered S)) (low line : ℕ) → Ascends low statements → PassesBehind test before statements line → low ≤ line

@@ -1,24 +1,20 @@
 -- One entry more or less of those that were read.
 use Rattle.std.proofs.Common.{◌≡◌, ◌∙◌, ℕ, zero, suc, ◌+◌, ◌-◌, ◌<◌, ◌≤◌, Bool, true, false, cond, List, [], ◌∷◌, ◌++◌, Option, Some, None, length, get_or, take, drop, map, filter, refl, ap, sym, subst, arith, append_assoc, length-append, length-drop}
-use Rattle.std.specs.List.{All, cons_option, filter_map}
+use Rattle.hz_timing.proofs.Words.{All, length-map, Numbered, Assigned, assignment_to, most_changes, ScriptOf, Ordered, Ideal, Start, Change, ResolvedTimed, TimedEntry}
+use Rattle.hz_timing.proofs.Words.{timed_resolution_of, numbered_timed_resolutions, is_start, is_change, is_stated, first_line_behind, IsSoundTimed, assumptions_in}
+use Rattle.hz_timing.proofs.Words.{changes_up_to_start, Part, parts_in, AreScriptsOf}
+use Rattle.std.specs.List.{cons_option, filter_map}
 use Rattle.hz_text.specs.Bits.{ArePairs, pair_of}
 use Rattle.hz_text.proofs.BuildLemmas.{pairs_back}
 use Rattle.hz_timing.specs.declared.statement.TimedHeld.{TimedHeld}
 use Rattle.hz_timing.specs.declared.statement.TimedHeld.TheVariants as held
 use Rattle.std.specs.Option.{option_to_list}
-use Rattle.std.proofs.lemmas.List.{length-map, take_more, drop_more, drop_all, take_all, map-append, append-nil}
-use Rattle.hz_line.specs.Statement.{Numbered}
-use Rattle.hz_text.specs.Assignment.{Assigned, assignment_to}
-use Rattle.hz_script.specs.Limits.{most_changes}
+use Rattle.std.proofs.lemmas.List.{take_more, drop_more, drop_all, take_all, map-append, append-nil}
 use Rattle.hz_script.specs.Resolution.{ResolvedStatement}
-use Rattle.hz_script.specs.ScriptValue.{ScriptOf}
 use Rattle.hz_timing.specs.declared.script.Assumption.{Assumption}
-use Rattle.hz_timing.specs.TimedStatement.{Ordered, Ideal, Start, Change}
-use Rattle.hz_timing.specs.TimedResolution.{ResolvedTimed, TimedEntry, timed_resolution_of, numbered_timed_resolution, numbered_timed_resolutions}
-use Rattle.hz_timing.specs.TimedFault.{is_start, is_change, is_stated}
-use Rattle.hz_timing.specs.TimedRules.{first_line_behind}
-use Rattle.hz_timing.specs.TimedReading.{IsSoundTimed, AreFewChanges, ArePartsPushed, changes_of}
-use Rattle.hz_timing.specs.TimedText.{assumption_of, assumptions_in, change_before, changes_up_to_start, Part, part_before, parts_in, AreScriptsOf}
+use Rattle.hz_timing.specs.TimedResolution.{numbered_timed_resolution}
+use Rattle.hz_timing.specs.TimedReading.{AreFewChanges, ArePartsPushed, changes_of}
+use Rattle.hz_timing.specs.TimedText.{assumption_of, change_before, part_before}
 use Rattle.hz_timing.proofs.PartLaws.{changes-counted}
 
 -- what is left behind a place, as a part of a list

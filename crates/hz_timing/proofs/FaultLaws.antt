@@ -1,31 +1,27 @@
 -- The first answer of the passes over a script with assumptions of time is its least fault.
 use Rattle.std.proofs.Common.{◌≡◌, ◌∙◌, ℕ, zero, ◌-◌, ◌<◌, ◌≤◌, Bool, true, false, ◌&&◌, cond, nat_eq, filter, slice_get, List, [], ◌∷◌, Option, Some, None, suc, refl, ap, sym, subst, inl, inr, arith}
-use Rattle.std.specs.Prelude.{◌⊎◌}
-use Rattle.std.specs.Option.{option_map}
-use Rattle.hz_core.specs.Netlist.{Netlist, primary_inputs}
-use Rattle.std.proofs.lemmas.Bool.Decides.{nat_tests}
-use Rattle.hz_lists.specs.Least.{IsLeastOf, option_min}
+use Rattle.hz_timing.proofs.Words.{◌⊎◌, option_map, Netlist, primary_inputs, nat_tests, IsLeastOf, Numbered, first_passing_line, Inputs, TextFault, most_changes, TimedFault, Text}
+use Rattle.hz_timing.proofs.Words.{Wires, Number, Again, Ordered, Ideal, Start, Change, ResolvedTimed, resolve_timed, resolved_timed_statements, names_unknown, lacks_bit}
+use Rattle.hz_timing.proofs.Words.{is_start, is_change, counted, line_behind, is_unpaired, lacks_number, is_stated, HasTimedFault, IsLeastTimedFault, IsTimedRefusal}
+use Rattle.hz_timing.proofs.Words.{timed_faults_that, names_node_twice, first_line_behind}
+use Rattle.hz_lists.specs.Least.{option_min}
 use Rattle.hz_lists.proofs.LeastLemmas.{IsLeastOf-either}
 use Rattle.hz_line.specs.LeastFault.{ComesFirst, AreFound, IsAnswer}
 use Rattle.hz_line.specs.Line.{lines_of}
-use Rattle.hz_line.specs.Statement.{Numbered, PassesOn, first_passing_line, numbered_statements, first_malformed}
+use Rattle.hz_line.specs.Statement.{PassesOn, numbered_statements, first_malformed}
 use Rattle.hz_line.proofs.LeastLaws.{found-least}
 use Rattle.hz_line.proofs.StatementLemmas.{numbered_from-Ascends, numbered_from-map}
-use Rattle.hz_text.specs.Assignment.{Nodes, Inputs}
+use Rattle.hz_text.specs.Assignment.{Nodes}
 use Rattle.hz_text.specs.Fault.{fault_number, IsLeastFaultOf}
 use Rattle.hz_text.specs.Rules.{first_fault_of, IsFaultOrMemory}
-use Rattle.hz_text.specs.declared.fault.TextFault.{TextFault}
 use Rattle.hz_text.specs.declared.fault.TextFault.TheVariants as text
 use Rattle.hz_text.proofs.LeastFault.{Outcome, answers_first, answers_itself}
 use Rattle.hz_text.proofs.TextLaws.{Judged, looked-Ascends, answers_malformed, text-outcome, twice-line}
 use Rattle.hz_text.proofs.PassLaws.{twice-names}
-use Rattle.hz_script.specs.Limits.{most_changes}
-use Rattle.hz_timing.specs.declared.fault.TimedFault.{TimedFault}
-use Rattle.hz_timing.specs.declared.fault.TimedFault.TheVariants.{Text, Wires, Number, Again}
-use Rattle.hz_timing.specs.TimedStatement.{Ordered, Ideal, Start, Change, TimedStatement, timed_statement_of, timed_statements_of}
-use Rattle.hz_timing.specs.TimedResolution.{ResolvedTimed, resolve_timed, resolve_timed_tokens}
-use Rattle.hz_timing.specs.TimedFault.{resolved_timed_statements, names_unknown, names_twice, lacks_bit, is_order, is_ideal, is_start, is_change, counted, line_behind, IsBeyond, is_unpaired, lacks_number, is_stated, HasTimedFault, IsLeastTimedFault, IsTimedRefusal, timed_fault_number, timed_place_of, timed_faults_that}
-use Rattle.hz_timing.specs.TimedRules.{names_node_twice, line_from, first_beyond, timed_rules, first_line_behind, assumption_faults, first_assumption_fault}
+use Rattle.hz_timing.specs.TimedStatement.{TimedStatement, timed_statement_of, timed_statements_of}
+use Rattle.hz_timing.specs.TimedResolution.{resolve_timed_tokens}
+use Rattle.hz_timing.specs.TimedFault.{names_twice, is_order, is_ideal, IsBeyond, timed_fault_number, timed_place_of}
+use Rattle.hz_timing.specs.TimedRules.{line_from, first_beyond, timed_rules, assumption_faults, first_assumption_fault}
 use Rattle.hz_timing.specs.Limits.{most_orders, most_ideals, most_starts}
 use Rattle.hz_timing.proofs.BehindLaws.{answers_behind, answers_order}
 use Rattle.hz_timing.proofs.MissingLaws.{answers_missing}

@@ -1,3 +1,5 @@
+-- The names that most proofs cite, passed on from one place
+pub mod Words
 -- Passes with a test that sees the statements before answer the least line
 pub mod BehindLaws
 -- The pass over the starts answers the least input that is left out

@@ -1,15 +1,9 @@
 -- The pass over the starts answers the least input that some start leaves out.
 use Rattle.std.proofs.Common.{◌≡◌, ◌∙◌, ℕ, ◌<◌, ◌≤◌, Bool, true, false, cond, nat_lt, List, [], ◌∷◌, Option, Some, None, refl, sym, subst, inl, inr, arith}
+use Rattle.hz_timing.proofs.Words.{nat_tests, IsLeastOf, Numbered, Assigned, true-false, Ordered, Ideal, Start, Change, ResolvedTimed, LeavesOut, IsMissing}
 use Rattle.std.proofs.lemmas.Bool.{cases_lt}
-use Rattle.std.proofs.lemmas.Bool.Decides.{nat_tests}
-use Rattle.hz_lists.specs.Least.{IsLeastOf}
-use Rattle.hz_line.specs.Statement.{Numbered}
-use Rattle.hz_text.specs.Assignment.{Assigned}
 use Rattle.hz_text.specs.Rules.{least_unassigned}
-use Rattle.hz_text.proofs.PassLaws.{true-false, unassigned-Some, unassigned-None}
-use Rattle.hz_timing.specs.TimedStatement.{Ordered, Ideal, Start, Change}
-use Rattle.hz_timing.specs.TimedResolution.{ResolvedTimed}
-use Rattle.hz_timing.specs.TimedFault.{LeavesOut, IsMissing}
+use Rattle.hz_text.proofs.PassLaws.{unassigned-Some, unassigned-None}
 use Rattle.hz_timing.specs.TimedRules.{or_known, left_out, left_out_by_any, least_missing}
 
 -- a number is the least that is missing, or the bound, if none below it is

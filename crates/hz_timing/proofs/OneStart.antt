@@ -1,13 +1,9 @@
 -- Where a start may not stand again, statements without a fault have one start, and no later one is asked what it leaves out.
 use Rattle.std.proofs.Common.{◌≡◌, ℕ, ◌≤◌, Bool, true, false, cond, List, [], ◌∷◌, Option, Some, None, length, filter, refl, ap, subst, inl, inr, arith}
+use Rattle.hz_timing.proofs.Words.{All, All-nil, All-cons, Numbered, Ordered, Ideal, Start, Change, ResolvedTimed, is_start, is_change, counted, has_begun, IsMissing, LeavesOut}
+use Rattle.hz_timing.proofs.Words.{misplaced_behind, misplaced_from, first_out_of_order}
 use Rattle.std.specs.Prelude.{◌||◌}
-use Rattle.std.specs.List.{All}
-use Rattle.std.proofs.lemmas.List.Elements.{All-nil, All-cons}
-use Rattle.hz_line.specs.Statement.{Numbered}
-use Rattle.hz_timing.specs.TimedStatement.{Ordered, Ideal, Start, Change}
-use Rattle.hz_timing.specs.TimedResolution.{ResolvedTimed}
-use Rattle.hz_timing.specs.TimedFault.{is_start, is_change, counts_behind, counted, has_begun, IsMissing, LeavesOut}
-use Rattle.hz_timing.specs.TimedRules.{misplaced_behind, misplaced_from, first_out_of_order}
+use Rattle.hz_timing.specs.TimedFault.{counts_behind}
 
 -- the starts of statements
 abbrev pub starts_in : List (Numbered ResolvedTimed) → List (Numbered ResolvedTimed)

@@ -1,31 +1,25 @@
 -- The scripts of statements without a fault are scripts of the network.
 use Rattle.std.proofs.Common.{◌≡◌, ◌∙◌, ℕ, ◌+◌, ◌<◌, ◌≤◌, Bool, true, false, ◌||◌, cond, nat_eq, nat_le, List, [], ◌∷◌, Option, Some, None, length, get_or, map, filter, refl, ap, sym, subst, inl, inr, arith, zero-add}
-use Rattle.std.specs.Prelude.{◌⊎◌, sum_by}
-use Rattle.std.specs.List.{list_any, range_with_len, All}
-use Rattle.std.specs.Option.{option_map}
+use Rattle.hz_timing.proofs.Words.{◌⊎◌, All, option_map, nat_tests, length-map, All-nil, All-cons, Netlist, IsCircuit, primary_inputs, Numbered, Assigned, Inputs, assignment_to}
+use Rattle.hz_timing.proofs.Words.{true-false, most_changes, ScriptOf, Ordered, Ideal, Start, Change, ResolvedTimed, names_unknown, lacks_bit, is_start, is_change, LeavesOut}
+use Rattle.hz_timing.proofs.Words.{line_behind, names_node_twice, changes_up_to_start, Part, parts_in, AreScriptsOf}
+use Rattle.std.specs.Prelude.{sum_by}
+use Rattle.std.specs.List.{list_any, range_with_len}
 use Rattle.std.proofs.lemmas.Bool.{cases_lt}
-use Rattle.std.proofs.lemmas.Bool.Decides.{nat_tests}
-use Rattle.std.proofs.lemmas.List.{get_or-map, length-map, length-take-le, get_or-take}
-use Rattle.std.proofs.lemmas.List.Elements.{All-nil, All-cons, All-head, All-tail}
+use Rattle.std.proofs.lemmas.List.{get_or-map, length-take-le, get_or-take}
+use Rattle.std.proofs.lemmas.List.Elements.{All-head, All-tail}
 use Rattle.std.proofs.lemmas.List.FromFn.{length-range_with_len, get_or-map-range_with_len}
 use Rattle.std.proofs.lemmas.List.Sums.{sum_by-cons}
 use Rattle.std.proofs.lemmas.Option.{none-some, slice_get-get_or}
-use Rattle.hz_core.specs.Netlist.{Netlist, IsCircuit, primary_inputs}
-use Rattle.hz_line.specs.Statement.{Numbered}
-use Rattle.hz_text.specs.Assignment.{Assigned, Inputs, has_repeat, is_not_allowed, any_unknown, any_bitless, assigned_bit, assignment_to}
+use Rattle.hz_text.specs.Assignment.{has_repeat, is_not_allowed, any_unknown, any_bitless, assigned_bit}
 use Rattle.hz_text.specs.Bits.{IsChange}
 use Rattle.hz_text.specs.Rules.{assigned_nodes, least_unassigned, repeats_node}
-use Rattle.hz_text.proofs.PassLaws.{unassigned-Some, unassigned-None, true-false, bit-some}
+use Rattle.hz_text.proofs.PassLaws.{unassigned-Some, unassigned-None, bit-some}
 use Rattle.hz_text.proofs.BuildLemmas.{or_parts, assigned_nodes-pairs, IsDistinct-from_repeat}
-use Rattle.hz_script.specs.Limits.{most_changes}
 use Rattle.hz_script.specs.Resolution.{ResolvedStatement}
-use Rattle.hz_script.specs.ScriptValue.{ScriptOf}
 use Rattle.hz_script.specs.ScriptText.{IsScriptBy, IsScriptFor}
-use Rattle.hz_timing.specs.TimedStatement.{Ordered, Ideal, Start, Change}
-use Rattle.hz_timing.specs.TimedResolution.{ResolvedTimed}
-use Rattle.hz_timing.specs.TimedFault.{names_unknown, lacks_bit, is_start, is_change, has_start, LeavesOut, line_behind}
-use Rattle.hz_timing.specs.TimedRules.{names_node_twice}
-use Rattle.hz_timing.specs.TimedText.{change_before, changes_up_to_start, Part, part_before, parts_in, start_of, AreScriptsOf, change_count}
+use Rattle.hz_timing.specs.TimedFault.{has_start}
+use Rattle.hz_timing.specs.TimedText.{change_before, part_before, start_of, change_count}
 
 -- a change of inputs, each at most once
 pub record IsGoodChange (inputs : ℕ) (statement : ResolvedStatement) : Type 0 where

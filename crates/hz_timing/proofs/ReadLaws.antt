@@ -1,31 +1,27 @@
 -- What holds of a script with assumptions of time in which no pass finds a fault.
 use Rattle.std.proofs.Common.{◌≡◌, ◌∙◌, ℕ, ◌≤◌, Bool, true, false, cond, List, [], ◌∷◌, Option, Some, None, length, get_or, refl, sym, subst, inl, inr, arith}
+use Rattle.hz_timing.proofs.Words.{All, Netlist, IsCircuit, primary_inputs, IsLeastOf, option_map, Numbered, first_passing_line, Inputs, true-false, All-nil, All-cons, TimedFault}
+use Rattle.hz_timing.proofs.Words.{Wires, Number, Again, Ordered, Ideal, Start, Change, ResolvedTimed, TimedEntry, timed_resolution_of, numbered_timed_resolutions}
+use Rattle.hz_timing.proofs.Words.{resolved_timed_statements, names_unknown, lacks_bit, is_start, is_change, counted, has_begun, IsMissing, line_behind, is_unpaired, lacks_number}
+use Rattle.hz_timing.proofs.Words.{is_stated, HasTimedFault, IsTimedRefusal, timed_faults_that, names_node_twice, misplaced_behind, misplaced_from, first_out_of_order}
+use Rattle.hz_timing.proofs.Words.{first_line_behind, IsSoundTimed, Part, parts_in, AreScriptsOf, ScriptOf, most_changes}
 use Rattle.std.specs.Prelude.{◌||◌, filter}
-use Rattle.std.specs.List.{All}
-use Rattle.hz_core.specs.Netlist.{Netlist, IsCircuit, IsWhole, primary_inputs}
-use Rattle.hz_lists.specs.Least.{IsLeastOf}
+use Rattle.hz_core.specs.Netlist.{IsWhole}
 use Rattle.hz_lists.proofs.LeastLemmas.{option_min-none}
 use Rattle.hz_line.specs.LeastFault.{IsAnswer, first_found}
-use Rattle.std.specs.Option.{option_map}
-use Rattle.hz_line.specs.Statement.{Numbered, first_passing_line}
-use Rattle.hz_text.specs.Assignment.{Nodes, Inputs}
+use Rattle.hz_text.specs.Assignment.{Nodes}
 use Rattle.hz_text.specs.Rules.{AreBelow, IsChecked, first_fault_in}
 use Rattle.hz_text.specs.declared.fault.TextFault.TheVariants.{Unknown, Twice, Missing, Bit, Order, TooMany}
 use Rattle.hz_text.proofs.LeastFault.{unanswered, checked-none}
-use Rattle.hz_text.proofs.PassLaws.{none_parts, All-from_first_line, All-unmap, pairs-sound, true-false}
-use Rattle.std.proofs.lemmas.List.Elements.{All-nil, All-cons}
-use Rattle.hz_timing.specs.declared.fault.TimedFault.{TimedFault}
-use Rattle.hz_timing.specs.declared.fault.TimedFault.TheVariants.{Wires, Number, Again}
-use Rattle.hz_timing.specs.TimedStatement.{Ordered, Ideal, Start, Change, timed_statements_of}
-use Rattle.hz_timing.specs.TimedResolution.{ResolvedTimed, TimedEntry, resolve_timed_tokens, timed_resolution_of, numbered_timed_resolution, numbered_timed_resolutions}
-use Rattle.hz_timing.specs.TimedFault.{resolved_timed_statements, assignments_in, names_unknown, lacks_bit, is_order, is_ideal, is_start, is_change, counted, has_start, has_begun, IsMissing, line_behind, is_unpaired, lacks_number, is_stated, HasTimedFault, IsTimedRefusal, timed_faults_that}
-use Rattle.hz_timing.specs.TimedRules.{names_node_twice, least_missing, misplaced_behind, misplaced_from, first_out_of_order, first_beyond, timed_rules, first_assumption_fault, first_line_behind}
-use Rattle.hz_timing.specs.TimedReading.{IsSoundTimed, IsAcceptedTimed}
-use Rattle.hz_timing.specs.TimedText.{Part, parts_in, AreScriptsOf, IsTimedScriptBy, IsTimedScriptFor}
+use Rattle.hz_text.proofs.PassLaws.{none_parts, All-from_first_line, All-unmap, pairs-sound}
+use Rattle.hz_timing.specs.TimedStatement.{timed_statements_of}
+use Rattle.hz_timing.specs.TimedResolution.{resolve_timed_tokens, numbered_timed_resolution}
+use Rattle.hz_timing.specs.TimedFault.{assignments_in, is_order, is_ideal, has_start}
+use Rattle.hz_timing.specs.TimedRules.{least_missing, first_beyond, timed_rules, first_assumption_fault}
+use Rattle.hz_timing.specs.TimedReading.{IsAcceptedTimed}
+use Rattle.hz_timing.specs.TimedText.{IsTimedScriptBy, IsTimedScriptFor}
 use Rattle.hz_timing.specs.TimedValue.{TimedScriptOf}
-use Rattle.hz_script.specs.ScriptValue.{ScriptOf}
 use Rattle.hz_timing.specs.Limits.{most_orders, most_ideals, most_starts}
-use Rattle.hz_script.specs.Limits.{most_changes}
 use Rattle.hz_timing.proofs.MissingLaws.{answers_missing}
 use Rattle.hz_timing.proofs.FaultLaws.{first_beyond-is, resolved_statements-read, HasText, text-answer, assumption-answer}
 use Rattle.hz_timing.proofs.AssumptionLaws.{assumptions-fit}

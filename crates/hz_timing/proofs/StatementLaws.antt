@@ -1,24 +1,20 @@
 -- Orders and wires without delay, by the variables that a line begins with.
 use Rattle.std.proofs.Common.{◌≡◌, ◌∙◌, ℕ, ◌<◌, Bool, true, false, ◌&&◌, nat_le, arith, cond, List, [], ◌∷◌, Option, Some, None, refl, ap, sym, subst}
-use Rattle.std.specs.Option.{option_map}
-use Rattle.std.proofs.lemmas.Bool.Decides.{nat_tests}
-use Rattle.hz_core.specs.Netlist.{Netlist}
+use Rattle.hz_timing.proofs.Words.{option_map, nat_tests, Netlist, variable_named, Ordered, Ideal, ResolvedTimed, resolve_timed, Assigned, All-nil, number_by_variables}
+use Rattle.hz_timing.proofs.Words.{order_by_variables}
 use Rattle.hz_line.specs.Reading.{by_tokens}
 use Rattle.hz_line.specs.Token.{TokenOf, WordOf, PunctuationOf, has_no_token}
 use Rattle.hz_line.specs.declared.bytes.Punctuation.TheVariants.{Open, Close, Comma, Equals}
 use Rattle.hz_text.specs.Decimal.{is_decimal}
 use Rattle.hz_run_text.specs.RunStatement.{Variable, Node, Pin, variables_of_tokens, with_first}
-use Rattle.hz_run_text.specs.RunResolution.{variable_named}
 use Rattle.hz_timing.specs.TimedKeyword as keyword
-use Rattle.hz_timing.specs.TimedStatement.{Ordered, Ideal, number_word}
-use Rattle.hz_timing.specs.TimedResolution.{ResolvedTimed, nth_by, number_of, resolve_timed, resolve_timed_keyword}
+use Rattle.hz_timing.specs.TimedStatement.{number_word}
+use Rattle.hz_timing.specs.TimedResolution.{nth_by, number_of, resolve_timed_keyword}
 use Rattle.hz_timing.specs.Limits.{most_nth}
 use Rattle.hz_timing.specs.TimedFault.{assignments_in}
 use Rattle.hz_text.specs.Rules.{AreBelow}
 use Rattle.std.specs.Option.{IfSome}
-use Rattle.hz_text.specs.Assignment.{Assigned}
-use Rattle.std.proofs.lemmas.List.Elements.{All-nil}
-use Rattle.hz_timing.specs.VariableRead.{number_by_variables, order_by_variables, ideal_by_variables}
+use Rattle.hz_timing.specs.VariableRead.{ideal_by_variables}
 
 pub order-tokens : (netlist : Netlist) (tokens : Option (List TokenOf)) → by_tokens (resolve_timed_keyword netlist (Some keyword.Order)) tokens ≡ order_by_variables netlist (by_tokens variables_of_tokens tokens)
 order-tokens netlist None = refl

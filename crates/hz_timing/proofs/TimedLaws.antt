@@ -1,16 +1,14 @@
 -- What a refusal of a script with assumptions of time says.
 use Rattle.std.proofs.Common.{◌≡◌, ◌≢◌, ◌∙◌, ℕ, Bool, List, ap, sym, subst, inl, inr, arith, codes}
-use Rattle.hz_core.specs.Netlist.{Netlist, IsCircuit, primary_inputs}
+use Rattle.hz_timing.proofs.Words.{Netlist, IsCircuit, primary_inputs, TextFault, TimedFault, Text, Wires, Number, Again, resolved_timed_statements, counted, IsLeastTimedFault}
+use Rattle.hz_timing.proofs.Words.{IsTimedRefusal}
 use Rattle.hz_line.specs.OrThat.{OrThat}
-use Rattle.hz_text.specs.declared.fault.TextFault.{TextFault}
 use Rattle.hz_text.specs.declared.fault.TextFault.TheVariants as reading
 use Rattle.hz_refusal.specs.declared.status.Status.{Status}
 use Rattle.hz_refusal.specs.declared.status.Status.TheVariants as status
 use Rattle.hz_refusal.specs.Answer.{Prints}
 use Rattle.hz_refusal.specs.Refused.{TextPrints}
-use Rattle.hz_timing.specs.declared.fault.TimedFault.{TimedFault}
-use Rattle.hz_timing.specs.declared.fault.TimedFault.TheVariants.{Text, Wires, Number, Again}
-use Rattle.hz_timing.specs.TimedFault.{resolved_timed_statements, counted, IsLeastTimedFaultOf, IsLeastTimedFault, IsTimedRefusal, timed_named_line}
+use Rattle.hz_timing.specs.TimedFault.{IsLeastTimedFaultOf, timed_named_line}
 use Rattle.hz_timing.specs.Timed.{timed_fault_line, TimedPrints, NamesTimedNode, IsToldTimedLine}
 use Rattle.hz_timing.proofs.MissingLaws.{missing-below}
 

@@ -1,15 +1,11 @@
 -- A text has one least fault.
 use Rattle.std.proofs.Common.{◌≡◌, ℕ, Bool, List, ap, inl, inr, arith}
-use Rattle.std.specs.Prelude.{◌⊎◌}
-use Rattle.hz_core.specs.Netlist.{Netlist}
+use Rattle.hz_timing.proofs.Words.{◌⊎◌, Netlist, TextFault, TimedFault, Text, Wires, Number, Again, HasTimedFault, IsLeastTimedFault, IsTimedRefusal, timed_faults_that}
 use Rattle.hz_line.proofs.LeastLaws.{both-first}
 use Rattle.hz_text.specs.Fault.{IsLeastFaultOf}
-use Rattle.hz_text.specs.declared.fault.TextFault.{TextFault}
 use Rattle.hz_text.specs.declared.fault.TextFault.TheVariants.{Memory}
 use Rattle.hz_text.proofs.LeastFault.{OneMismatch, least-unique}
-use Rattle.hz_timing.specs.declared.fault.TimedFault.{TimedFault}
-use Rattle.hz_timing.specs.declared.fault.TimedFault.TheVariants.{Text, Wires, Number, Again}
-use Rattle.hz_timing.specs.TimedFault.{HasTimedFault, IsLeastTimedFault, IsTimedRefusal, timed_fault_number, timed_place_of, timed_faults_that}
+use Rattle.hz_timing.specs.TimedFault.{timed_fault_number, timed_place_of}
 use Rattle.hz_timing.proofs.FaultLaws.{HasText, text-first}
 
 -- of the faults of all texts, it is the least

@@ -1,11 +1,9 @@
 -- By what the variable is.
 use Rattle.std.proofs.Common.{arith, ◌∙◌, ◌+◌, sym, subst, length, IsTrue, slice_range}
-use Rattle.hz_core.specs.Gate.{takes}
+use Rattle.hz_bounds.proofs.Words.{takes, network_of, length-part}
 use Rattle.hz_core.specs.Netlist.{gate_at}
-use Rattle.hz_net.specs.Network.{network_of}
 use Rattle.hz_net.specs.Variables.{first_wire}
 use Rattle.hz_net.specs.declared.variable.VarKind.TheVariants.{Input, Gate as GateVariable, Wire as WireVariable}
-use Rattle.hz_lists.proofs.PartLemmas.{length-part}
 use Rattle.hz_free.proofs.NextWord.{driven-as, driven-at}
 use Rattle.hz_bounds.proofs.Given.{counted-fold, counted-part, gives-input, gives-wire, gives-gate}
 use Rattle.hz_bounds.proofs.driven.given.Goals as goal

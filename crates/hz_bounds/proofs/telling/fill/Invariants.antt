@@ -1,8 +1,7 @@
 -- The variables so far have the word.
 use Rattle.std.proofs.Common.{◌≡◌, ℕ, ◌<◌}
-use Rattle.hz_net.specs.Network.{bit_at}
-use Rattle.hz_free.specs.Inductive.{told_at}
-use Rattle.hz_bounds.specs.Telling.{known_at, known_or}
+use Rattle.hz_bounds.proofs.Words.{bit_at, told_at, known_or}
+use Rattle.hz_bounds.specs.Telling.{known_at}
 use Rattle.hz_bounds.proofs.telling.fill.Given as goal
 
 abbrev pub invariant-loop-var : goal.invariant-loop-var

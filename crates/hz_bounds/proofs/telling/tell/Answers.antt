@@ -1,8 +1,7 @@
 -- What words are told from, with the words that were written for it.
 use Rattle.std.proofs.Common.{◌≡◌, ◌∙◌, Option, None, length, replicate, ap, sym, subst, arith, rules}
+use Rattle.hz_bounds.proofs.Words.{network_of, Word}
 use Rattle.std.proofs.lemmas.List.{length-replicate}
-use Rattle.hz_net.specs.Network.{network_of}
-use Rattle.hz_word.specs.declared.word.Word.{Word}
 use Rattle.hz_free.specs.VariableWords.{AreCappedWords}
 use Rattle.hz_bounds.proofs.Known.{written-whole}
 use Rattle.hz_bounds.proofs.telling.tell.Goals as goal

@@ -1,14 +1,11 @@
 -- The start of a generated script is accepted.
 use Rattle.std.proofs.Common.{◌≡◌, ◌∙◌, ap, sym, subst, length, List, Bool, Option, arith}
-use Rattle.hz_core.specs.Netlist.{Netlist, IsCircuit}
+use Rattle.hz_changes.proofs.Words.{Netlist, IsCircuit, IsStartFault, StartPrints, Ends-more}
 use Rattle.hz_script.specs.ScriptValue.{ScriptOf}
 use Rattle.hz_script.specs.ScriptText.{IsScriptFor}
 use Rattle.hz_gen.specs.Demo.{demo_netlist, demo_script}
-use Rattle.hz_pass.specs.Completed.{IsStartFault}
 use Rattle.hz_refusal.specs.Ends.{Ends}
 use Rattle.hz_changes.specs.Demos.{IsDemoOutcome}
-use Rattle.hz_refusal.specs.Refused.{StartPrints}
-use Rattle.hz_refusal.proofs.PutEndings.{Ends-more}
 use Rattle.hz_changes.proofs.AcceptedStarts.{ListsInputs-front, start-not-refused}
 use Rattle.hz_changes.proofs.generated.demo.Goals as goal
 

@@ -1,15 +1,9 @@
 -- The one change of a script, from its start.
 use Rattle.std.proofs.Common.{◌≡◌, ◌∙◌, ℕ, Bool, List, [], ◌∷◌, ◌<◌, get_or, ap, refl, sym, subst, arith}
-use Rattle.std.proofs.lemmas.Option.{get_or_from_slice_get}
-use Rattle.hz_core.specs.Netlist.{Netlist}
-use Rattle.hz_text.specs.Bits.{IsChange}
-use Rattle.hz_desk.specs.Finding.{finding_of}
-use Rattle.hz_seq.specs.Sequence.{SequenceState}
-use Rattle.hz_seq.specs.Analyses.{Found, AreAnalyses}
+use Rattle.hz_changes.proofs.Words.{get_or_from_slice_get, Netlist, IsChange, finding_of, SequenceState, Found, AreAnalyses, Ends-put}
 use Rattle.hz_report.specs.Report.{summary_text}
 use Rattle.hz_refusal.specs.declared.status.Status.TheVariants as status
 use Rattle.hz_changes.specs.Demos.{IsSummaryOutcome}
-use Rattle.hz_refusal.proofs.PutEndings.{Ends-put}
 use Rattle.hz_changes.proofs.OneChangeScripts.{one-change, only-change}
 use Rattle.hz_changes.proofs.generated.summarise.Goals as goal
 

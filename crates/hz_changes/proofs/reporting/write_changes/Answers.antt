@@ -1,14 +1,11 @@
 -- One change after the other.
 use Rattle.std.proofs.Common.{◌≡◌, ◌∙◌, ◌+◌, ◌<◌, ℕ, Bool, List, [], ◌∷◌, ◌++◌, length, take, drop, get_or, is_some, true, refl, sym, ap, subst, arith, add-one}
-use Rattle.std.proofs.lemmas.List.{length-take-le, length-append, take-append-drop}
-use Rattle.std.proofs.lemmas.Option.{get_or_from_slice_get}
-use Rattle.std.proofs.Math.Seq.{take-suc, take-length}
-use Rattle.hz_text.specs.Bits.{IsChange}
-use Rattle.hz_write.specs.Writer.{Writes, NoneWaits}
-use Rattle.hz_write.proofs.Writers.{writes_nothing, writes_then, writes_failed}
-use Rattle.hz_seq.specs.Analyses.{Analysis, AreAnalyses}
-use Rattle.hz_seq.proofs.FirstAnalyses.{AreFirstAnalyses, no-changes, all-analyses}
-use Rattle.hz_changes.specs.Reports.{analyses_text, analysis_text}
+use Rattle.hz_changes.proofs.Words.{length-take-le, get_or_from_slice_get, take-length, IsChange, Writes, NoneWaits, writes_then, Analysis, AreAnalyses, AreFirstAnalyses}
+use Rattle.hz_changes.proofs.Words.{no-changes, all-analyses, analyses_text}
+use Rattle.std.proofs.lemmas.List.{length-append, take-append-drop}
+use Rattle.std.proofs.Math.Seq.{take-suc}
+use Rattle.hz_write.proofs.Writers.{writes_nothing, writes_failed}
+use Rattle.hz_changes.specs.Reports.{analysis_text}
 use Rattle.hz_changes.proofs.Writable.{IsStopInside}
 use Rattle.hz_changes.proofs.SequenceSteps.{goes-on, stop-inside}
 use Rattle.hz_seq.proofs.Existence.{HasFindings, with-later}

@@ -1,9 +1,6 @@
 -- The changes so far are analysed, and their lines are given.
 use Rattle.std.proofs.Common.{◌≡◌, List, length, take}
-use Rattle.hz_write.specs.Writer.{Writes, NoneWaits}
-use Rattle.hz_seq.specs.Analyses.{Analysis}
-use Rattle.hz_seq.proofs.FirstAnalyses.{AreFirstAnalyses}
-use Rattle.hz_changes.specs.Reports.{analyses_text}
+use Rattle.hz_changes.proofs.Words.{Writes, NoneWaits, Analysis, AreFirstAnalyses, analyses_text}
 use Rattle.hz_changes.proofs.Writable.{IsStopInside}
 use Rattle.hz_changes.proofs.reporting.write_changes.Given as goal
 

@@ -1,7 +1,6 @@
 -- What one change comes to fits its network, so that it can be written.
 use Rattle.std.proofs.Common.{ℕ, Option, subst}
-use Rattle.hz_desk.specs.Finding.{finding_of}
-use Rattle.hz_seq.specs.Analyses.{Found, Stopped}
+use Rattle.hz_changes.proofs.Words.{finding_of, Found, Stopped}
 use Rattle.hz_changes.proofs.Writable.{below-names, fits, IsStopInside}
 use Rattle.hz_changes.proofs.reporting.write_next.Goals as goal
 

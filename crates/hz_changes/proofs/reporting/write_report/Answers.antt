@@ -1,13 +1,9 @@
 -- All that the writer was given.
 use Rattle.std.proofs.Common.{◌≡◌, ◌∙◌, ◌++◌, List, Bool, refl, ap, subst, rules}
-use Rattle.hz_core.specs.Netlist.{Netlist}
-use Rattle.hz_net.specs.Network.{network_of}
+use Rattle.hz_changes.proofs.Words.{Netlist, network_of, writes_then, wrote_whole, AreAnalyses, analyses_text}
 use Rattle.hz_free.specs.Feedback.{AreFeedbackCycles}
-use Rattle.hz_write.proofs.Writers.{writes_then, wrote_whole}
 use Rattle.hz_desk.specs.Desk.{DeskOf}
-use Rattle.hz_seq.specs.Analyses.{AreAnalyses}
 use Rattle.hz_report.specs.Report.{head_text}
-use Rattle.hz_changes.specs.Reports.{analyses_text}
 use Rattle.hz_changes.proofs.FindingsReplay.{analyses-replay}
 use Rattle.hz_changes.proofs.reporting.write_report.Goals as goal
 

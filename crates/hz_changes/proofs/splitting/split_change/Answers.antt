@@ -1,12 +1,9 @@
 -- The finding is right, and what is found of it is written.
 use Rattle.std.proofs.Common.{◌≡◌, map, refl, ap, subst}
-use Rattle.hz_net.specs.Network.{network_of}
-use Rattle.hz_desk.specs.declared.finding.Row.{Row}
-use Rattle.hz_desk.specs.Finding.{finding_of, values_b}
+use Rattle.hz_changes.proofs.Words.{network_of, Row, finding_of, values_b, SplitsChange, found_in, Ends-put}
 use Rattle.hz_split.specs.Splits.{SplitOf, AreSettledRuns}
-use Rattle.hz_changes.specs.Splits.{SplitsChange, split_text, found_in}
+use Rattle.hz_changes.specs.Splits.{split_text}
 use Rattle.hz_refusal.specs.declared.status.Status.TheVariants as status
-use Rattle.hz_refusal.proofs.PutEndings.{Ends-put}
 use Rattle.hz_changes.proofs.SplitLines.{contains-unknown}
 use Rattle.hz_changes.proofs.SplitRuns.{is-split, settled-inside}
 use Rattle.hz_changes.proofs.splitting.split_change.Goals as goal

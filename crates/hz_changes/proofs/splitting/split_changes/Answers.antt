@@ -1,17 +1,10 @@
 -- One change after the other, up to the first that leaves a variable unsettled.
 use Rattle.std.proofs.Common.{◌≡◌, ◌∙◌, ◌+◌, ◌<◌, ℕ, suc, Bool, true, false, List, [], ◌∷◌, ◌++◌, length, take, drop, get_or, codes, None, refl, sym, ap, subst, arith, add-one}
-use Rattle.std.proofs.lemmas.List.{length-take-le, length-append, take-append-drop}
-use Rattle.std.proofs.lemmas.Option.{get_or_from_slice_get}
-use Rattle.std.proofs.Math.Seq.{take-suc, take-length, drop-cons}
-use Rattle.hz_text.specs.Bits.{IsChange}
-use Rattle.hz_write.specs.Writes.{line_of}
-use Rattle.hz_desk.specs.Finding.{finding_of}
-use Rattle.hz_seq.specs.Sequence.{IsLeftBy}
-use Rattle.hz_seq.specs.Analyses.{Analysis, Found}
-use Rattle.hz_seq.proofs.FirstAnalyses.{AreFirstAnalyses, no-changes}
+use Rattle.hz_changes.proofs.Words.{length-take-le, get_or_from_slice_get, take-length, IsChange, line_of, finding_of, IsLeftBy, Analysis, Found, AreFirstAnalyses, no-changes}
+use Rattle.hz_changes.proofs.Words.{is_unsettled, SplitsChange, SplitsChanges, Ends-put, Ends-more}
+use Rattle.std.proofs.lemmas.List.{length-append, take-append-drop}
+use Rattle.std.proofs.Math.Seq.{take-suc, drop-cons}
 use Rattle.hz_refusal.specs.declared.status.Status.TheVariants as status
-use Rattle.hz_changes.specs.Splits.{is_unsettled, SplitsChange, SplitsChanges}
-use Rattle.hz_refusal.proofs.PutEndings.{Ends-put, Ends-more}
 use Rattle.hz_changes.proofs.SequenceSteps.{goes-on}
 use Rattle.hz_changes.proofs.SplitRuns.{can-be-split}
 use Rattle.hz_changes.proofs.SplitLines.{AreQuiet, ends-unsettled, ends-settled, quiet-more, goes-on-settled}

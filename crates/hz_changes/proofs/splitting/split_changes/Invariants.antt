@@ -1,7 +1,6 @@
 -- The changes so far are analysed, and all of them settle.
 use Rattle.std.proofs.Common.{◌≡◌, List, None, length, take}
-use Rattle.hz_seq.specs.Analyses.{Analysis}
-use Rattle.hz_seq.proofs.FirstAnalyses.{AreFirstAnalyses}
+use Rattle.hz_changes.proofs.Words.{Analysis, AreFirstAnalyses}
 use Rattle.hz_changes.proofs.SplitLines.{AreQuiet}
 use Rattle.hz_changes.proofs.splitting.split_changes.Given as goal
 

@@ -1,10 +1,7 @@
 -- The lines of each run.
 use Rattle.std.proofs.Common.{◌≡◌, ◌∙◌, ◌<◌, ℕ, List, length, take, map, sym, ap, arith}
-use Rattle.std.specs.List.{flat_map}
-use Rattle.std.proofs.Math.Seq.{take-length}
-use Rattle.hz_write.proofs.Writers.{writes_then, writes_same}
-use Rattle.hz_run_text.specs.RunPrinted.{run_text}
-use Rattle.hz_changes.specs.Splits.{closed}
+use Rattle.hz_changes.proofs.Words.{flat_map, take-length, writes_then, run_text, closed}
+use Rattle.hz_write.proofs.Writers.{writes_same}
 use Rattle.hz_changes.proofs.SplitLines.{closed-more}
 use Rattle.hz_changes.proofs.splitting.write_found.Goals as goal
 

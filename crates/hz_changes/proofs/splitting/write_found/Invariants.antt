@@ -1,8 +1,5 @@
 use Rattle.std.proofs.Common.{map, take}
-use Rattle.std.specs.List.{flat_map}
-use Rattle.hz_write.specs.Writer.{Writes, NoneWaits}
-use Rattle.hz_run_text.specs.RunPrinted.{run_text}
-use Rattle.hz_changes.specs.Splits.{closed}
+use Rattle.hz_changes.proofs.Words.{flat_map, Writes, NoneWaits, run_text, closed}
 use Rattle.hz_changes.proofs.splitting.write_found.Given as goal
 
 -- the runs so far

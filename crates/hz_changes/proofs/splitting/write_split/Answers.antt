@@ -1,11 +1,6 @@
 -- All that the writer was given.
 use Rattle.std.proofs.Common.{◌≡◌, ◌∙◌, Bool, length, refl, sym, ap, rules, arith}
-use Rattle.std.proofs.lemmas.List.{length-take-le}
-use Rattle.hz_core.specs.Netlist.{Netlist}
-use Rattle.hz_net.specs.Network.{network_of}
-use Rattle.hz_net.proofs.Places.{length-network_of}
-use Rattle.hz_desk.specs.Finding.{finding_of}
-use Rattle.hz_write.proofs.Writers.{writes_then, wrote_whole}
+use Rattle.hz_changes.proofs.Words.{length-take-le, Netlist, network_of, length-network_of, finding_of, writes_then, wrote_whole}
 use Rattle.hz_changes.proofs.SplitLines.{split-lines}
 use Rattle.hz_changes.proofs.splitting.write_split.Goals as goal
 

@@ -1,12 +1,9 @@
 -- One start after the other.
 use Rattle.std.proofs.Common.{◌≡◌, ◌∙◌, ◌+◌, ◌<◌, ℕ, Bool, List, [], ◌∷◌, ◌++◌, length, take, get_or, refl, sym, ap, subst, arith, add-one}
-use Rattle.std.proofs.lemmas.Option.{get_or_from_slice_get}
+use Rattle.hz_edge_reports.proofs.Words.{get_or_from_slice_get, take-suc, take-length, ScriptOf, AreAcceptedStarts}
 use Rattle.std.proofs.lemmas.Result.{err_from_is_err_and}
-use Rattle.std.proofs.Math.Seq.{take-suc, take-length}
 use Rattle.hz_pass.specs.Completed.{IsStartFault}
-use Rattle.hz_script.specs.ScriptValue.{ScriptOf}
 use Rattle.hz_changes.proofs.AcceptedStarts.{ListsInputs-front, start-accepted}
-use Rattle.hz_timing.specs.Timed.{AreAcceptedStarts}
 use Rattle.hz_edge_reports.proofs.FirstFaults.{first-fault}
 use Rattle.hz_edge_reports.proofs.PartEdges.{accepted-append, part-fits}
 use Rattle.hz_edge_reports.proofs.job.check_starts.Goals as goal

@@ -1,9 +1,7 @@
 -- Nothing is said where nothing is assumed.
 use Rattle.std.proofs.Common.{length}
-use Rattle.hz_write.specs.Writer.{Writes}
-use Rattle.hz_write.proofs.Writers.{writes_nothing, writes_same}
+use Rattle.hz_edge_reports.proofs.Words.{Writes, writes_nothing, writes_same, change_of}
 use Rattle.hz_edge_reports.specs.EdgeText.{orders_line}
-use Rattle.hz_edge_reports.specs.Room.{change_of}
 use Rattle.hz_edge_reports.proofs.OrderLines.{none-assumed, some-assumed}
 use Rattle.hz_edge_reports.proofs.lines.write_orders.Goals as goal
 

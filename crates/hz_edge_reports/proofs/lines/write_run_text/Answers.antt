@@ -1,11 +1,7 @@
 -- The lines before the run, the run, and the line after it.
 use Rattle.std.proofs.Common.{◌≡◌, ◌∙◌, Bool, length, refl, sym, ap, arith}
-use Rattle.std.proofs.lemmas.List.{append-nil, length-take-le}
-use Rattle.hz_core.specs.Netlist.{Netlist}
-use Rattle.hz_net.specs.Network.{network_of}
-use Rattle.hz_net.proofs.Places.{length-network_of}
+use Rattle.hz_edge_reports.proofs.Words.{append-nil, length-take-le, Netlist, network_of, length-network_of, writes_then, writes_same}
 use Rattle.hz_run_text.specs.RunPrinted.{run_text_printed}
-use Rattle.hz_write.proofs.Writers.{writes_then, writes_same}
 use Rattle.hz_edge_reports.proofs.lines.write_run_text.Goals as goal
 
 pub slice_bounds-write_states-end : goal.slice_bounds-write_states-end

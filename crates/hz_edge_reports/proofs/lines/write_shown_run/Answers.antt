@@ -1,9 +1,8 @@
 -- The run text, or nothing.
 use Rattle.std.proofs.Common.{◌≡◌, eqb, length, true, false}
+use Rattle.hz_edge_reports.proofs.Words.{writes_nothing, writes_same, change_of}
 use Rattle.hz_run_text.specs.RunPrinted.{run_text_printed}
-use Rattle.hz_write.proofs.Writers.{writes_nothing, writes_same}
 use Rattle.hz_edge_reports.specs.EdgeChanges.{run_of_change}
-use Rattle.hz_edge_reports.specs.Room.{change_of}
 use Rattle.hz_edge_reports.proofs.OrderLines.{free-run, kept-run, hidden-run}
 use Rattle.hz_edge_reports.proofs.lines.write_shown_run.Goals.{then-is_empty-via-then-is_empty, then-is_empty-via-else-is_empty+then-room}
 use Rattle.hz_edge_reports.proofs.lines.write_shown_run.Goals as goal

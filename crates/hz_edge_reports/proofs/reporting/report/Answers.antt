@@ -1,8 +1,7 @@
 use Rattle.std.proofs.Common.{ℕ, Bool, List, refl}
-use Rattle.hz_refusal.specs.declared.status.Status.{Status}
+use Rattle.hz_edge_reports.proofs.Words.{Status, AreAcceptedStarts}
 use Rattle.hz_refusal.specs.declared.status.Status.TheVariants as status
 use Rattle.hz_refusal.proofs.PutEndings.{Ends-put}
-use Rattle.hz_timing.specs.Timed.{AreAcceptedStarts}
 use Rattle.hz_edge_reports.specs.EdgeReports.{ReportsEdges}
 use Rattle.hz_edge_reports.proofs.reporting.report.Goals as goal
 

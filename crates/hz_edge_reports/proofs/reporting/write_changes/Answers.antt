@@ -1,16 +1,12 @@
 -- One change after the other.
 use Rattle.std.proofs.Common.{◌≡◌, ◌∙◌, ◌+◌, ◌<◌, ℕ, Bool, true, false, List, [], ◌∷◌, ◌++◌, length, take, drop, get_or, is_some, refl, sym, ap, subst, arith, add-one}
-use Rattle.std.proofs.lemmas.List.{length-take-le, take-append-drop}
-use Rattle.std.proofs.lemmas.Option.{get_or_from_slice_get}
-use Rattle.std.proofs.Math.Seq.{take-suc, take-length}
+use Rattle.hz_edge_reports.proofs.Words.{length-take-le, get_or_from_slice_get, take-suc, take-length, IsStableStart, Writes, NoneWaits, writes_nothing, writes_then}
+use Rattle.hz_edge_reports.proofs.Words.{writes_failed, EdgeAnalysis, AreEdgeAnalyses, analyses_text, IsChangeRoom}
+use Rattle.std.proofs.lemmas.List.{take-append-drop}
 use Rattle.hz_text.specs.Bits.{IsChange}
-use Rattle.hz_net.specs.Starts.{IsStableStart}
-use Rattle.hz_write.specs.Writer.{Writes, NoneWaits, has_failed}
-use Rattle.hz_write.proofs.Writers.{writes_nothing, writes_then, writes_failed}
+use Rattle.hz_write.specs.Writer.{has_failed}
 use Rattle.hz_changes.proofs.Writable.{IsStopInside}
-use Rattle.hz_edge_reports.specs.EdgeChanges.{EdgeAnalysis, AreEdgeAnalyses}
-use Rattle.hz_edge_reports.specs.EdgeText.{analyses_text, analysis_text}
-use Rattle.hz_edge_reports.specs.Room.{IsChangeRoom}
+use Rattle.hz_edge_reports.specs.EdgeText.{analysis_text}
 use Rattle.hz_edge_reports.proofs.FirstEdges.{AreSoFar, none-yet, all-edges, goes-on, later-exist}
 use Rattle.hz_edge_reports.proofs.ReportLines.{text-append, text-more}
 use Rattle.hz_edge_reports.proofs.reporting.write_changes.Goals as goal

@@ -1,9 +1,7 @@
 -- The changes so far are analysed, and their lines are given.
 use Rattle.std.proofs.Common.{List, take}
-use Rattle.hz_write.specs.Writer.{Writes, NoneWaits, has_failed}
-use Rattle.hz_edge_reports.specs.EdgeChanges.{EdgeAnalysis}
-use Rattle.hz_edge_reports.specs.EdgeText.{analyses_text}
-use Rattle.hz_edge_reports.specs.Room.{IsChangeRoom}
+use Rattle.hz_edge_reports.proofs.Words.{Writes, NoneWaits, EdgeAnalysis, analyses_text, IsChangeRoom}
+use Rattle.hz_write.specs.Writer.{has_failed}
 use Rattle.hz_edge_reports.proofs.FirstEdges.{AreSoFar}
 use Rattle.hz_edge_reports.proofs.reporting.write_changes.Given as goal
 

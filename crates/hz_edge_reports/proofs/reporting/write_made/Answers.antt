@@ -1,10 +1,9 @@
 -- What is found of the change is right. If memory runs out, something is right all the same.
 use Rattle.std.proofs.Common.{◌∙◌, refl, sym}
+use Rattle.hz_edge_reports.proofs.Words.{writes_then, writes_failed, change_of}
 use Rattle.std.proofs.lemmas.Bool.{false≢true}
-use Rattle.hz_write.proofs.Writers.{writes_then, writes_failed}
 use Rattle.hz_changes.proofs.Writable.{below-names}
 use Rattle.hz_edge_reports.specs.EdgeText.{found_text}
-use Rattle.hz_edge_reports.specs.Room.{change_of}
 use Rattle.hz_edge_reports.proofs.Leading.{found-used, found-run, made-from}
 use Rattle.hz_edge_reports.proofs.FirstEdges.{one-exists}
 use Rattle.hz_edge_reports.proofs.reporting.write_made.Goals as goal

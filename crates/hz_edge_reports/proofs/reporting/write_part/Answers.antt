@@ -1,12 +1,7 @@
 -- The start of a part, and its changes. If memory runs out, the start is the one that is known.
 use Rattle.std.proofs.Common.{◌∙◌, ◌++◌, Bool, List, refl, sym, subst, arith}
-use Rattle.hz_net.specs.Starts.{IsStableStart}
-use Rattle.hz_write.specs.Writer.{Writes}
-use Rattle.hz_write.proofs.Writers.{writes_then, writes_failed}
-use Rattle.hz_report.specs.Report.{start_line}
+use Rattle.hz_edge_reports.proofs.Words.{IsStableStart, Writes, writes_then, writes_failed, start_line, AreEdgeAnalyses, analyses_text}
 use Rattle.hz_changes.proofs.AcceptedStarts.{ListsInputs-front, start-accepted}
-use Rattle.hz_edge_reports.specs.EdgeChanges.{AreEdgeAnalyses}
-use Rattle.hz_edge_reports.specs.EdgeText.{analyses_text}
 use Rattle.hz_edge_reports.proofs.FirstEdges.{edges-exist}
 use Rattle.hz_edge_reports.proofs.PartEdges.{accepted-stable}
 use Rattle.hz_edge_reports.proofs.reporting.write_part.Goals as goal

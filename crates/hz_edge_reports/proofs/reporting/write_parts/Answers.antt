@@ -1,20 +1,11 @@
 -- One part after the other.
 use Rattle.std.proofs.Common.{◌≡◌, ◌∙◌, ◌+◌, ◌<◌, ◌≤◌, ℕ, Bool, List, [], ◌∷◌, ◌++◌, length, take, drop, sum_by, is_some, true, sym, ap, subst, arith, add-one}
+use Rattle.hz_edge_reports.proofs.Words.{get_or_from_slice_get, take-suc, take-length, ScriptOf, AreAcceptedStarts, Writes, NoneWaits, writes_nothing, writes_then, writes_failed}
+use Rattle.hz_edge_reports.proofs.Words.{start_line, EdgeAnalysis, ArePartAnalyses, analyses_text, parts_text, IsChangeRoom}
 use Rattle.std.proofs.lemmas.List.{take-append-drop}
 use Rattle.std.proofs.lemmas.List.Sums.{sum_by_more_le, sum_by_push}
-use Rattle.std.proofs.lemmas.Option.{get_or_from_slice_get}
-use Rattle.std.proofs.Math.Seq.{take-suc, take-length}
 use Rattle.hz_net.specs.Starts.{IsAcceptedStart}
-use Rattle.hz_script.specs.ScriptValue.{ScriptOf}
 use Rattle.hz_script.specs.ScriptText.{IsScriptFor}
-use Rattle.hz_timing.specs.Timed.{AreAcceptedStarts}
-use Rattle.hz_write.specs.Writer.{Writes, NoneWaits}
-use Rattle.hz_write.proofs.Writers.{writes_nothing, writes_then, writes_failed}
-use Rattle.hz_report.specs.Report.{start_line}
-use Rattle.hz_edge_reports.specs.EdgeChanges.{EdgeAnalysis}
-use Rattle.hz_edge_reports.specs.EdgeReports.{ArePartAnalyses}
-use Rattle.hz_edge_reports.specs.EdgeText.{analyses_text, parts_text}
-use Rattle.hz_edge_reports.specs.Room.{IsChangeRoom}
 use Rattle.hz_edge_reports.proofs.PartEdges.{accepted-append, accepted-at, accepted-drop, accepted-long, part-edges-append, part-edges-exist, parts-long}
 use Rattle.hz_edge_reports.proofs.ReportLines.{changes_of, parts-append, parts-more}
 use Rattle.hz_edge_reports.proofs.reporting.write_parts.Goals as goal

@@ -1,11 +1,6 @@
 -- The parts so far have starts and analyses, and their lines are given.
 use Rattle.std.proofs.Common.{◌≡◌, ◌+◌, Bool, List, take, sum_by}
-use Rattle.hz_timing.specs.Timed.{AreAcceptedStarts}
-use Rattle.hz_write.specs.Writer.{Writes, NoneWaits}
-use Rattle.hz_edge_reports.specs.EdgeChanges.{EdgeAnalysis}
-use Rattle.hz_edge_reports.specs.EdgeReports.{ArePartAnalyses}
-use Rattle.hz_edge_reports.specs.EdgeText.{parts_text}
-use Rattle.hz_edge_reports.specs.Room.{IsChangeRoom}
+use Rattle.hz_edge_reports.proofs.Words.{AreAcceptedStarts, Writes, NoneWaits, EdgeAnalysis, ArePartAnalyses, parts_text, IsChangeRoom}
 use Rattle.hz_edge_reports.proofs.ReportLines.{changes_of}
 use Rattle.hz_edge_reports.proofs.reporting.write_parts.Given as goal
 

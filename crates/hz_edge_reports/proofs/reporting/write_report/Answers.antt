@@ -1,12 +1,9 @@
 -- All that the writer was given.
 use Rattle.std.proofs.Common.{◌++◌, ℕ, List, refl, subst, rules}
+use Rattle.hz_edge_reports.proofs.Words.{Assumption, Writes, writes_then, ArePartAnalyses, parts_text}
 use Rattle.std.specs.List.{flat_map}
-use Rattle.hz_timing.specs.declared.script.Assumption.{Assumption}
-use Rattle.hz_write.specs.Writer.{Writes}
-use Rattle.hz_write.proofs.Writers.{writes_then, wrote_whole}
+use Rattle.hz_write.proofs.Writers.{wrote_whole}
 use Rattle.hz_report.specs.Report.{netlist_line, feedback_line}
-use Rattle.hz_edge_reports.specs.EdgeReports.{ArePartAnalyses}
-use Rattle.hz_edge_reports.specs.EdgeText.{parts_text}
 use Rattle.hz_edge_reports.proofs.reporting.write_report.Goals as goal
 
 pub returns : goal.returns

@@ -1,7 +1,6 @@
 -- The variables so far have their values.
 use Rattle.std.proofs.Common.{◌≡◌, ℕ, ◌<◌}
-use Rattle.hz_core.specs.Ternary.{tri_of}
-use Rattle.hz_net.specs.Network.{bit_at, value_at}
+use Rattle.hz_edge_reports.proofs.Words.{tri_of, bit_at, value_at}
 use Rattle.hz_edge_reports.proofs.settling.settle.Given as goal
 
 abbrev pub invariant-loop-var : goal.invariant-loop-var

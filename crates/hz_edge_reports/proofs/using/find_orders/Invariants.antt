@@ -1,7 +1,6 @@
 -- The orders by the assumptions so far.
 use Rattle.std.proofs.Common.{◌≤◌, take}
-use Rattle.hz_net.specs.Network.{network_of}
-use Rattle.hz_edge_reports.specs.UsedOrders.{AreFound}
+use Rattle.hz_edge_reports.proofs.Words.{network_of, AreFound}
 use Rattle.hz_edge_reports.proofs.using.find_orders.Given as goal
 
 abbrev pub invariant-loop-assumption : goal.invariant-loop-assumption

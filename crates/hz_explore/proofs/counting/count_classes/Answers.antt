@@ -1,15 +1,9 @@
 -- One node more.
 use Rattle.std.proofs.Common.{◌≡◌, ◌∙◌, sym, ap, false, List, [], ◌∷◌, ◌++◌, map, zero-add, arith}
-use Rattle.std.specs.List.{range_with_len}
+use Rattle.hz_explore.proofs.Words.{range_with_len, Zero, EdgeClass, bit_at, value_at, change_of, Classes, class_at, classes_of}
 use Rattle.std.proofs.lemmas.List.{get_or_default}
 use Rattle.std.proofs.lemmas.List.FromFn.{map-range_with_len_more}
-use Rattle.hz_core.specs.declared.tri.Tri.TheVariants.{Zero}
-use Rattle.hz_bounds.specs.declared.range.EdgeClass.{EdgeClass}
-use Rattle.hz_net.specs.Network.{bit_at, value_at}
-use Rattle.hz_edge_reports.specs.Room.{change_of}
-use Rattle.hz_explore.specs.declared.counting.Classes.{Classes}
-use Rattle.hz_explore.specs.Transitions.{class_at}
-use Rattle.hz_explore.specs.Counts.{classes_of, is_single, is_static, is_maybe_static, is_dynamic, is_maybe_dynamic}
+use Rattle.hz_explore.specs.Counts.{is_single, is_static, is_maybe_static, is_dynamic, is_maybe_dynamic}
 use Rattle.hz_explore.proofs.CountLemmas.{counts-few}
 use Rattle.hz_explore.proofs.counting.count_classes.Goals as goal
 

@@ -1,9 +1,6 @@
 -- The classes of the nodes so far.
 use Rattle.std.proofs.Common.{◌≡◌, map}
-use Rattle.std.specs.List.{range_with_len}
-use Rattle.hz_edge_reports.specs.Room.{change_of}
-use Rattle.hz_explore.specs.Transitions.{class_at}
-use Rattle.hz_explore.specs.Counts.{classes_of}
+use Rattle.hz_explore.proofs.Words.{range_with_len, change_of, class_at, classes_of}
 use Rattle.hz_explore.proofs.counting.count_classes.Given as goal
 
 abbrev pub invariant-loop-node : goal.invariant-loop-node

@@ -1,10 +1,6 @@
 -- One burst: it does not apply, or its change is made.
 use Rattle.std.proofs.Common.{◌≡◌, ◌∙◌, refl, sym, ap, subst, ℕ, Bool, true, false, List, [], ◌∷◌, length, arith}
-use Rattle.hz_net.proofs.Places.{length-network_of}
-use Rattle.hz_write.specs.Writer.{has_failed}
-use Rattle.hz_write.proofs.Writers.{writes_nothing, writes_same, writes_then, writes_failed}
-use Rattle.hz_explore.specs.Bursts.{applies}
-use Rattle.hz_explore.specs.Transitions.{AreTransitions}
+use Rattle.hz_explore.proofs.Words.{length-network_of, has_failed, writes_nothing, writes_same, writes_then, writes_failed, applies, AreTransitions}
 use Rattle.hz_explore.proofs.TransitionLemmas.{transition-one}
 use Rattle.hz_explore.proofs.MakesLemmas.{makes-failed}
 use Rattle.hz_explore.proofs.ChangeLemmas.{made-one, not-made}

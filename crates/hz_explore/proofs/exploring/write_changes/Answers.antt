@@ -1,18 +1,10 @@
 -- One burst after the other.
 use Rattle.std.proofs.Common.{◌≡◌, ◌∙◌, refl, sym, ap, subst, ℕ, ◌+◌, ◌<◌, ◌≤◌, Bool, true, false, List, [], ◌∷◌, ◌++◌, length, take, drop, All, arith, add-one}
-use Rattle.std.specs.List.{flat_map}
+use Rattle.hz_explore.proofs.Words.{flat_map, flat_map-append, IsStableStart, has_failed, writes_nothing, writes_then, writes_failed, AreTransitions, ends_of, found_by}
+use Rattle.hz_explore.proofs.Words.{transition_line, Extends, Makes, bursts_in}
 use Rattle.std.proofs.lemmas.List.{take-append-drop}
-use Rattle.std.proofs.lemmas.List.Concat.{flat_map-append}
 use Rattle.std.proofs.lemmas.Option.{get_or_from_slice_get}
 use Rattle.std.proofs.Math.Seq.{take-suc, take-length}
-use Rattle.hz_net.specs.Starts.{IsStableStart}
-use Rattle.hz_write.specs.Writer.{has_failed}
-use Rattle.hz_write.proofs.Writers.{writes_nothing, writes_then, writes_failed}
-use Rattle.hz_explore.specs.Transitions.{AreTransitions, ends_of}
-use Rattle.hz_explore.specs.Exploration.{found_by}
-use Rattle.hz_explore.specs.ExploreText.{transition_line}
-use Rattle.hz_explore.specs.Progress.{Extends}
-use Rattle.hz_explore.specs.Inside.{Makes, bursts_in}
 use Rattle.hz_explore.proofs.FoundLemmas.{extends-by, few-by}
 use Rattle.hz_explore.proofs.TransitionLemmas.{transitions-append}
 use Rattle.hz_explore.proofs.ProgressLemmas.{transitions-exist}

@@ -1,12 +1,7 @@
 -- The transitions of the bursts so far are made, and their lines are given.
 use Rattle.std.proofs.Common.{◌≡◌, ◌+◌, ◌≤◌, Bool, List, take}
-use Rattle.std.specs.List.{flat_map}
-use Rattle.hz_write.specs.Writer.{Writes, has_failed}
-use Rattle.hz_explore.specs.Transitions.{Transition, ends_of}
-use Rattle.hz_explore.specs.Exploration.{found_by}
-use Rattle.hz_explore.specs.ExploreText.{transition_line}
-use Rattle.hz_explore.specs.Progress.{Extends}
-use Rattle.hz_explore.specs.Inside.{IsExploreRoom, Makes, bursts_in, changes_in}
+use Rattle.hz_explore.proofs.Words.{flat_map, Writes, has_failed, Transition, ends_of, found_by, transition_line, Extends, Makes, bursts_in, changes_in}
+use Rattle.hz_explore.specs.Inside.{IsExploreRoom}
 use Rattle.hz_explore.proofs.exploring.write_changes.Given as goal
 
 abbrev pub invariant-loop-place : goal.invariant-loop-place

@@ -1,8 +1,6 @@
 -- The totals are those of the transitions, if all lines before are written.
 use Rattle.std.proofs.Common.{◌≡◌, ◌∙◌, sym, ap, ℕ, true, length}
-use Rattle.hz_write.specs.Writer.{has_failed}
-use Rattle.hz_write.proofs.Writers.{writes_failed, writes_same}
-use Rattle.hz_explore.specs.declared.counting.Totals.{Totals}
+use Rattle.hz_explore.proofs.Words.{has_failed, writes_failed, writes_same, Totals}
 use Rattle.hz_explore.specs.ExploreText.{totals_line, totals_text}
 use Rattle.hz_explore.proofs.exploring.write_last.Goals as goal
 

@@ -1,17 +1,11 @@
 -- All that the writer was given.
 use Rattle.std.proofs.Common.{◌≡◌, ◌∙◌, ◌++◌, List, Bool, refl, sym, ap, subst, length, take, append_assoc, arith, rules}
-use Rattle.std.proofs.lemmas.List.{length-take-le}
-use Rattle.hz_net.specs.Starts.{IsStableStart}
-use Rattle.hz_net.specs.Variables.{expansion_of}
-use Rattle.hz_net.proofs.Places.{length-network_of}
-use Rattle.hz_write.proofs.Writers.{writes_then, wrote_whole}
+use Rattle.hz_explore.proofs.Words.{length-take-le, IsStableStart, expansion_of, length-network_of, writes_then, state_at, nodes_of, all_nodes, all_explored_text, bursts_in}
+use Rattle.hz_write.proofs.Writers.{wrote_whole}
 use Rattle.hz_replay.proofs.ReadBack.{stable-expansion_of}
 use Rattle.hz_report.specs.Report.{head_text}
-use Rattle.hz_states.specs.States.{state_at}
-use Rattle.hz_explore.specs.Reached.{nodes_of}
-use Rattle.hz_explore.specs.Exploration.{IsExploration, all_nodes}
-use Rattle.hz_explore.specs.ExploreText.{all_explored_text, exploration_text, totals_line}
-use Rattle.hz_explore.specs.Inside.{bursts_in}
+use Rattle.hz_explore.specs.Exploration.{IsExploration}
+use Rattle.hz_explore.specs.ExploreText.{exploration_text, totals_line}
 use Rattle.hz_explore.proofs.exploring.write_report.Goals as goal
 
 pub write_states-requires-clause-long : goal.write_states-requires-clause-long

@@ -1,14 +1,6 @@
 -- A state's own line, and those of its transitions.
 use Rattle.std.proofs.Common.{◌∙◌, refl, sym, subst, Bool, List}
-use Rattle.hz_write.proofs.Writers.{writes_then}
-use Rattle.hz_net.specs.Variables.{expansion_of}
-use Rattle.hz_net.specs.Starts.{IsStableStart}
-use Rattle.hz_states.specs.States.{state_at}
-use Rattle.hz_write.specs.Writer.{has_failed}
-use Rattle.hz_explore.specs.Exploration.{found_by}
-use Rattle.hz_explore.specs.Transitions.{ends_of}
-use Rattle.hz_explore.specs.Progress.{Extends}
-use Rattle.hz_explore.specs.Inside.{Makes, bursts_in}
+use Rattle.hz_explore.proofs.Words.{writes_then, expansion_of, IsStableStart, state_at, has_failed, found_by, ends_of, Extends, Makes, bursts_in}
 use Rattle.hz_explore.proofs.MakesLemmas.{makes-from}
 use Rattle.hz_explore.proofs.exploring.write_state.Goals as goal
 

@@ -1,22 +1,10 @@
 -- One state after the other.
 use Rattle.std.proofs.Common.{◌≡◌, ◌∙◌, refl, sym, ap, subst, ℕ, ◌+◌, ◌<◌, ◌≤◌, Bool, true, false, List, [], ◌∷◌, ◌++◌, length, append-nil, length-append, arith}
-use Rattle.std.proofs.lemmas.Bool.{true≢false}
-use Rattle.std.proofs.lemmas.List.{length-map}
-use Rattle.std.proofs.lemmas.List.Concat.{flat_map-append}
-use Rattle.hz_core.specs.Netlist.{Netlist}
-use Rattle.hz_net.specs.Starts.{IsStableStart}
-use Rattle.hz_net.specs.Variables.{expansion_of}
-use Rattle.hz_write.specs.Writer.{Writes, has_failed}
-use Rattle.hz_write.proofs.Writers.{writes_nothing, writes_then, writes_failed}
-use Rattle.hz_states.specs.States.{state_at}
-use Rattle.hz_timing.specs.declared.script.Assumption.{Assumption}
-use Rattle.hz_explore.specs.declared.room.ExploreRoom.{ExploreRoom}
-use Rattle.hz_explore.specs.Reached.{nodes_of}
-use Rattle.hz_explore.specs.Transitions.{Transition, ends_of}
-use Rattle.hz_explore.specs.Exploration.{Explored, all_nodes, all_transitions, found_by}
-use Rattle.hz_explore.specs.ExploreText.{all_explored_text, explored_text}
-use Rattle.hz_explore.specs.Progress.{Extends, IsSoFar}
-use Rattle.hz_explore.specs.Inside.{Counts, IsCounted, bursts_in}
+use Rattle.hz_explore.proofs.Words.{true≢false, length-map, flat_map-append, Netlist, IsStableStart, expansion_of, Writes, has_failed, writes_nothing, writes_then, writes_failed}
+use Rattle.hz_explore.proofs.Words.{state_at, Assumption, ExploreRoom, nodes_of, Transition, ends_of, Explored, all_nodes, all_transitions, found_by, all_explored_text, Extends}
+use Rattle.hz_explore.proofs.Words.{IsSoFar, Counts, bursts_in}
+use Rattle.hz_explore.specs.ExploreText.{explored_text}
+use Rattle.hz_explore.specs.Inside.{IsCounted}
 use Rattle.hz_explore.proofs.FoundLemmas.{extends-by, extends-self}
 use Rattle.hz_explore.proofs.FrontLemmas.{front-at, nodes-expansion, none-behind, single-state}
 use Rattle.hz_explore.proofs.ProgressLemmas.{rest-exists, so-far-first, so-far-next}

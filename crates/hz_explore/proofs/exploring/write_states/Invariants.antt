@@ -1,12 +1,7 @@
 -- The states so far are explored, and their lines are given.
 use Rattle.std.proofs.Common.{◌≡◌, ◌*◌, ◌≤◌, Bool, false, List, length}
-use Rattle.hz_net.specs.Variables.{expansion_of}
-use Rattle.hz_write.specs.Writer.{Writes, has_failed}
-use Rattle.hz_states.specs.States.{state_at}
-use Rattle.hz_explore.specs.Exploration.{Explored, all_transitions}
-use Rattle.hz_explore.specs.ExploreText.{all_explored_text}
-use Rattle.hz_explore.specs.Progress.{Extends, IsSoFar}
-use Rattle.hz_explore.specs.Inside.{Counts, IsExploreRoom, bursts_in, changes_in}
+use Rattle.hz_explore.proofs.Words.{expansion_of, Writes, has_failed, state_at, Explored, all_transitions, all_explored_text, Extends, IsSoFar, Counts, bursts_in, changes_in}
+use Rattle.hz_explore.specs.Inside.{IsExploreRoom}
 use Rattle.hz_explore.proofs.exploring.write_states.Given as goal
 
 abbrev pub invariant-loop-number : goal.invariant-loop-number

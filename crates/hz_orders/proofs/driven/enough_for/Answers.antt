@@ -1,12 +1,7 @@
 -- By what the variable is.
 use Rattle.std.proofs.Common.{arith, ◌+◌, ◌∙◌, sym, subst, List, length, IsTrue}
-use Rattle.std.specs.Prelude.{slice_range}
-use Rattle.hz_core.specs.Gate.{takes}
-use Rattle.hz_core.specs.Netlist.{gate_at}
-use Rattle.hz_net.specs.Network.{Driver, network_of}
-use Rattle.hz_net.specs.Variables.{first_wire}
-use Rattle.hz_net.specs.declared.variable.VarKind.TheVariants.{Input, Gate as GateVariable, Wire as WireVariable}
-use Rattle.hz_lists.proofs.PartLemmas.{length-part}
+use Rattle.hz_orders.proofs.Words.{slice_range, takes, gate_at, Driver, network_of, first_wire, Input, length-part}
+use Rattle.hz_net.specs.declared.variable.VarKind.TheVariants.{Gate as GateVariable, Wire as WireVariable}
 use Rattle.hz_free.proofs.NextWord.{driven-as, driven-at}
 use Rattle.hz_orders.proofs.Enough.{counted-part, enough-for, enough-input, enough-wire, enough-gate}
 use Rattle.hz_orders.proofs.WithTables.{if-both, tabled-hold}

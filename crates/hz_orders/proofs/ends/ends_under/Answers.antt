@@ -1,8 +1,6 @@
 -- What the words tell is narrowed.
 use Rattle.std.proofs.Common.{◌≡◌, ◌∙◌, length, ap, sym, subst, arith}
-use Rattle.std.proofs.lemmas.List.{length-map}
-use Rattle.hz_core.specs.Ternary.{Refines}
-use Rattle.hz_orders.specs.Outcomes.{told_value}
+use Rattle.hz_orders.proofs.Words.{length-map, Refines, told_value}
 use Rattle.hz_orders.proofs.Narrowed.{told-covers, written-whole, covers-state}
 use Rattle.hz_orders.proofs.ends.ends_under.Goals as goal
 

@@ -1,11 +1,8 @@
 -- By what the variable is.
 use Rattle.std.proofs.Common.{arith, ◌∙◌, sym, ap, subst, length, IsTrue}
-use Rattle.hz_core.specs.Gate.{takes}
-use Rattle.hz_core.specs.Netlist.{gate_at}
-use Rattle.hz_net.specs.Network.{network_of, driver_value3}
-use Rattle.hz_net.specs.Variables.{first_wire}
-use Rattle.hz_net.specs.declared.variable.VarKind.TheVariants.{Input, Gate as GateVariable, Wire as WireVariable}
-use Rattle.hz_lists.proofs.PartLemmas.{length-part}
+use Rattle.hz_orders.proofs.Words.{takes, gate_at, network_of, first_wire, Input, length-part}
+use Rattle.hz_net.specs.Network.{driver_value3}
+use Rattle.hz_net.specs.declared.variable.VarKind.TheVariants.{Gate as GateVariable, Wire as WireVariable}
 use Rattle.hz_free.proofs.NextWord.{driven-as, driven-at}
 use Rattle.hz_orders.proofs.ends.excited.Goals as goal
 

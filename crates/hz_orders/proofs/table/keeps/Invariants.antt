@@ -1,7 +1,6 @@
 -- Each order so far is kept.
 use Rattle.std.proofs.Common.{ℕ, ◌<◌, length, slice_index_or}
-use Rattle.hz_orders.specs.Parts.{IsKeptAt}
-use Rattle.hz_orders.specs.declared.order.Order.{Order}
+use Rattle.hz_orders.proofs.Words.{IsKeptAt, Order}
 use Rattle.hz_orders.proofs.table.keeps.Given as goal
 
 abbrev pub invariant-loop-place : goal.invariant-loop-place

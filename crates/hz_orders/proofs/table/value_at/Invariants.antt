@@ -1,7 +1,6 @@
 -- The letters so far stand.
 use Rattle.std.proofs.Common.{◌≡◌, ℕ, ◌<◌, false, length, slice_index_or}
-use Rattle.hz_net.specs.Network.{bit_at}
-use Rattle.hz_word.specs.Pairs.{last_after, constant_word}
+use Rattle.hz_orders.proofs.Words.{bit_at, last_after, constant_word}
 use Rattle.hz_orders.proofs.table.value_at.Given as goal
 
 abbrev pub invariant-loop-pin : goal.invariant-loop-pin

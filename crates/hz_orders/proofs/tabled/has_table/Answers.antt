@@ -1,10 +1,7 @@
 -- By what the first wire of the order is.
 use Rattle.std.proofs.Common.{◌<◌, length, arith}
-use Rattle.hz_net.specs.Network.{network_of, External, Function}
-use Rattle.hz_net.specs.Variables.{first_wire}
-use Rattle.hz_core.specs.Netlist.{gate_at}
-use Rattle.hz_net.specs.declared.variable.VarKind.TheVariants.{Input, Gate as GateVariable, Wire as WireVariable}
-use Rattle.hz_net.proofs.Wired.{is_gate_of}
+use Rattle.hz_orders.proofs.Words.{network_of, External, Function, first_wire, gate_at, Input, is_gate_of}
+use Rattle.hz_net.specs.declared.variable.VarKind.TheVariants.{Gate as GateVariable, Wire as WireVariable}
 use Rattle.hz_net.proofs.DrivenLemmas.{driven-as}
 use Rattle.hz_orders.proofs.WithTables.{none-outside, none-at-node, has-at, at-has}
 use Rattle.hz_orders.proofs.tabled.has_table.Goals.{After-kind_of}

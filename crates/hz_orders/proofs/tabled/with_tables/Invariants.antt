@@ -1,7 +1,6 @@
 -- The orders so far whose gates have tables.
 use Rattle.std.proofs.Common.{take}
-use Rattle.hz_net.specs.Network.{network_of}
-use Rattle.hz_orders.specs.Tabled.{AreTabled}
+use Rattle.hz_orders.proofs.Words.{network_of, AreTabled}
 use Rattle.hz_orders.proofs.tabled.with_tables.Given as goal
 
 abbrev pub invariant-loop-order : goal.invariant-loop-order

@@ -1,8 +1,6 @@
 -- The word that is told anew is counted.
 use Rattle.std.proofs.Common.{sym, subst}
-use Rattle.hz_net.specs.Network.{bit_at}
-use Rattle.hz_word.specs.declared.count.Count.{Count}
-use Rattle.hz_word.specs.Capped.{IsWithinCap}
+use Rattle.hz_orders.proofs.Words.{bit_at, Count, IsWithinCap}
 use Rattle.hz_orders.proofs.Enough.{told-raised}
 use Rattle.hz_orders.proofs.telling.raise.Goals.{then-often, else-often}
 use Rattle.hz_orders.proofs.telling.raise.Goals as goal

@@ -1,11 +1,6 @@
 -- The words that were raised, if they are inductive, else those that were given.
 use Rattle.std.proofs.Common.{◌≡◌, ◌∙◌, List, sym, subst, inl, inr}
-use Rattle.std.proofs.lemmas.Bool.{cases_Bool}
-use Rattle.hz_net.specs.Network.{network_of}
-use Rattle.hz_word.specs.declared.word.Word.{Word}
-use Rattle.hz_orders.specs.declared.order.Order.{Order}
-use Rattle.hz_orders.specs.Inductive.{IsInductiveHolding}
-use Rattle.hz_orders.specs.Tabled.{AreTabled}
+use Rattle.hz_orders.proofs.Words.{cases_Bool, network_of, Word, Order, IsInductiveHolding, AreTabled}
 use Rattle.hz_orders.proofs.Folded.{inductive-holding}
 use Rattle.hz_orders.proofs.telling.tell_all.Goals.{After-replace_if}
 use Rattle.hz_orders.proofs.telling.tell_all.Goals as goal

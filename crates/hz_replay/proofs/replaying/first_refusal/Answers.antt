@@ -1,10 +1,6 @@
 -- What is said of the replayer is said of the text.
 use Rattle.std.proofs.Common.{◌∙◌, ap, List, Bool, All, length, sym, subst}
-use Rattle.hz_core.specs.Netlist.{Netlist}
-use Rattle.hz_net.specs.Network.{Driver, network_of}
-use Rattle.hz_net.specs.Variables.{expansion_of}
-use Rattle.hz_gmw.specs.Replayer.{Replayer}
-use Rattle.hz_replay.specs.Replaying.{IsAcceptedRun, IsFirstRefusal}
+use Rattle.hz_replay.proofs.Words.{Netlist, Driver, network_of, expansion_of, Replayer, IsAcceptedRun, IsFirstRefusal}
 use Rattle.hz_replay.proofs.RunSteps.{of-text}
 use Rattle.hz_replay.proofs.NamedVariables.{refusal-variable}
 use Rattle.hz_replay.proofs.replaying.first_refusal.Goals as goal

@@ -1,11 +1,6 @@
 use Rattle.std.proofs.Common.{◌∙◌, Bool, List, get_or, subst, ap, All}
+use Rattle.hz_replay.proofs.Words.{option_map, Driver, network_of, Replayer, IsAcceptedRun, IsRefusedRun, run_of, no_run}
 use Rattle.std.proofs.lemmas.List.{take_all}
-use Rattle.std.specs.Option.{option_map}
-use Rattle.hz_net.specs.Network.{Driver, network_of}
-use Rattle.hz_gmw.specs.Replayer.{Replayer}
-use Rattle.hz_replay.specs.Replaying.{IsAcceptedRun, IsRefusedRun}
-use Rattle.hz_replay.specs.ReplayerSteps.{run_of}
-use Rattle.hz_replay.specs.Named.{no_run}
 use Rattle.hz_replay.proofs.RunSteps.{same-run, run-variables, run-few, begun-again, kept-again, accepted-more, first-refused}
 use Rattle.hz_replay.proofs.replaying.replay_runs.Goals as goal
 

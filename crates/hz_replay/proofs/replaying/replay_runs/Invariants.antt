@@ -1,7 +1,5 @@
 use Rattle.std.proofs.Common.{take, All}
-use Rattle.hz_net.specs.Network.{network_of}
-use Rattle.hz_gmw.specs.Replayer.{initial_replayer}
-use Rattle.hz_replay.specs.Replaying.{IsAcceptedRun}
+use Rattle.hz_replay.proofs.Words.{network_of, initial_replayer, IsAcceptedRun}
 use Rattle.hz_replay.specs.ReplayerSteps.{KeepsInitialState}
 use Rattle.hz_replay.proofs.replaying.replay_runs.Given as goal
 

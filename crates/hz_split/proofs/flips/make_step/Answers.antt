@@ -1,7 +1,6 @@
 -- Each variable changes in turn.
 use Rattle.std.proofs.Common.{◌∙◌, not, refl, arith, get_or}
-use Rattle.std.proofs.lemmas.List.{length-set}
-use Rattle.hz_net.specs.Network.{bit_at}
+use Rattle.hz_split.proofs.Words.{length-set, bit_at}
 use Rattle.hz_gmw.proofs.CurrentStateLemmas.{flip-step, flip-state}
 use Rattle.hz_split.proofs.flips.make_step.Goals as goal
 

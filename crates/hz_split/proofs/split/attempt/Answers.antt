@@ -1,8 +1,7 @@
 -- The turns fit, and the run is added if its last state is stable.
 use Rattle.std.proofs.Common.{◌≡◌, ◌∙◌, ◌*◌, Bool, length, sym, ap}
-use Rattle.hz_net.specs.Network.{network_of}
+use Rattle.hz_split.proofs.Words.{network_of, turns_from, flips_alone}
 use Rattle.hz_gmw.proofs.CoverB.{length-end_of}
-use Rattle.hz_split.specs.Attempts.{turns_from, flips_alone}
 use Rattle.hz_split.proofs.FoundLemmas.{few-turns}
 use Rattle.hz_split.proofs.split.attempt.Goals as goal
 

@@ -1,12 +1,6 @@
 -- Two attempts from a state, and then the others.
 use Rattle.std.proofs.Common.{◌∙◌, ◌+◌, ◌-◌, ◌<◌, ◌++◌, ℕ, Bool, List, [], length, take, get_or, min, refl, sym, ap, arith}
-use Rattle.std.specs.List.{range_with_len}
-use Rattle.hz_net.specs.Network.{network_of}
-use Rattle.hz_gmw.specs.Runs.{state_after}
-use Rattle.hz_gmw.proofs.Flips.{length-state_after}
-use Rattle.hz_split.specs.Attempts.{most_fronts}
-use Rattle.hz_split.specs.FoundRuns.{FoundOf}
-use Rattle.hz_split.specs.declared.pick.Pick.TheVariants.{Least, Greatest}
+use Rattle.hz_split.proofs.Words.{range_with_len, network_of, state_after, length-state_after, most_fronts, FoundOf, Least, Greatest}
 use Rattle.hz_split.proofs.FoundLemmas.{attempts-more, attempts-two, attempt-variables}
 use Rattle.hz_split.proofs.split.attempt_all.Goals as goal
 

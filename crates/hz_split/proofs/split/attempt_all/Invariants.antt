@@ -1,9 +1,6 @@
 use Rattle.std.proofs.Common.{◌≡◌, ◌-◌, length}
-use Rattle.std.specs.List.{range_with_len}
+use Rattle.hz_split.proofs.Words.{range_with_len, network_of, most_fronts, with_attempts}
 use Rattle.std.specs.Prelude.{min}
-use Rattle.hz_net.specs.Network.{network_of}
-use Rattle.hz_split.specs.Attempts.{most_fronts}
-use Rattle.hz_split.specs.FoundRuns.{with_attempts}
 use Rattle.hz_split.proofs.split.attempt_all.Given as goal
 
 -- the attempts that are left make the whole

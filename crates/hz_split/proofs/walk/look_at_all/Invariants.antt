@@ -1,6 +1,5 @@
 use Rattle.std.proofs.Common.{◌≡◌, ◌<◌, ℕ, length}
-use Rattle.hz_net.specs.Network.{network_of, bit_at}
-use Rattle.hz_gmw.specs.Instability.{is_unstable}
+use Rattle.hz_split.proofs.Words.{network_of, bit_at, is_unstable}
 use Rattle.hz_split.proofs.walk.look_at_all.Given as goal
 
 -- the marks so far are right

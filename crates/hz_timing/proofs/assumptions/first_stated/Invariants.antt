@@ -1,7 +1,5 @@
 use Rattle.std.proofs.Common.{◌≡◌, [], take, drop}
-use Rattle.hz_timing.specs.TimedResolution.{numbered_timed_resolutions}
-use Rattle.hz_timing.specs.TimedFault.{is_stated}
-use Rattle.hz_timing.specs.TimedRules.{first_line_behind}
+use Rattle.hz_timing.proofs.Words.{numbered_timed_resolutions, is_stated, first_line_behind}
 use Rattle.hz_timing.proofs.EntryLaws.{stated_by}
 use Rattle.hz_timing.proofs.assumptions.first_stated.Given as goal
 

@@ -1,7 +1,5 @@
 use Rattle.std.proofs.Common.{◌≡◌, drop}
-use Rattle.hz_line.specs.Statement.{first_passing_line}
-use Rattle.hz_timing.specs.TimedResolution.{numbered_timed_resolutions}
-use Rattle.hz_timing.specs.TimedFault.{lacks_number}
+use Rattle.hz_timing.proofs.Words.{first_passing_line, numbered_timed_resolutions, lacks_number}
 use Rattle.hz_timing.proofs.assumptions.first_without_number.Given as goal
 
 abbrev pub invariant-loop-entry : goal.invariant-loop-entry

@@ -1,6 +1,5 @@
 use Rattle.std.proofs.Common.{◌≡◌, drop}
-use Rattle.hz_timing.specs.TimedResolution.{timed_resolution_of}
-use Rattle.hz_timing.specs.TimedFault.{is_stated}
+use Rattle.hz_timing.proofs.Words.{timed_resolution_of, is_stated}
 use Rattle.hz_timing.proofs.EntryLaws.{stated_by}
 use Rattle.hz_timing.proofs.assumptions.states_any.Given as goal
 

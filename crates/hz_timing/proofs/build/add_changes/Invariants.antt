@@ -1,7 +1,5 @@
 use Rattle.std.proofs.Common.{◌≡◌, ◌++◌, drop, map}
-use Rattle.hz_text.specs.Assignment.{assignment_to}
-use Rattle.hz_timing.specs.TimedResolution.{numbered_timed_resolutions}
-use Rattle.hz_timing.specs.TimedText.{changes_up_to_start}
+use Rattle.hz_timing.proofs.Words.{assignment_to, numbered_timed_resolutions, changes_up_to_start}
 use Rattle.hz_timing.proofs.build.add_changes.Given as goal
 
 abbrev pub invariant-loop-entry : goal.invariant-loop-entry

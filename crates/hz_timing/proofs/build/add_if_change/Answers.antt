@@ -1,7 +1,6 @@
 use Rattle.std.proofs.Common.{◌∙◌, ◌++◌, ◌∷◌, [], List, map, sym, ap}
-use Rattle.hz_text.specs.Assignment.{Assigned, assignment_to}
+use Rattle.hz_timing.proofs.Words.{Assigned, assignment_to, timed_resolution_of}
 use Rattle.hz_timing.specs.declared.statement.TimedHeld.{TimedHeld}
-use Rattle.hz_timing.specs.TimedResolution.{timed_resolution_of}
 use Rattle.hz_timing.specs.TimedReading.{changes_of}
 use Rattle.hz_timing.proofs.build.add_if_change.Goals as goal
 

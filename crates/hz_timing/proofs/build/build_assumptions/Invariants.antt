@@ -1,6 +1,5 @@
 use Rattle.std.proofs.Common.{◌≡◌, ◌++◌, drop}
-use Rattle.hz_timing.specs.TimedResolution.{numbered_timed_resolutions}
-use Rattle.hz_timing.specs.TimedText.{assumptions_in}
+use Rattle.hz_timing.proofs.Words.{numbered_timed_resolutions, assumptions_in}
 use Rattle.hz_timing.proofs.build.build_assumptions.Given as goal
 
 abbrev pub invariant-loop-entry : goal.invariant-loop-entry

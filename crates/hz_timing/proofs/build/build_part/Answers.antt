@@ -1,9 +1,8 @@
 use Rattle.std.proofs.Common.{◌≡◌, ◌∙◌, ap, length, map}
+use Rattle.hz_timing.proofs.Words.{length-map, ScriptOf}
 use Rattle.std.specs.List.{range_with_len}
-use Rattle.std.proofs.lemmas.List.{length-map}
 use Rattle.std.proofs.lemmas.List.FromFn.{length-range_with_len}
 use Rattle.hz_text.specs.Assignment.{assigned_bit}
-use Rattle.hz_script.specs.ScriptValue.{ScriptOf}
 use Rattle.hz_timing.proofs.build.build_part.Goals as goal
 
 pub add_changes-requires-clause-sound : goal.add_changes-requires-clause-sound

@@ -1,8 +1,7 @@
 use Rattle.std.proofs.Common.{◌+◌, List, sym, subst}
+use Rattle.hz_timing.proofs.Words.{TimedEntry, timed_resolution_of, numbered_timed_resolutions, IsSoundTimed, changes_up_to_start}
 use Rattle.std.proofs.lemmas.List.Elements.{All-drop, All-take}
-use Rattle.hz_timing.specs.TimedResolution.{TimedEntry, timed_resolution_of, numbered_timed_resolutions}
-use Rattle.hz_timing.specs.TimedReading.{IsSoundTimed, AreFewChanges, ArePartsPushed}
-use Rattle.hz_timing.specs.TimedText.{changes_up_to_start}
+use Rattle.hz_timing.specs.TimedReading.{AreFewChanges, ArePartsPushed}
 use Rattle.hz_timing.proofs.EntryLaws.{entry-sound, few-behind, rest-whole, parts-step, parts-end}
 use Rattle.hz_timing.proofs.build.build_parts.Goals as goal
 

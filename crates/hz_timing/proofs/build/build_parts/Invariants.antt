@@ -1,7 +1,5 @@
 use Rattle.std.proofs.Common.{List, ◌++◌, drop}
-use Rattle.hz_script.specs.ScriptValue.{ScriptOf}
-use Rattle.hz_timing.specs.TimedResolution.{numbered_timed_resolutions}
-use Rattle.hz_timing.specs.TimedText.{parts_in, AreScriptsOf}
+use Rattle.hz_timing.proofs.Words.{ScriptOf, numbered_timed_resolutions, parts_in, AreScriptsOf}
 use Rattle.hz_timing.proofs.build.build_parts.Given as goal
 
 abbrev pub invariant-loop-place : goal.invariant-loop-place

@@ -1,6 +1,5 @@
 use Rattle.std.proofs.Common.{◌≡◌, false, drop}
-use Rattle.hz_timing.specs.TimedResolution.{numbered_timed_resolutions}
-use Rattle.hz_timing.specs.TimedRules.{misplaced_from}
+use Rattle.hz_timing.proofs.Words.{numbered_timed_resolutions, misplaced_from}
 use Rattle.hz_timing.proofs.order.first_misplaced.Given as goal
 
 abbrev pub invariant-loop-entry : goal.invariant-loop-entry

@@ -1,6 +1,5 @@
 use Rattle.std.proofs.Common.{◌≡◌, drop}
-use Rattle.hz_timing.specs.TimedResolution.{numbered_timed_resolutions}
-use Rattle.hz_timing.specs.TimedFault.{has_begun}
+use Rattle.hz_timing.proofs.Words.{numbered_timed_resolutions, has_begun}
 use Rattle.hz_timing.proofs.order.has_begun.Given as goal
 
 abbrev pub invariant-loop-entry : goal.invariant-loop-entry

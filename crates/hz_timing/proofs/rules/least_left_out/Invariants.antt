@@ -1,6 +1,5 @@
 use Rattle.std.proofs.Common.{◌≡◌, drop}
-use Rattle.hz_timing.specs.TimedResolution.{numbered_timed_resolutions}
-use Rattle.hz_timing.specs.TimedFault.{counted}
+use Rattle.hz_timing.proofs.Words.{numbered_timed_resolutions, counted}
 use Rattle.hz_timing.specs.TimedRules.{left_out_by_any}
 use Rattle.hz_timing.proofs.rules.least_left_out.Given as goal
 

@@ -1,8 +1,5 @@
 use Rattle.std.proofs.Common.{◌∙◌, ℕ, Option, Some, ap, sym}
-use Rattle.hz_line.specs.Token.{tokens_of}
-use Rattle.hz_timing.specs.TimedStatement.{Ideal}
-use Rattle.hz_timing.specs.TimedResolution.{ResolvedTimed}
-use Rattle.hz_timing.specs.VariableRead.{variable_written}
+use Rattle.hz_timing.proofs.Words.{tokens_of, Ideal, ResolvedTimed, variable_written}
 use Rattle.hz_timing.proofs.StatementLaws.{ideal-none, ideal-some}
 use Rattle.hz_timing.proofs.statement.read_ideal.Goals as goal
 

@@ -1,6 +1,5 @@
 use Rattle.std.proofs.Common.{◌∙◌, ap, sym}
-use Rattle.hz_line.specs.Token.{tokens_of}
-use Rattle.hz_timing.specs.VariableRead.{number_by_variables}
+use Rattle.hz_timing.proofs.Words.{tokens_of, number_by_variables}
 use Rattle.hz_timing.proofs.StatementLaws.{number-left-out, number-none}
 use Rattle.hz_timing.proofs.statement.read_number.Goals as goal
 

@@ -1,6 +1,5 @@
 use Rattle.std.proofs.Common.{◌∙◌, ap, sym}
-use Rattle.hz_line.specs.Token.{tokens_of}
-use Rattle.hz_timing.specs.VariableRead.{variable_written, order_by_variables}
+use Rattle.hz_timing.proofs.Words.{tokens_of, variable_written, order_by_variables}
 use Rattle.hz_timing.proofs.StatementLaws.{order-tokens, order-none, at-end}
 use Rattle.hz_timing.proofs.statement.read_order.Goals as goal
 

@@ -1,11 +1,7 @@
 use Rattle.std.proofs.Common.{◌∙◌, ℕ, List, Option, ap, sym}
-use Rattle.std.specs.Option.{option_map}
+use Rattle.hz_timing.proofs.Words.{option_map, tokens_of, variable_named, Ordered, variable_written, number_by_variables, order_by_variables}
 use Rattle.hz_line.specs.Reading.{by_tokens}
-use Rattle.hz_line.specs.Token.{tokens_of}
 use Rattle.hz_run_text.specs.RunStatement.{Variable, variables_of_tokens, with_first}
-use Rattle.hz_run_text.specs.RunResolution.{variable_named}
-use Rattle.hz_timing.specs.TimedStatement.{Ordered}
-use Rattle.hz_timing.specs.VariableRead.{variable_written, number_by_variables, order_by_variables}
 use Rattle.hz_timing.proofs.StatementLaws.{order-alone, order-of-two, at-end}
 use Rattle.hz_timing.proofs.statement.read_second.Goals as goal
 

@@ -1,9 +1,7 @@
 use Rattle.std.proofs.Common.{inl, inr, arith, List, Option, Bool, subst}
-use Rattle.hz_pass.specs.Completed.{IsStartFault}
+use Rattle.hz_changes.proofs.Words.{IsStartFault, StartPrints, Ends-more}
 use Rattle.hz_changes.specs.Reports.{Reports}
 use Rattle.hz_refusal.specs.Second.{Started}
-use Rattle.hz_refusal.specs.Refused.{StartPrints}
-use Rattle.hz_refusal.proofs.PutEndings.{Ends-more}
 use Rattle.hz_changes.proofs.AcceptedStarts.{ListsInputs-front, start-accepted}
 use Rattle.hz_refusal.proofs.RefusedTexts.{start-refused}
 use Rattle.hz_changes.proofs.analysis.AnalysesOnScript.with_script.Goals as goal

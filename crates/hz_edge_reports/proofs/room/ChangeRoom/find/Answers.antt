@@ -1,6 +1,5 @@
 -- What is found step by step is right.
-use Rattle.std.proofs.lemmas.Result.{on_ok_weaker}
-use Rattle.hz_edge_reports.specs.declared.room.ChangeRoom.{ChangeRoom}
+use Rattle.hz_edge_reports.proofs.Words.{on_ok_weaker, ChangeRoom}
 use Rattle.hz_edge_reports.proofs.FoundRooms.{room-right}
 use Rattle.hz_edge_reports.proofs.room.ChangeRoom.find.Goals as goal
 

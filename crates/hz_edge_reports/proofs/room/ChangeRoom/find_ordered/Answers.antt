@@ -1,12 +1,6 @@
 -- What is told under the orders, and the run that is found, are right edges under the orders.
 use Rattle.std.proofs.Common.{◌≡◌, ◌∙◌, length, refl, sym, ap, subst, arith, List, ℕ, Bool}
-use Rattle.std.specs.Vec.{with_items}
-use Rattle.std.proofs.lemmas.List.{with_items_is}
-use Rattle.hz_core.specs.declared.tri.Tri.{Tri}
-use Rattle.hz_core.specs.Ternary.{Refines}
-use Rattle.hz_net.specs.Network.{Driver, network_of}
-use Rattle.hz_word.specs.declared.word.Word.{Word}
-use Rattle.hz_orders.specs.declared.order.Order.{Order}
+use Rattle.hz_edge_reports.proofs.Words.{with_items, with_items_is, Tri, Refines, Driver, network_of, Word, Order}
 use Rattle.hz_edge_reports.proofs.OrderedRight.{edges-under, long-outcome}
 use Rattle.hz_edge_reports.proofs.FoundRooms.{same-ordered}
 use Rattle.hz_edge_reports.proofs.room.ChangeRoom.find_ordered.Goals as goal

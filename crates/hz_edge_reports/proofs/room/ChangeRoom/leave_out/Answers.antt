@@ -1,8 +1,7 @@
 -- If no order was found, none is used: what is told without orders is inductive under any.
 use Rattle.std.proofs.Common.{◌∙◌, sym, arith, []}
+use Rattle.hz_edge_reports.proofs.Words.{eqb-true, network_of}
 use Rattle.std.specs.Vec.{vec_len}
-use Rattle.std.proofs.lemmas.Bool.{eqb-true}
-use Rattle.hz_net.specs.Network.{network_of}
 use Rattle.hz_edge_reports.proofs.UsedMore.{no-order, none-found}
 use Rattle.hz_edge_reports.proofs.room.ChangeRoom.leave_out.Goals as goal
 

@@ -1,7 +1,6 @@
 -- There are no more inputs than variables.
 use Rattle.std.proofs.Common.{◌≤◌, length, arith, sym, ap, ◌∙◌, Bool}
-use Rattle.std.proofs.lemmas.List.{length-take-le}
-use Rattle.hz_net.proofs.Places.{length-network_of}
+use Rattle.hz_edge_reports.proofs.Words.{length-take-le, length-network_of}
 use Rattle.hz_edge_reports.proofs.room.ChangeRoom.take_input.Goals as goal
 use Rattle.hz_edge_reports.proofs.room.ChangeRoom.take_input.Goals.{After-as_slice}
 

@@ -1,13 +1,6 @@
 -- What is told stands in the room.
 use Rattle.std.proofs.Common.{◌≡◌, ◌∙◌, length, sym, ap, subst, arith, Bool, List}
-use Rattle.std.specs.Vec.{with_items}
-use Rattle.std.proofs.lemmas.List.{with_items_is}
-use Rattle.std.proofs.lemmas.Result.{on_ok_weaker}
-use Rattle.hz_net.specs.Network.{Driver, network_of}
-use Rattle.hz_word.specs.declared.word.Word.{Word}
-use Rattle.hz_orders.specs.declared.order.Order.{Order}
-use Rattle.hz_orders.specs.Inductive.{IsInductiveUnder}
-use Rattle.hz_orders.specs.Tabled.{AreTabled}
+use Rattle.hz_edge_reports.proofs.Words.{with_items, with_items_is, on_ok_weaker, Driver, network_of, Word, Order, IsInductiveUnder, AreTabled}
 use Rattle.hz_edge_reports.proofs.room.ChangeRoom.tell_found.Goals as goal
 
 pub returns-clause-told : goal.returns-clause-told

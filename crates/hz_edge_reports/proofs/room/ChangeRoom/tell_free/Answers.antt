@@ -1,10 +1,6 @@
 -- What is told stands in the room.
 use Rattle.std.proofs.Common.{◌≡◌, ◌∙◌, length, sym, ap, arith, List}
-use Rattle.std.specs.Vec.{with_items}
-use Rattle.std.proofs.lemmas.List.{with_items_is}
-use Rattle.std.proofs.lemmas.Result.{on_ok_weaker}
-use Rattle.hz_net.specs.Network.{network_of}
-use Rattle.hz_word.specs.declared.word.Word.{Word}
+use Rattle.hz_edge_reports.proofs.Words.{with_items, with_items_is, on_ok_weaker, network_of, Word}
 use Rattle.hz_edge_reports.proofs.FoundRooms.{same-inductive}
 use Rattle.hz_edge_reports.proofs.room.ChangeRoom.tell_free.Goals as goal
 

@@ -1,8 +1,6 @@
 -- Without a change in the script, each input alone is a burst.
 use Rattle.std.proofs.Common.{◌≡◌, ◌∙◌, sym, ap, ℕ, ◌+◌, ◌-◌, ◌<◌, Bool, List, [], ◌∷◌, take, drop, slice_get, Some, length, arith}
-use Rattle.std.proofs.lemmas.List.{length-map}
-use Rattle.hz_explore.specs.Bursts.{each_alone}
-use Rattle.hz_explore.specs.Inside.{bursts_in}
+use Rattle.hz_explore.proofs.Words.{length-map, each_alone, bursts_in}
 use Rattle.hz_explore.proofs.BurstLemmas.{no-changes, one-alone}
 use Rattle.hz_explore.proofs.bursts.Bursts.get.Goals as goal
 

@@ -1,7 +1,6 @@
 -- There is a place for each node, and the classes are those of the change.
 use Rattle.std.proofs.Common.{◌≡◌, ◌∙◌, ap, length, arith}
-use Rattle.hz_core.specs.Netlist.{Netlist}
-use Rattle.hz_net.proofs.Places.{length-network_of}
+use Rattle.hz_explore.proofs.Words.{Netlist, length-network_of}
 use Rattle.hz_explore.proofs.room.ExploreRoom.find.Goals as goal
 
 pub count_classes-requires-clause-start : goal.count_classes-requires-clause-start

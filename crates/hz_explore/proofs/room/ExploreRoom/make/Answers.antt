@@ -1,9 +1,6 @@
 -- What was found of the change stays, and where it ends is noted by it.
 use Rattle.std.proofs.Common.{◌≡◌, ◌∙◌, refl, ap, Bool, ◌&&◌}
-use Rattle.hz_edge_reports.specs.EdgeChanges.{ChangeOf}
-use Rattle.hz_edge_reports.specs.Room.{change_of}
-use Rattle.hz_explore.specs.declared.counting.Classes.{Classes}
-use Rattle.hz_explore.specs.Counts.{classes_of, is_clean_change, is_shown}
+use Rattle.hz_explore.proofs.Words.{ChangeOf, change_of, Classes, classes_of, is_clean_change, is_shown}
 use Rattle.hz_explore.specs.Transitions.{node_classes}
 use Rattle.hz_explore.proofs.RoomLemmas.{noted-from}
 use Rattle.hz_explore.proofs.room.ExploreRoom.make.Goals as goal

@@ -1,8 +1,6 @@
 -- A state has a value for each node.
 use Rattle.std.proofs.Common.{◌≡◌, ◌∙◌, sym, ap, length, arith}
-use Rattle.std.proofs.lemmas.List.{length-take-le}
-use Rattle.hz_core.specs.Netlist.{Netlist}
-use Rattle.hz_net.proofs.Places.{length-network_of}
+use Rattle.hz_explore.proofs.Words.{length-take-le, Netlist, length-network_of}
 use Rattle.hz_explore.proofs.room.ExploreRoom.new.Goals as goal
 
 pub slice_bounds-add-end : goal.slice_bounds-add-end

@@ -1,9 +1,6 @@
 -- A state has a value for each node, and one change more is counted.
 use Rattle.std.proofs.Common.{◌≡◌, ◌∙◌, sym, ap, true, Bool, length, arith}
-use Rattle.std.proofs.lemmas.List.{length-take-le}
-use Rattle.hz_core.specs.Netlist.{Netlist}
-use Rattle.hz_net.proofs.Places.{length-network_of}
-use Rattle.hz_explore.specs.Inside.{changes_in}
+use Rattle.hz_explore.proofs.Words.{length-take-le, Netlist, length-network_of, changes_in}
 use Rattle.hz_explore.proofs.room.ExploreRoom.note_end.Goals as goal
 
 pub returns-in-Some-clause-few : goal.returns-in-Some-clause-few

@@ -1,14 +1,10 @@
 -- The attempts of a right finding.
 use Rattle.std.proofs.Common.{◌≡◌, ◌∙◌, ◌++◌, ℕ, List, [], Bool, length, take, map, min, sym, ap, subst, arith}
-use Rattle.std.specs.List.{range_with_len}
+use Rattle.hz_split.proofs.Words.{range_with_len, append-nil, Netlist, network_of, end_of, most_fronts, FoundOf}
 use Rattle.std.specs.Vec.{with_items}
-use Rattle.std.proofs.lemmas.List.{append-nil, with_items_is}
-use Rattle.hz_core.specs.Netlist.{Netlist}
-use Rattle.hz_net.specs.Network.{network_of}
+use Rattle.std.proofs.lemmas.List.{with_items_is}
 use Rattle.hz_desk.specs.Finding.{finding_of}
-use Rattle.hz_gmw.specs.Runs.{end_of}
-use Rattle.hz_split.specs.Attempts.{attempts, most_fronts}
-use Rattle.hz_split.specs.FoundRuns.{FoundOf}
+use Rattle.hz_split.specs.Attempts.{attempts}
 use Rattle.hz_split.specs.Splits.{SplitOf}
 use Rattle.hz_split.proofs.FoundWhole.{StandsFor, EndsAs, stands-all, attempts-variables}
 use Rattle.hz_split.proofs.OutcomeRuns.{are-settled, attempts-run, fronts-run}

@@ -1,10 +1,9 @@
 -- The turns of an attempt.
 use Rattle.std.proofs.Common.{◌∙◌, ◌∷◌, ◌*◌, ◌+◌, [], ℕ, Bool, length, sym, ap, arith, rules}
+use Rattle.hz_split.proofs.Words.{network_of, length-state_after}
 use Rattle.std.specs.Option.{is_none}
 use Rattle.std.proofs.lemmas.List.{length-append}
-use Rattle.hz_net.specs.Network.{network_of}
 use Rattle.hz_gmw.specs.Follower.{FollowerOf}
-use Rattle.hz_gmw.proofs.Flips.{length-state_after}
 use Rattle.hz_split.specs.Trials.{TrialOf}
 use Rattle.hz_split.proofs.AttemptLemmas.{tried-more, tried-stopped, picked-inside, picked-settled, none-from}
 use Rattle.hz_split.proofs.trial.Trial.make.Goals as goal

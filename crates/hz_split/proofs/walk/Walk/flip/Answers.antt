@@ -1,9 +1,8 @@
 -- The variable and its readers are looked at.
 use Rattle.std.proofs.Common.{◌≡◌, ◌∙◌, ◌<◌, Bool, false, not, [], ◌∷◌, length, set, sym, ap, subst, arith}
-use Rattle.std.proofs.lemmas.List.{length-set, get_or_read}
-use Rattle.hz_net.specs.Network.{network_of}
+use Rattle.hz_split.proofs.Words.{length-set, network_of, state_after}
+use Rattle.std.proofs.lemmas.List.{get_or_read}
 use Rattle.hz_gmw.specs.Follower.{FollowerOf, follower_at, follower_after}
-use Rattle.hz_gmw.specs.Runs.{state_after}
 use Rattle.hz_gmw.proofs.Flips.{state_after-one}
 use Rattle.hz_split.proofs.WalkLemmas.{long-marks, flip-marks}
 use Rattle.hz_split.proofs.walk.Walk.flip.Goals as goal
