@@ -8,7 +8,7 @@ use Rattle.hz_gmw.specs.Runs.{end_of}
 use Rattle.hz_gmw.specs.RunRecord.{flip_count}
 use Rattle.hz_reach.specs.Spread.{IsSpreadRun}
 use Rattle.hz_reach.specs.Counts.{StepsAreNoMoreThanFlips, FlipsOfSpreadRun}
-use Rattle.hz_cycle.specs.Cycles.{IsSettleRun, IsCycleOf}
+use Rattle.hz_reach.specs.Cycles.{IsSettleRun, IsCycleOf}
 use Rattle.hz_desk.specs.Filled.{AreRuns}
 use Rattle.hz_core.specs.Limits.{most_variables}
 

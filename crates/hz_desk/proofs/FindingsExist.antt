@@ -8,7 +8,7 @@ use Rattle.hz_gmw.specs.Runs.{end_of}
 use Rattle.hz_gmw.specs.Cycles.{states_of}
 use Rattle.hz_reach.specs.Counts.{StepsAreNoMoreThanFlips, FlipsOfSpreadRun}
 use Rattle.hz_reach.specs.Existence.{SpreadRunExists}
-use Rattle.hz_cycle.specs.Exact.{SettleRunsExist}
+use Rattle.hz_reach.specs.Exact.{SettleRunsExist}
 use Rattle.hz_free.specs.FreePart.{MarksExist}
 use Rattle.hz_free.specs.VariableWords.{WordsExist}
 use Rattle.hz_desk.specs.Existence.{FindingsExist}

@@ -23,7 +23,7 @@ use Rattle.hz_gmw.specs.Instability.{is_unstable, unstable_count}
 use Rattle.hz_gmw.proofs.Counting.{weight, range-same}
 use Rattle.hz_gmw.proofs.Counts.{counted-unstable, nothing, zeros}
 use Rattle.hz_reach.specs.Spread.{IsSpreadRun}
-use Rattle.hz_cycle.specs.Cycles.{IsSettleRun, IsCycleOf}
+use Rattle.hz_reach.specs.Cycles.{IsSettleRun, IsCycleOf}
 use Rattle.hz_word.specs.declared.word.Word.{Word}
 use Rattle.hz_free.specs.VariableWords.{WordsExist}
 use Rattle.hz_desk.specs.declared.finding.Row.{Row}

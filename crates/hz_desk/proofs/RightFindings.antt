@@ -11,8 +11,8 @@ use Rattle.hz_net.specs.Passes.{algorithm_a, algorithm_b, AreRounds}
 use Rattle.hz_gmw.specs.Runs.{IsRun, IsReachable, JoinsTo, end_of}
 use Rattle.hz_gmw.specs.Cycles.{IsOutcome}
 use Rattle.hz_reach.specs.Spread.{IsSpreadRun}
-use Rattle.hz_cycle.specs.Cycles.{IsSettleRun, IsCycleOf}
-use Rattle.hz_cycle.specs.Exact.{RunsShowB}
+use Rattle.hz_reach.specs.Cycles.{IsSettleRun, IsCycleOf}
+use Rattle.hz_reach.specs.Exact.{RunsShowB}
 use Rattle.hz_word.specs.declared.word.Word.{Word}
 use Rattle.hz_word.specs.Capped.{capped_word}
 use Rattle.hz_word.specs.Covers.{Covers}

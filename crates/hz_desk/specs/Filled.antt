@@ -9,7 +9,7 @@ use Rattle.hz_gmw.specs.Runs.{end_of}
 use Rattle.hz_gmw.specs.RunRecord.{flip_count}
 use Rattle.hz_gmw.specs.Cycles.{states_of}
 use Rattle.hz_reach.specs.Spread.{IsSpreadRun}
-use Rattle.hz_cycle.specs.Cycles.{IsSettleRun, IsCycleOf}
+use Rattle.hz_reach.specs.Cycles.{IsSettleRun, IsCycleOf}
 use Rattle.hz_word.specs.declared.word.Word.{Word}
 use Rattle.hz_free.specs.VariableWords.{AreCappedWords}
 use Rattle.hz_desk.specs.declared.finding.Row.{Row}

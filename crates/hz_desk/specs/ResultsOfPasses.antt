@@ -5,7 +5,7 @@ use Rattle.hz_core.specs.Netlist.{Netlist}
 use Rattle.hz_net.specs.Network.{network_of, IsState, AreByVariable}
 use Rattle.hz_net.specs.Passes.{algorithm_a, algorithm_b, AreRounds, AreRanks, AreSettlingRounds}
 use Rattle.hz_reach.specs.declared.change.Change.{Change}
-use Rattle.hz_cycle.specs.declared.settling.Results.{Results}
+use Rattle.hz_reach.specs.declared.settling.Results.{Results}
 use Rattle.hz_desk.specs.declared.passes.Passes.{Passes}
 
 -- there is a place for each variable

@@ -7,7 +7,7 @@ use Rattle.hz_gmw.specs.Runs.{IsRun, end_of, IsReachable, JoinsTo}
 use Rattle.hz_gmw.specs.RunRecord.{flip_count}
 use Rattle.hz_gmw.specs.Cycles.{states_of, IsOutcome}
 use Rattle.hz_reach.specs.Spread.{IsSpreadRun}
-use Rattle.hz_cycle.specs.Cycles.{IsSettleRun, IsCycleOf}
+use Rattle.hz_reach.specs.Cycles.{IsSettleRun, IsCycleOf}
 use Rattle.hz_word.specs.declared.count.Count.{Count}
 use Rattle.hz_word.specs.declared.word.Word.{Word}
 use Rattle.hz_word.specs.Covers.{Covers}

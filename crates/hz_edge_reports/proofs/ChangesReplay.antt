@@ -6,7 +6,7 @@ use Rattle.std.proofs.lemmas.List.Elements.{All-cons}
 use Rattle.hz_gmw.specs.Runs.{IsReachable, JoinsTo}
 use Rattle.hz_gmw.specs.RunRecord.{flip_count}
 use Rattle.hz_reach.specs.Existence.{AIsExact}
-use Rattle.hz_cycle.specs.Exact.{BIsExact}
+use Rattle.hz_reach.specs.Exact.{BIsExact}
 use Rattle.hz_run_text.specs.Limits.{most_steps}
 use Rattle.hz_run_text.specs.RunReadBack.{PrintedRunsAreRead}
 use Rattle.hz_run_text.specs.RunValue.{all_steps}

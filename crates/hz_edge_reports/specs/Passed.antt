@@ -2,7 +2,7 @@
 use Rattle.std.specs.Prelude.{◌≡◌, ℕ, []}
 use Rattle.hz_core.specs.Netlist.{Netlist}
 use Rattle.hz_net.specs.Network.{network_of}
-use Rattle.hz_cycle.specs.Cycles.{AreResultsOfBoth}
+use Rattle.hz_reach.specs.Cycles.{AreResultsOfBoth}
 use Rattle.hz_free.specs.Inductive.{IsInductive}
 use Rattle.hz_orders.specs.Inductive.{IsInductiveUnder}
 use Rattle.hz_edge_reports.specs.declared.room.ChangeRoom.{ChangeRoom}

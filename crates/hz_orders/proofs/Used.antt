@@ -8,7 +8,7 @@ use Rattle.hz_core.specs.Ternary.{tri_of, IsJoinOf}
 use Rattle.hz_net.specs.Passes.{algorithm_a, algorithm_b, IsResult}
 use Rattle.hz_gmw.specs.Runs.{JoinsTo}
 use Rattle.hz_gmw.specs.Cycles.{IsOutcome}
-use Rattle.hz_cycle.specs.Exact.{BIsExact}
+use Rattle.hz_reach.specs.Exact.{BIsExact}
 use Rattle.hz_orders.specs.Orders.{MustMove}
 
 -- the join is a bit exactly if all members of the set are this bit

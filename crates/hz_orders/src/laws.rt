@@ -22,7 +22,7 @@ ghost use Rattle.hz_orders.specs.Inductive.{IsInductiveUnder};
 ghost use Rattle.hz_orders.specs.Ideal.{FollowsFromIdeal, IsIdeal};
 ghost use Rattle.hz_orders.specs.Outcomes.{IsKeptOutcome, narrowings, told_values};
 
-use hz_cycle::b_is_exact;
+use hz_reach::b_is_exact;
 
 /// Along every run from a stable start that keeps the orders, a word of words that are inductive under them covers the history of its
 /// variable.

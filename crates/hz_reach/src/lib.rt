@@ -9,6 +9,10 @@
 //! | `sorting` | variables by a key and then by number |
 //! | `existence` | the law that there are spread runs |
 //! | `counts` | laws on the length of runs |
+//! | `settling` | the settle run, which ends in a turned state |
+//! | `cycling` | the cycle, two passes from a turned state back to it |
+//! | `passing` | a pass: each unsettled gate has a turn |
+//! | `laws` | that there always are such runs, and that Algorithm B is exact |
 #![tactic(auto)]
 
 ghost use Rattle.hz_reach.specs.Existence.{AIsExact};
@@ -17,16 +21,23 @@ use hz_gmw::a_covers;
 
 mod change;
 mod counts;
+mod cycling;
 mod existence;
+mod laws;
+mod passing;
 mod scratch;
+mod settling;
 mod sorting;
 mod spreading;
 mod turn;
 
 pub use change::Change;
 pub use counts::{run_counts, run_ends, spread_flips};
+pub use cycling::{cycle_in_order, cycle_run};
 pub use existence::spread_runs_exist;
+pub use laws::{b_is_exact, runs_show_b, settle_runs_exist};
 pub use scratch::Scratch;
+pub use settling::{Results, settle_from, settle_run};
 pub use spreading::{add_unused, sparing_in_order, spread_in_order, spread_run};
 pub use turn::{is_gate, take_turn};
 

@@ -2,17 +2,16 @@
 ghost use Rattle.std.specs.Prelude.{◌≡◌, ◌<◌, length};
 ghost use Rattle.hz_net.specs.Network.{network_of, AreByVariable, IsInput};
 ghost use Rattle.hz_net.specs.Starts.{IsStableStart};
-ghost use Rattle.hz_cycle.specs.Cycles.{AreResultsOfBoth};
+ghost use Rattle.hz_reach.specs.Cycles.{AreResultsOfBoth};
 
 use crate::passes::{Room, make_passes};
 use hz_bounds::tell;
 use hz_core::Tri;
-use hz_cycle::Results;
+use hz_reach::{Change, Results};
 use hz_free::Free;
 use hz_net::Net;
 use hz_orders::{Order, OrderedChange, ends_under, tell_under};
 use hz_pass::Front;
-use hz_reach::Change;
 use hz_samples::{letter_of, net_of, runs_of};
 use hz_word::{Count, Word};
 use std::alloc::Global;

@@ -11,11 +11,11 @@ use Rattle.hz_net.specs.Starts.{IsStableStart}
 use Rattle.hz_reach.specs.Existence.{SparingRunExists}
 use Rattle.hz_reach.specs.Spread.{IsSparingRun, changes_in}
 use Rattle.hz_reach.proofs.RanksOrderGates.{turns-of}
-use Rattle.hz_cycle.specs.Cycles.{IsSettleRun}
-use Rattle.hz_cycle.proofs.Change.{IsChange, change-fixed, fixed-and-ranked}
-use Rattle.hz_cycle.proofs.PassTurns.{pass-found}
-use Rattle.hz_cycle.proofs.RoundSteps.{rounds-found}
-use Rattle.hz_cycle.proofs.SettleRunExists.{before-pass, rounds-may-begin, pass-may-begin, settle-found}
+use Rattle.hz_reach.specs.Cycles.{IsSettleRun}
+use Rattle.hz_reach.proofs.Change.{IsChange, change-fixed, fixed-and-ranked}
+use Rattle.hz_reach.proofs.PassTurns.{pass-found}
+use Rattle.hz_reach.proofs.RoundSteps.{rounds-found}
+use Rattle.hz_reach.proofs.SettleRunExists.{before-pass, rounds-may-begin, pass-may-begin, settle-found}
 use Rattle.hz_witness.specs.Witness.{AreCounts, IsWitness}
 use Rattle.hz_witness.specs.Existence.{WitnessesExist}
 use Rattle.hz_witness.proofs.Shown.{settle-nodes}

@@ -1,7 +1,7 @@
 //! The run that serves all variables.
 ghost use Rattle.std.specs.Prelude.{OnOk, IfOk, IsTrue};
 ghost use Rattle.hz_net.specs.Network.{network_of, AreByVariable, IsInput, IsState};
-ghost use Rattle.hz_cycle.specs.Cycles.{AreResultsOfBoth, IsSettleRun};
+ghost use Rattle.hz_reach.specs.Cycles.{AreResultsOfBoth, IsSettleRun};
 ghost use Rattle.hz_reach.specs.Given.{IsScratchFor};
 ghost use Rattle.hz_witness.specs.Witness.{AreSettled, DoNodesChange, IsWitness, ShowsNodes};
 
@@ -12,9 +12,8 @@ use crate::counting::count_changes;
 use crate::moving::Moving;
 use crate::plan::plan_of;
 use hz_core::{Memory, Tri};
-use hz_cycle::{Results, settle_from};
+use hz_reach::{Change, Results, Scratch, settle_from, sparing_in_order};
 use hz_gmw::Run;
-use hz_reach::{Change, Scratch, sparing_in_order};
 use std::alloc::Global;
 
 /// One run of a change in which each node that Algorithm A makes X changes, and how often it changes each variable. In its last state each

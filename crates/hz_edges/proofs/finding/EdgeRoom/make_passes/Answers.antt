@@ -3,7 +3,7 @@ use Rattle.std.proofs.Common.{◌≡◌, List, ℕ, sym, subst, arith}
 use Rattle.std.specs.Vec.{with_items}
 use Rattle.std.proofs.lemmas.List.{with_items_is}
 use Rattle.hz_core.specs.declared.tri.Tri.{Tri}
-use Rattle.hz_cycle.specs.Cycles.{AreResultsOfBoth}
+use Rattle.hz_reach.specs.Cycles.{AreResultsOfBoth}
 use Rattle.hz_edges.proofs.finding.EdgeRoom.make_passes.Goals as goal
 
 pub returns-clause-results : goal.returns-clause-results
