@@ -12,7 +12,7 @@ use Rattle.hz_witness.specs.Witness.{AreCounts}
 use Rattle.hz_bounds.specs.Ranges.{bound_of}
 use Rattle.hz_orders.specs.Orders.{Keeps}
 use Rattle.hz_orders.specs.Outcomes.{IsKeptOutcome}
-use Rattle.hz_kept.specs.Kept.{IsKeptRun}
+use Rattle.hz_orders.specs.Kept.{IsKeptRun}
 use Rattle.hz_edge_reports.specs.OrderedEdges.{ChangesAtMostUnder}
 
 -- words cover all runs that keep orders

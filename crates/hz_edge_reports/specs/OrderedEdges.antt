@@ -12,7 +12,7 @@ use Rattle.hz_witness.specs.Witness.{AreCounts}
 use Rattle.hz_orders.specs.declared.order.Order.{Order}
 use Rattle.hz_orders.specs.Orders.{Keeps}
 use Rattle.hz_orders.specs.Outcomes.{IsKeptOutcome}
-use Rattle.hz_kept.specs.Kept.{IsKeptRun}
+use Rattle.hz_orders.specs.Kept.{IsKeptRun}
 use Rattle.hz_edges.specs.Edges.{EdgesOf, range_at}
 
 -- along every run from a start that keeps orders, variable i changes at most so often

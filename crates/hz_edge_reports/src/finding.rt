@@ -12,11 +12,10 @@ ghost use Rattle.hz_edge_reports.specs.Passed.{AreToldIfUsed, HavePassed, RestsF
 
 use crate::room::ChangeRoom;
 use hz_core::{Memory, Tri};
-use hz_reach::{Change, a_is_exact, b_is_exact};
 use hz_free::Free;
-use hz_kept::kept_run;
 use hz_net::Net;
-use hz_orders::{OrderedChange, ends_under, ordered_covers};
+use hz_orders::{OrderedChange, ends_under, kept_run, ordered_covers};
+use hz_reach::{Change, a_is_exact, b_is_exact};
 use hz_run_text::printed_runs_are_read;
 use hz_timing::Assumption;
 use std::alloc::Global;

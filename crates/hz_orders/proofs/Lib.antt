@@ -34,3 +34,9 @@ pub mod Enough
 pub mod Narrowed
 -- Pins have a table or not, the orders whose gates have tables, and what they bound
 pub mod WithTables
+-- The history of a variable has as many changes as steps list it
+pub mod History
+-- One step more of a run that keeps orders
+pub mod Steps
+-- What was replayed, counted and looked at is a run that keeps the orders and comes to rest
+pub mod Shown

@@ -4,9 +4,8 @@ ghost use Rattle.hz_net.specs.Network.{IsInput};
 ghost use Rattle.hz_net.specs.Starts.{IsStableStart};
 
 use hz_gmw::Run;
-use hz_kept::kept_run;
 use hz_net::Net;
-use hz_orders::{Order, OrderedChange};
+use hz_orders::{Order, OrderedChange, kept_run};
 use hz_samples::{net_of, runs_of};
 use std::alloc::Global;
 use std::test::Fail;

@@ -6,11 +6,11 @@ ghost use Rattle.hz_reach.specs.Cycles.{AreResultsOfBoth};
 ghost use Rattle.hz_reach.specs.Given.{AreResultsOfA};
 
 use hz_core::Tri;
-use hz_reach::{Change, Results, Scratch, cycle_run, settle_run, spread_run};
 use hz_gmw::Run;
 use hz_lists::Steps;
 use hz_net::Net;
 use hz_pass::{Front, settle, spread};
+use hz_reach::{Change, Results, Scratch, cycle_run, settle_run, spread_run};
 use hz_samples::{TWO_WIRES, net_of, push_numbers, push_values, runs_of};
 use std::alloc::Global;
 use std::marker::Brand;

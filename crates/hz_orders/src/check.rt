@@ -4,12 +4,12 @@ ghost use Rattle.std.specs.Prelude.{◌≡◌, ◌+◌, ◌<◌, ◌≤◌, ◌�
 ghost use Rattle.hz_lists.specs.Listed.{is_listed, IsRepeatFree};
 ghost use Rattle.hz_net.specs.Network.{bit_at};
 ghost use Rattle.hz_reach.specs.Spread.{changes_in};
-ghost use Rattle.hz_kept.specs.Counted.{IsNoted, KeepsByCounts, KeepsUpTo};
+ghost use Rattle.hz_orders.specs.Counted.{IsNoted, KeepsByCounts, KeepsUpTo};
 
+use crate::Order;
 use crate::tables::{is_marked, number_at, set_mark};
 use hz_core::Memory;
 use hz_gmw::Run;
-use hz_orders::Order;
 use std::alloc::Global;
 
 /// Which variables are the second wires of orders. The check looks whether it is right.

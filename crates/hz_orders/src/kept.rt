@@ -3,14 +3,14 @@ ghost use Rattle.std.specs.Prelude.{◌≡◌, false, [], IfOk, OnOk, IsTrue};
 ghost use Rattle.hz_net.specs.Network.{network_of, AreByVariable, IsInput};
 ghost use Rattle.hz_net.specs.Starts.{IsStableStart};
 ghost use Rattle.hz_witness.specs.Witness.{AreCounts};
-ghost use Rattle.hz_kept.specs.Kept.{IsKeptRun};
+ghost use Rattle.hz_orders.specs.Kept.{IsKeptRun};
 
+use crate::OrderedChange;
 use crate::check::{keeps_orders, second_wires};
 use crate::rest::comes_to_rest;
 use crate::search::find_steps;
 use hz_core::Memory;
 use hz_gmw::Run;
-use hz_orders::OrderedChange;
 use std::alloc::Global;
 
 /// Searches a run that keeps the orders and comes to rest, and counts how often it changes each variable. If it finds none, which says

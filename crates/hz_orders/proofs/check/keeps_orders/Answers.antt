@@ -1,8 +1,8 @@
 -- One step more is counted, and keeps the orders.
 use Rattle.std.proofs.Common.{◌≡◌, ℕ, All, length, refl, subst, arith}
-use Rattle.hz_kept.specs.Counted.{IsNoted}
-use Rattle.hz_kept.proofs.Steps.{step-kept}
-use Rattle.hz_kept.proofs.check.keeps_orders.Goals as goal
+use Rattle.hz_orders.specs.Counted.{IsNoted}
+use Rattle.hz_orders.proofs.Steps.{step-kept}
+use Rattle.hz_orders.proofs.check.keeps_orders.Goals as goal
 
 pub loop-number-preserved : goal.loop-number-preserved
 loop-number-preserved c =

@@ -1,7 +1,7 @@
 -- What is counted so far, and what is left, is the whole.
 use Rattle.std.proofs.Common.{◌≡◌, ℕ, ◌+◌, ◌∷◌, [], ◌<◌, length, drop, get_or}
 use Rattle.hz_reach.specs.Spread.{changes_in}
-use Rattle.hz_kept.proofs.check.count_step.Given as goal
+use Rattle.hz_orders.proofs.check.count_step.Given as goal
 
 abbrev pub invariant-loop-var : goal.invariant-loop-var
 invariant-loop-var l =

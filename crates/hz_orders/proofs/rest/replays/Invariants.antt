@@ -1,7 +1,7 @@
 -- The steps so far were made.
 use Rattle.std.proofs.Common.{◌≡◌, take}
 use Rattle.hz_gmw.specs.Replayer.{StandsFor}
-use Rattle.hz_kept.proofs.rest.replays.Given as goal
+use Rattle.hz_orders.proofs.rest.replays.Given as goal
 
 abbrev pub invariant-loop-number : goal.invariant-loop-number
 invariant-loop-number l =

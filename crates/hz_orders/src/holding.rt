@@ -1,8 +1,8 @@
 //! Which orders hold a variable back: those whose second wire it is, while their first wire has not changed.
 
+use crate::Order;
 use crate::tables::{is_marked, number_at, set_number};
 use hz_core::Memory;
-use hz_orders::Order;
 use std::alloc::Global;
 
 /// The orders, and the lists of those that have a variable as their first wire, or as their second. Orders are numbered from 1 on.

@@ -1,7 +1,7 @@
 -- The steps are a run, which comes to rest.
 use Rattle.std.proofs.Common.{refl}
-use Rattle.hz_kept.proofs.Shown.{rested}
-use Rattle.hz_kept.proofs.rest.rests.Goals as goal
+use Rattle.hz_orders.proofs.Shown.{rested}
+use Rattle.hz_orders.proofs.rest.rests.Goals as goal
 
 pub returns : goal.returns
 returns c = λ still.

@@ -8,7 +8,7 @@ use Rattle.hz_reach.specs.Spread.{changes_in}
 use Rattle.hz_witness.proofs.Counted.{changes-step}
 use Rattle.hz_witness.proofs.Tried.{changes-no}
 use Rattle.hz_orders.specs.declared.order.Order.{Order}
-use Rattle.hz_kept.specs.Counted.{IsNoted, KeepsByCounts, KeepsUpTo}
+use Rattle.hz_orders.specs.Counted.{IsNoted, KeepsByCounts, KeepsUpTo}
 
 -- counts that are right after so many steps
 abbrev pub AreCountedTo : ℕ → List (List ℕ) → List ℕ → Type 0

@@ -4,11 +4,11 @@
 //! and pulses show. If this does not come to rest, it goes on with the oldest one first. A variable that an order holds waits until the first
 //! wire of the order has changed. If only such variables are unstable, those change in one step that may together.
 
+use crate::OrderedChange;
 use crate::holding::Holding;
 use crate::tables::{is_marked, number_at, set_mark, set_number};
 use hz_core::Memory;
 use hz_gmw::Run;
-use hz_orders::OrderedChange;
 use std::alloc::Global;
 
 /// A search: the state so far, how often each variable has changed, what is due to be looked at from a place on, once each, and what waits

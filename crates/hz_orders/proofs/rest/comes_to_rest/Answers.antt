@@ -1,6 +1,6 @@
 -- The replayer began at the start.
-use Rattle.hz_kept.proofs.Shown.{began}
-use Rattle.hz_kept.proofs.rest.comes_to_rest.Goals as goal
+use Rattle.hz_orders.proofs.Shown.{began}
+use Rattle.hz_orders.proofs.rest.comes_to_rest.Goals as goal
 
 pub returns : goal.returns
 returns c = λ still.

@@ -2,8 +2,8 @@
 use Rattle.std.proofs.Common.{ℕ, ◌<◌, All, length, sym, subst}
 use Rattle.hz_net.specs.Network.{network_of}
 use Rattle.hz_witness.proofs.Shown.{run-inside, run-once}
-use Rattle.hz_kept.proofs.Shown.{kept-run}
-use Rattle.hz_kept.proofs.kept.is_kept_run.Goals as goal
+use Rattle.hz_orders.proofs.Shown.{kept-run}
+use Rattle.hz_orders.proofs.kept.is_kept_run.Goals as goal
 
 pub keeps_orders-requires-clause-once : goal.keeps_orders-requires-clause-once
 keeps_orders-requires-clause-once c =

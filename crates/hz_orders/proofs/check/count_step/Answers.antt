@@ -5,7 +5,7 @@ use Rattle.hz_lists.specs.Listed.{IsRepeatFree}
 use Rattle.hz_lists.proofs.ListedLemmas.{is_repeat_free-right}
 use Rattle.hz_reach.specs.Spread.{changes_in}
 use Rattle.hz_witness.proofs.Counted.{count-more, changes-nothing}
-use Rattle.hz_kept.proofs.check.count_step.Goals as goal
+use Rattle.hz_orders.proofs.check.count_step.Goals as goal
 
 pub loop-var-init : goal.loop-var-init
 loop-var-init c = λ i few. refl

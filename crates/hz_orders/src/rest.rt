@@ -3,11 +3,11 @@ ghost use Rattle.std.specs.Prelude.{◌≡◌, ◌<◌, ◌++◌, ℕ, List, [],
 ghost use Rattle.hz_net.specs.Network.{network_of, IsInput, IsState, IsVariable};
 ghost use Rattle.hz_gmw.specs.Instability.{unstable_count};
 ghost use Rattle.hz_gmw.specs.Replayer.{StandsFor};
-ghost use Rattle.hz_kept.specs.Kept.{IsRestingRun};
+ghost use Rattle.hz_orders.specs.Kept.{IsRestingRun};
 
+use crate::OrderedChange;
 use hz_core::Memory;
 use hz_gmw::{Replay, Run};
-use hz_orders::OrderedChange;
 use std::alloc::Global;
 
 /// Whether steps are a run of a change, and no variable is unstable in its last state.

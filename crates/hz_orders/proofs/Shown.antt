@@ -10,9 +10,9 @@ use Rattle.hz_gmw.proofs.ReplayLemmas.{same-bit, none-unstable}
 use Rattle.hz_reach.specs.Spread.{changes_in}
 use Rattle.hz_orders.specs.declared.order.Order.{Order}
 use Rattle.hz_orders.specs.Orders.{KeepsOrder}
-use Rattle.hz_kept.specs.Kept.{IsKeptRun, IsRestingRun}
-use Rattle.hz_kept.specs.Counted.{IsNoted, KeepsUpTo}
-use Rattle.hz_kept.proofs.History.{changes-history}
+use Rattle.hz_orders.specs.Kept.{IsKeptRun, IsRestingRun}
+use Rattle.hz_orders.specs.Counted.{IsNoted, KeepsUpTo}
+use Rattle.hz_orders.proofs.History.{changes-history}
 
 -- a replayer that stands for steps, where no variable is unstable
 pub resting : (now : Replayer) (steps : List (List ℕ)) → StandsFor now steps → unstable_count (network_of now.circuit) now.input now.state ≡ 0 → IsRestingRun (network_of now.circuit) now.input now.marked steps
