@@ -1,4 +1,4 @@
-//! Runs that show both values of each variable that Algorithm A makes X.
+//! Runs that show both values of each variable that Algorithm A, or Algorithm B, makes X.
 //!
 //! | Module | What lives in it |
 //! |---|---|
