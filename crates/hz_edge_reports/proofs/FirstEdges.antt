@@ -5,7 +5,7 @@ use Rattle.hz_edge_reports.proofs.Words.{EdgeAnalysis, AreEdgeAnalyses, IsNextSt
 use Rattle.hz_seq.proofs.FirstAnalyses.{input-long}
 use Rattle.hz_changes.proofs.Writable.{IsStopInside}
 use Rattle.hz_edge_reports.specs.declared.finding.Making.{Making}
-use Rattle.hz_edge_reports.specs.EdgeChanges.{Found, Stopped, IsChangeFrom, all_stopped}
+use Rattle.hz_edge_reports.specs.EdgeChanges.{Found, Stopped, IsChangeFrom, all_unanalysed}
 use Rattle.hz_edge_reports.specs.Going.{GoesOn}
 use Rattle.hz_edge_reports.specs.Room.{CanBeMade, Leads}
 use Rattle.hz_edge_reports.proofs.Leading.{found-leads, stopper-inside}
@@ -13,7 +13,7 @@ use Rattle.hz_edge_reports.proofs.Leading.{found-leads, stopper-inside}
 -- what changes come to from a state, or from a variable that stops them
 abbrev pub AreLaterEdges : Netlist → ℕ → List Assumption → List Bool → Option ℕ → List (List (ℕ × Bool)) → List EdgeAnalysis → Type 0
 AreLaterEdges netlist cap assumptions at None changes analyses = AreEdgeAnalyses netlist cap assumptions at changes analyses
-AreLaterEdges netlist cap assumptions at (Some var) changes analyses = analyses ≡ all_stopped var changes
+AreLaterEdges netlist cap assumptions at (Some var) changes analyses = analyses ≡ all_unanalysed var changes
 
 -- From a start, these are the analyses of these changes, which lead to a state or to a variable that stops. With what any further changes
 -- come to from there, they are the analyses of all.
@@ -177,10 +177,10 @@ module _ (exist : ChangesExist) (netlist : Netlist) (cap : ℕ) (assumptions : L
             let rest = edges-exist changes next.0 next.1.stable in
             (Found made.0 ∷ rest.0, (made.1, made.2, inl (next.0, next.1, rest.1)))
             )
-        | inr last ↦ (Found made.0 ∷ all_stopped last.0 changes, (made.1, made.2, inr (last.0, last.1, refl)))
+        | inr last ↦ (Found made.0 ∷ all_unanalysed last.0 changes, (made.1, made.2, inr (last.0, last.1, refl)))
       ]
 
   -- and from where the changes so far lead
   pub later-exist : (later : List (List (ℕ × Bool))) (at : List Bool) (stopped : Option ℕ) → (stopped ≡ None → IsStableStart netlist at) → (more : List EdgeAnalysis) × AreLaterEdges netlist cap assumptions at stopped later more
   later-exist later at None stable = edges-exist later at (stable refl)
-  later-exist later at (Some var) stable = (all_stopped var later, refl)
+  later-exist later at (Some var) stable = (all_unanalysed var later, refl)

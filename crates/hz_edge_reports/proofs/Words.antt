@@ -5,7 +5,7 @@ pub use Rattle.hz_core.specs.declared.tri.Tri.{Tri}
 pub use Rattle.hz_edge_reports.specs.ChangesExist.{ChangesExist}
 pub use Rattle.hz_edge_reports.specs.EdgeChanges.{AreEdgeAnalyses, AreRightUnder, ChangeOf, EdgeAnalysis, IsNextStart, IsRightChange, IsStopper}
 pub use Rattle.hz_edge_reports.specs.EdgeReports.{ArePartAnalyses}
-pub use Rattle.hz_edge_reports.specs.EdgeText.{analyses_text, parts_text}
+pub use Rattle.hz_edge_reports.specs.EdgeText.{edge_changes_text, parts_text}
 pub use Rattle.hz_edge_reports.specs.OrderedEdges.{AreEdgesUnder}
 pub use Rattle.hz_edge_reports.specs.Room.{IsChangeRoom, change_of}
 pub use Rattle.hz_edge_reports.specs.UsedOrders.{AreFound, AreUsed}

@@ -91,8 +91,8 @@ pub data EdgeAnalysis : Type 0 where
   Stopped : (var : ℕ) → EdgeAnalysis
 
 -- changes that a variable stops, all of them
-abbrev pub all_stopped : ℕ → List (List (ℕ × Bool)) → List EdgeAnalysis
-all_stopped var changes = map (λ change. Stopped var) changes
+abbrev pub all_unanalysed : ℕ → List (List (ℕ × Bool)) → List EdgeAnalysis
+all_unanalysed var changes = map (λ change. Stopped var) changes
 
 -- a change from a start: it begins there, under the input with its assignments
 pub record IsChangeFrom (netlist : Netlist) (start : List Bool) (change : List (ℕ × Bool))
@@ -113,4 +113,4 @@ AreEdgeAnalyses netlist cap assumptions start (change ∷ changes) (Found found 
     × (((next : List Bool) × IsNextStart netlist found.ends next
     × AreEdgeAnalyses netlist cap assumptions next changes analyses)
     ⊎ ((var : ℕ) × IsStopper netlist found.input found.ends var
-    × (analyses ≡ all_stopped var changes)))
+    × (analyses ≡ all_unanalysed var changes)))

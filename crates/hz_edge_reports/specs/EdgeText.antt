@@ -109,27 +109,27 @@ found_text netlist show assumptions number change found =
     (run_text_printed netlist (run_of_change netlist found))
 
 -- the lines of what one change comes to
-abbrev pub analysis_text : Netlist → Show → List Assumption → ℕ → List (ℕ × Bool) →
+abbrev pub edge_change_text : Netlist → Show → List Assumption → ℕ → List (ℕ × Bool) →
     EdgeAnalysis → List ℕ
-analysis_text netlist show assumptions number change (Found found) =
+edge_change_text netlist show assumptions number change (Found found) =
     found_text netlist show assumptions number change found
-analysis_text netlist show assumptions number change (Stopped var) =
+edge_change_text netlist show assumptions number change (Stopped var) =
     stopped_text netlist number change var
 
 -- those of changes, the first of which has a number
-abbrev pub analyses_text : Netlist → Show → List Assumption → ℕ → List (List (ℕ × Bool)) →
+abbrev pub edge_changes_text : Netlist → Show → List Assumption → ℕ → List (List (ℕ × Bool)) →
     List EdgeAnalysis → List ℕ
-analyses_text netlist show assumptions number [] analyses = []
-analyses_text netlist show assumptions number (change ∷ changes) [] = []
-analyses_text netlist show assumptions number (change ∷ changes) (analysis ∷ analyses) =
-    analysis_text netlist show assumptions number change analysis
-    ++ analyses_text netlist show assumptions (number + 1) changes analyses
+edge_changes_text netlist show assumptions number [] analyses = []
+edge_changes_text netlist show assumptions number (change ∷ changes) [] = []
+edge_changes_text netlist show assumptions number (change ∷ changes) (analysis ∷ analyses) =
+    edge_change_text netlist show assumptions number change analysis
+    ++ edge_changes_text netlist show assumptions (number + 1) changes analyses
 
 -- those of the parts of a script, each with its start; changes are counted through all parts
 abbrev pub parts_text : Netlist → Show → List Assumption → ℕ → List (List Bool) →
     List ScriptOf → List (List EdgeAnalysis) → List ℕ
 parts_text netlist show assumptions number (start ∷ starts) (part ∷ parts) (analyses ∷ later) =
     start_line netlist start
-    ++ analyses_text netlist show assumptions number part.changes analyses
+    ++ edge_changes_text netlist show assumptions number part.changes analyses
     ++ parts_text netlist show assumptions (number + length part.changes) starts parts later
 parts_text netlist show assumptions number starts parts all = []

@@ -13,7 +13,7 @@ ghost use Rattle.hz_timing.specs.Timed.{AreAcceptedStarts};
 ghost use Rattle.hz_report.specs.Report.{start_line};
 ghost use Rattle.hz_edge_reports.specs.EdgeChanges.{AreEdgeAnalyses, ChangeOf, EdgeAnalysis, IsChangeFrom, IsRightChange};
 ghost use Rattle.hz_edge_reports.specs.EdgeReports.{ArePartAnalyses, IsEdgeReport, ReportsEdges};
-ghost use Rattle.hz_edge_reports.specs.EdgeText.{analyses_text, analysis_text, found_text, parts_text};
+ghost use Rattle.hz_edge_reports.specs.EdgeText.{edge_changes_text, edge_change_text, found_text, parts_text};
 ghost use Rattle.hz_edge_reports.specs.Room.{CanBeMade, IsChangeRoom, Leads};
 ghost use Rattle.hz_edge_reports.specs.Going.{GoesOn};
 
@@ -153,7 +153,7 @@ fn write_part<K: Sink>(
         start part.now.changes analyses
         × Writes K.output K.faults
         (start_line making.now.net.now start
-        ++ analyses_text making.now.net.now show making.now.assumptions.now
+        ++ edge_changes_text making.now.net.now show making.now.assumptions.now
         number part.now.changes analyses)
         writer.old writer.new }
     ensures none_waits { NoneWaits writer.new }
@@ -192,7 +192,7 @@ fn write_changes<K: Sink>(
         × AreEdgeAnalyses making.now.net.now making.now.cap making.now.assumptions.now
         room.old.start.items part.now.changes analyses
         × Writes K.output K.faults
-        (analyses_text making.now.net.now show making.now.assumptions.now number
+        (edge_changes_text making.now.net.now show making.now.assumptions.now number
         part.now.changes analyses)
         writer.old writer.new }
     ensures none_waits { NoneWaits writer.new }
@@ -232,7 +232,7 @@ fn write_next<K: Sink>(
     ensures gave { (analysis : EdgeAnalysis)
         × GoesOn making.now change.now analysis (has_failed writer.new) room.old room.new
         × Writes K.output K.faults
-        (analysis_text making.now.net.now show making.now.assumptions.now number
+        (edge_change_text making.now.net.now show making.now.assumptions.now number
         change.now analysis)
         writer.old writer.new }
     ensures none_waits { NoneWaits writer.new }

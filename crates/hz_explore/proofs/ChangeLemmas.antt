@@ -1,6 +1,6 @@
 -- One transition that is made, and its line.
 use Rattle.std.proofs.Common.{◌≡◌, ◌∙◌, refl, sym, ap, subst, ℕ, Bool, true, false, List, [], ◌∷◌, ◌++◌, Option, is_some, decimal, append-nil}
-use Rattle.hz_explore.proofs.Words.{flat_map, Netlist, has_state, number_of, Assumption, ChangeOf, Classes, Totals, ExploreRoom, applies, nodes_of, Outcome, Settled, Unsettled}
+use Rattle.hz_explore.proofs.Words.{flat_map, Netlist, has_state, state_number, Assumption, ChangeOf, Classes, Totals, ExploreRoom, applies, nodes_of, Outcome, Settled, Unsettled}
 use Rattle.hz_explore.proofs.Words.{Transition, IsRightTransition, ends_of, NotSettled, count_if, is_clean_change, found_by, found_with, transition_line, Extends, counted, Counts}
 use Rattle.hz_explore.proofs.Words.{Makes}
 use Rattle.hz_write.specs.Writes.{newline}
@@ -46,11 +46,11 @@ module _ (netlist : Netlist) (cap : ℕ) (assumptions : List Assumption) (state 
         ∙ sym (totals-more netlist all before (transition_of state burst found (Unsettled var))));
   }
 
-  module _ (next : List Bool) (place : Option ℕ) (states : now.states ≡ found_with was.states (nodes_of netlist next)) (number : place ≡ number_of now.states (nodes_of netlist next)) where
+  module _ (next : List Bool) (place : Option ℕ) (states : now.states ≡ found_with was.states (nodes_of netlist next)) (number : place ≡ state_number now.states (nodes_of netlist next)) where
     -- its number is the same among all states
-    among : (all : List (List Bool)) → Extends (found_with was.states (nodes_of netlist next)) all → place ≡ number_of all (nodes_of netlist next)
+    among : (all : List (List Bool)) → Extends (found_with was.states (nodes_of netlist next)) all → place ≡ state_number all (nodes_of netlist next)
     among all ext =
-        number ∙ (ap (λ (list : List (List Bool)). number_of list (nodes_of netlist next)) states ∙ sym (number-among was.states (nodes_of netlist next) all ext))
+        number ∙ (ap (λ (list : List (List Bool)). state_number list (nodes_of netlist next)) states ∙ sym (number-among was.states (nodes_of netlist next) all ext))
 
     -- one that settles
     settled-made : (found : ChangeOf) → IsRightTransition netlist cap assumptions (transition_of state burst found (Settled next)) → now.totals ≡ counted was.totals (count_if (is_clean_change netlist found)) (is_some place) →
@@ -84,7 +84,7 @@ module _ (netlist : Netlist) (cap : ℕ) (assumptions : List Assumption) (state 
         one = transition_of state burst made.found (Settled next);
         makes = settled-made netlist cap assumptions state burst was now failed can next place made.noted.2 made.noted.3 made.found right made.noted.4;
         line = λ number all ext.
-            let there : place ≡ number_of all (nodes_of netlist next) = among netlist cap assumptions state burst was now failed can next place made.noted.2 made.noted.3 all ext in
+            let there : place ≡ state_number all (nodes_of netlist next) = among netlist cap assumptions state burst was now failed can next place made.noted.2 made.noted.3 all ext in
             rw (made.used, made.kept, there, made.classes) (sym (append-nil _));
       }
 

@@ -2,7 +2,7 @@
 use Rattle.std.proofs.Common.{◌≡◌, ◌∙◌, refl, sym, ap, subst, ℕ, zero, suc, ◌<◌, ◌≤◌, Bool, true, false, ◌||◌, List, [], ◌∷◌, length, map, filter, get_or, length-take, All, Contains, Option, Some, arith}
 use Rattle.hz_explore.proofs.Words.{IsDistinct, true≢false, All-nil, All-append, All-head, All-tail, Tri, tri_of, Refines, Netlist, same-Refines, network_of, IsStableStart}
 use Rattle.hz_explore.proofs.Words.{expansion_of, Order, has_state, same_state, Assumption, ChangeOf, applies, nodes_of, SettlesUnder, Outcome, Settled, Unsettled, Transition}
-use Rattle.hz_explore.proofs.Words.{IsRightOutcome, IsRightTransition, AreTransitions, end_of, ends_of, Clean, count_of, count_of_outcome, is_hazard, is_not_settled, is_shown}
+use Rattle.hz_explore.proofs.Words.{IsRightOutcome, IsRightTransition, AreTransitions, transition_end, ends_of, Clean, transition_count, count_of_outcome, is_hazard, is_not_settled, is_shown}
 use Rattle.hz_explore.proofs.Words.{Explored, all_nodes, all_transitions, IsSoFar}
 use Rattle.std.specs.List.{cons_option}
 use Rattle.std.proofs.lemmas.List.Elements.{All-contains, Contains-append_left, Contains-append_right}
@@ -14,8 +14,8 @@ use Rattle.hz_net.proofs.TernaryStarts.{result-once}
 use Rattle.hz_edges.specs.Edges.{ChangesAtMost}
 use Rattle.hz_states.specs.Key.{same_state-Decides}
 use Rattle.hz_reach.specs.Counts.{EndsByChanges}
-use Rattle.hz_explore.specs.Reached.{input_after, AreResults, Settles, Leads, LeadTo, IsReached}
-use Rattle.hz_explore.specs.Exploration.{ChangesOnce, ComesTo, IsExploration, IsOfAllRuns, IsTransitionAt, hazards_in, is_whole, state_of, unsettled_in}
+use Rattle.hz_explore.specs.Reached.{input_after, AreResults, Settles, Leads, LeadTo, IsReachedState}
+use Rattle.hz_explore.specs.Exploration.{ChangesOnce, BringsTo, IsExploration, IsOfAllRuns, IsTransitionAt, hazards_in, is_whole, state_of, unsettled_in}
 use Rattle.hz_explore.specs.Progress.{IsFound}
 use Rattle.hz_explore.proofs.FoundLemmas.{has-first}
 use Rattle.hz_explore.proofs.ProgressLemmas.{HasSteps, all-unmap}
@@ -61,17 +61,17 @@ explored-there netlist (first ∷ explored) nodes has = by (same_state nodes fir
         (found.0, Contains-append_right (first ∷ []) explored found.0 found.1, found.2)
 
 -- the end of a listed transition is among the ends
-end-there : (netlist : Netlist) (transitions : List Transition) (one : Transition) (nodes : List Bool) → Contains transitions one → end_of netlist one.outcome ≡ Some nodes → Contains (ends_of netlist transitions) nodes
+end-there : (netlist : Netlist) (transitions : List Transition) (one : Transition) (nodes : List Bool) → Contains transitions one → transition_end netlist one.outcome ≡ Some nodes → Contains (ends_of netlist transitions) nodes
 end-there netlist [] one nodes there is = absurd (omega (arith, there.1))
 end-there netlist (first ∷ transitions) one nodes there is = by there.0 there.1 there.2 (λ k few same. end-there netlist transitions one nodes (k, few, same) is)
   where
-    later : (o : Outcome) → Contains (ends_of netlist transitions) nodes → Contains (cons_option (end_of netlist o) (ends_of netlist transitions)) nodes
+    later : (o : Outcome) → Contains (ends_of netlist transitions) nodes → Contains (cons_option (transition_end netlist o) (ends_of netlist transitions)) nodes
     later (Settled next) inside = Contains-append_right (nodes_of netlist next ∷ []) (ends_of netlist transitions) nodes inside
     later (Unsettled var) inside = inside
 
     by : (k : ℕ) → k < length (first ∷ transitions) → get_or (first ∷ transitions) k one ≡ one → ((j : ℕ) → j < length transitions → get_or transitions j one ≡ one → Contains (ends_of netlist transitions) nodes) → Contains (ends_of netlist (first ∷ transitions)) nodes
     by zero few same rest =
-        let here : end_of netlist first.outcome ≡ Some nodes = ap (λ (t : Transition). end_of netlist t.outcome) same ∙ is in
+        let here : transition_end netlist first.outcome ≡ Some nodes = ap (λ (t : Transition). transition_end netlist t.outcome) same ∙ is in
         subst (λ (end : Option (List Bool)). Contains (cons_option end (ends_of netlist transitions)) nodes) (sym here) (0, omega arith, refl)
     by (suc k) few same rest = later first.outcome (rest k (omega (arith, few)) same)
 
@@ -131,7 +131,7 @@ module _ (netlist : Netlist) (cap : ℕ) (assumptions : List Assumption) (bursts
   pub settled-there : (one : Transition) (next : List Bool) → Contains (all_transitions explored) one → one.outcome ≡ Settled next → IsThere netlist explored next
   settled-there one next listed settled =
       let outcome : IsRightOutcome netlist one.found (Settled next) = subst (IsRightOutcome netlist one.found) settled (right-at one listed).outcome in
-      let inside = end-there netlist (all_transitions explored) one (nodes_of netlist next) listed (ap (end_of netlist) settled) in
+      let inside = end-there netlist (all_transitions explored) one (nodes_of netlist next) listed (ap (transition_end netlist) settled) in
       record {
         has = All-contains (λ (nodes : List Bool). has_state (all_nodes explored) nodes ≡ true) (ends_of netlist (all_transitions explored)) (nodes_of netlist next)
             (AllPass-from_list_all (has_state (all_nodes explored)) (ends_of netlist (all_transitions explored)) whole) inside;
@@ -139,7 +139,7 @@ module _ (netlist : Netlist) (cap : ℕ) (assumptions : List Assumption) (bursts
       }
 
   -- where a burst comes to along runs that keep its orders is there
-  comes-there : (state next : List Bool) (burst : List (ℕ × Bool)) → IsThere netlist explored state → ComesTo netlist explored state burst next → IsThere netlist explored next
+  comes-there : (state next : List Bool) (burst : List (ℕ × Bool)) → IsThere netlist explored state → BringsTo netlist explored state burst next → IsThere netlist explored next
   comes-there state next burst there comes =
       let one = comes.transition in
       let right = right-at one comes.at.listed in
@@ -149,7 +149,7 @@ module _ (netlist : Netlist) (cap : ℕ) (assumptions : List Assumption) (bursts
       let same : next ≡ comes.end = same-Refines next comes.end (subst (Refines next) outcome.settled refines) in
       subst (IsThere netlist explored) (sym same) (settled-there one comes.end comes.at.listed comes.settled)
 
-  pub all-there : (path : List (List (ℕ × Bool))) (state last : List Bool) → IsThere netlist explored state → LeadTo (ComesTo netlist explored) bursts state path last → IsThere netlist explored last
+  pub all-there : (path : List (List (ℕ × Bool))) (state last : List Bool) → IsThere netlist explored state → LeadTo (BringsTo netlist explored) bursts state path last → IsThere netlist explored last
   all-there [] state last there leads = subst (IsThere netlist explored) leads there
   all-there (burst ∷ path) state last there leads = all-there path leads.0 last (comes-there state leads.0 burst there leads.1.settled) leads.2
 
@@ -159,9 +159,9 @@ module _ (netlist : Netlist) (cap : ℕ) (assumptions : List Assumption) (bursts
     all-safe =
         let at = transition-at state burst there listed can in
         let one : Transition = at.0 in
-        let clean : count_of netlist one ≡ Clean =
-        clean-count (count_of netlist one) (none-counted (λ (t : Transition). is_hazard (count_of netlist t)) (all_transitions explored) one hazards at.1.listed)
-        (none-counted (λ (t : Transition). is_not_settled (count_of netlist t)) (all_transitions explored) one unsettled at.1.listed) in
+        let clean : transition_count netlist one ≡ Clean =
+        clean-count (transition_count netlist one) (none-counted (λ (t : Transition). is_hazard (transition_count netlist t)) (all_transitions explored) one hazards at.1.listed)
+        (none-counted (λ (t : Transition). is_not_settled (transition_count netlist t)) (all_transitions explored) one unsettled at.1.listed) in
         let inside : length netlist.names ≤ length (network_of netlist) = omega (arith, steps.long state there.stable, there.stable.long, length-take (length netlist.names) state) in
         (one, at.1, at.2, clean-safe netlist cap assumptions one clean at.2 inside)
 
@@ -191,7 +191,7 @@ module _ (netlist : Netlist) (cap : ℕ) (bursts : List (List (ℕ × Bool))) (s
       let first : Leads (Settles netlist) bursts state burst leads.0 = record { listed = leads.1.listed; applies = leads.1.applies; settled = settles-plain netlist cap state leads.0 burst leads.1.settled } in
       (leads.0, first, leads-plain path leads.0 last leads.2)
 
-  pub reached-plain : (state : List Bool) → IsReached (SettlesUnder netlist cap []) bursts start state → IsReached (Settles netlist) bursts start state
+  pub reached-plain : (state : List Bool) → IsReachedState (SettlesUnder netlist cap []) bursts start state → IsReachedState (Settles netlist) bursts start state
   reached-plain state reached = (reached.0, leads-plain reached.0 start state reached.1)
 
   module _ (whole : is_whole netlist explored ≡ true) where
@@ -237,7 +237,7 @@ module _ (netlist : Netlist) (cap : ℕ) (bursts : List (List (ℕ × Bool))) (s
     plain-settles unsettled state burst there listed can =
         let at = transition-at netlist cap [] bursts start steps explored are whole state burst there listed can in
         let one : Transition = at.0 in
-        let settled = settled-if netlist one.found one.outcome (none-counted (λ (t : Transition). is_not_settled (count_of netlist t)) (all_transitions explored) one unsettled at.1.listed) in
+        let settled = settled-if netlist one.found one.outcome (none-counted (λ (t : Transition). is_not_settled (transition_count netlist t)) (all_transitions explored) one unsettled at.1.listed) in
         let outcome : IsRightOutcome netlist one.found (Settled settled.0) = subst (IsRightOutcome netlist one.found) settled.1 at.2.outcome in
         let under : SettlesUnder netlist cap [] one.start one.burst settled.0 = record { found = one.found; from = at.2.from; right = at.2.right; settled = outcome } in (
           settled.0,
@@ -252,7 +252,7 @@ module _ (netlist : Netlist) (cap : ℕ) (bursts : List (List (ℕ × Bool))) (s
         let at = safe-at netlist cap [] bursts start steps explored are whole hazards unsettled state burst there listed can in
         subst (λ (used : List Order). ChangesOnce used (network_of netlist) (input_after netlist state burst) state i) (none-used netlist cap at.0.found at.2.right) (at.4 i node)
 
-  pub of-all-runs : All (λ (one : Explored). IsReached (SettlesUnder netlist cap []) bursts start (state_of netlist one)) explored → IsThere netlist explored start → IsOfAllRuns netlist bursts start explored
+  pub of-all-runs : All (λ (one : Explored). IsReachedState (SettlesUnder netlist cap []) bursts start (state_of netlist one)) explored → IsThere netlist explored start → IsOfAllRuns netlist bursts start explored
   of-all-runs led first = record {
     reached = λ k d few. reached-plain (state_of netlist (get_or explored k d)) (led k d few);
     complete = λ whole state reached. (plain-there whole reached.0 start state first reached.1).has;
@@ -262,7 +262,7 @@ module _ (netlist : Netlist) (cap : ℕ) (bursts : List (List (ℕ × Bool))) (s
 
 -- so it does if its assumptions are none
 of-none : (netlist : Netlist) (cap : ℕ) (assumptions : List Assumption) (bursts : List (List (ℕ × Bool))) (start : List Bool) (explored : List Explored) → assumptions ≡ [] → HasSteps netlist cap assumptions → All (λ (one : Explored). AreTransitions netlist cap assumptions bursts (state_of netlist one) one.transitions) explored →
-    All (λ (one : Explored). IsReached (SettlesUnder netlist cap assumptions) bursts start (state_of netlist one)) explored → IsThere netlist explored start → IsOfAllRuns netlist bursts start explored
+    All (λ (one : Explored). IsReachedState (SettlesUnder netlist cap assumptions) bursts start (state_of netlist one)) explored → IsThere netlist explored start → IsOfAllRuns netlist bursts start explored
 of-none netlist cap [] bursts start explored none steps are led first = of-all-runs netlist cap bursts start steps explored are led first
 of-none netlist cap (one ∷ assumptions) bursts start explored none steps are led first = absurd cc
 
@@ -277,7 +277,7 @@ is-exploration ends netlist cap assumptions bursts start circuit steps stable ex
       has = subst (λ (list : List (List Bool)). has_state list (nodes_of netlist start) ≡ true) (sym order) (has-first (nodes_of netlist start) (ends_of netlist (all_transitions explored)));
       stable = stable;
     } in
-    let led : All (λ (one : Explored). IsReached (SettlesUnder netlist cap assumptions) bursts start (state_of netlist one)) explored = λ k d few. (right k d few).led in
+    let led : All (λ (one : Explored). IsReachedState (SettlesUnder netlist cap assumptions) bursts start (state_of netlist one)) explored = λ k d few. (right k d few).led in
     record {
       transitions = so_far.transitions;
       order = order;

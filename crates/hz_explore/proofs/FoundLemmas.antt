@@ -1,6 +1,6 @@
 -- States that are found one after the other.
 use Rattle.std.proofs.Common.{◌≡◌, ◌∙◌, refl, sym, ap, subst, inl, inr, ℕ, ◌+◌, ◌<◌, ◌≤◌, ◌⊎◌, Bool, true, false, ◌||◌, List, [], ◌∷◌, ◌++◌, length, is_some, All, nat_le, append_assoc, append-nil, length-append, arith}
-use Rattle.hz_explore.proofs.Words.{list_any, IsDistinct, true≢false, nat_tests, All-nil, All-cons, All-head, All-tail, All-append, has_state, number_of, same_state, most_states}
+use Rattle.hz_explore.proofs.Words.{list_any, IsDistinct, true≢false, nat_tests, All-nil, All-cons, All-head, All-tail, All-append, has_state, state_number, same_state, most_states}
 use Rattle.hz_explore.proofs.Words.{found_by, found_with, Extends}
 use Rattle.std.specs.List.{position_from, AllByRecursion}
 use Rattle.std.proofs.lemmas.Bool.{false_from_ne_true}
@@ -45,7 +45,7 @@ from-front test i (first ∷ states) later has = by (test first) refl (from-fron
     by true e rest = rw e refl
     by false e rest = rw e (rest (ap (λ (here : Bool). here || list_any test states) (sym e) ∙ has))
 
-pub number-front : (states later : List (List Bool)) (nodes : List Bool) → has_state states nodes ≡ true → number_of (states ++ later) nodes ≡ number_of states nodes
+pub number-front : (states later : List (List Bool)) (nodes : List Bool) → has_state states nodes ≡ true → state_number (states ++ later) nodes ≡ state_number states nodes
 number-front states later nodes has =
     position_from-zero (same_state nodes) (states ++ later)
     ∙ (from-front (same_state nodes) 0 states later has ∙ sym (position_from-zero (same_state nodes) states))
@@ -59,7 +59,7 @@ from-some test i (first ∷ states) = by (test first) refl (from-some test (i + 
     by false e rest = rw e rest
 
 -- a state has a number if it is there
-pub has-number : (states : List (List Bool)) (nodes : List Bool) → has_state states nodes ≡ is_some (number_of states nodes)
+pub has-number : (states : List (List Bool)) (nodes : List Bool) → has_state states nodes ≡ is_some (state_number states nodes)
 has-number states nodes = sym (ap is_some (position_from-zero (same_state nodes) states) ∙ from-some (same_state nodes) 0 states)
 
 -- one more state: there is no room, or it is there already, or it is new
@@ -183,12 +183,12 @@ extends-by found [] all ext = ext
 extends-by found (nodes ∷ seen) all ext = extends-with found nodes all (extends-by (found_with found nodes) seen all ext)
 
 -- so a state has the same number among all, or none
-pub number-among : (found : List (List Bool)) (nodes : List Bool) (all : List (List Bool)) → Extends (found_with found nodes) all → number_of all nodes ≡ number_of (found_with found nodes) nodes
+pub number-among : (found : List (List Bool)) (nodes : List Bool) (all : List (List Bool)) → Extends (found_with found nodes) all → state_number all nodes ≡ state_number (found_with found nodes) nodes
 number-among found nodes all ext =
     elim (found-case found nodes) [
       | inl full ↦ (
           let none : ext.later ≡ [] = ext.full (subst (λ (list : List (List Bool)). most_states ≤ length list) (sym full.same) full.full) in
-          ap (λ (list : List (List Bool)). number_of list nodes) (ext.whole ∙ (ap (λ (list : List (List Bool)). found_with found nodes ++ list) none ∙ append-nil (found_with found nodes)))
+          ap (λ (list : List (List Bool)). state_number list nodes) (ext.whole ∙ (ap (λ (list : List (List Bool)). found_with found nodes ++ list) none ∙ append-nil (found_with found nodes)))
           )
       | inr rest ↦ elim rest [
         | inl there ↦ behind (subst (λ (list : List (List Bool)). has_state list nodes ≡ true) (sym there.same) there.has)
@@ -196,8 +196,8 @@ number-among found nodes all ext =
       ]
     ]
   where
-    behind : has_state (found_with found nodes) nodes ≡ true → number_of all nodes ≡ number_of (found_with found nodes) nodes
-    behind has = ap (λ (list : List (List Bool)). number_of list nodes) ext.whole ∙ number-front (found_with found nodes) ext.later nodes has
+    behind : has_state (found_with found nodes) nodes ≡ true → state_number all nodes ≡ state_number (found_with found nodes) nodes
+    behind has = ap (λ (list : List (List Bool)). state_number list nodes) ext.whole ∙ number-front (found_with found nodes) ext.later nodes has
 
 -- the first state of all is there
 pub has-first : (nodes : List Bool) (seen : List (List Bool)) → has_state (found_by [] (nodes ∷ seen)) nodes ≡ true

@@ -2,12 +2,12 @@
 use Rattle.std.proofs.Common.{◌≡◌, ◌∙◌, refl, sym, ap, subst, ℕ, zero, suc, ◌+◌, ◌≤◌, Bool, true, false, List, [], ◌∷◌, ◌++◌, length, map, filter, All, Contains, append_assoc, append-nil, length-append, arith}
 use Rattle.hz_explore.proofs.Words.{IsDistinct, length-map, flat_map-append, All-nil, All-cons, All-head, All-tail, All-append, Netlist, IsStableStart, expansion_of, same_state}
 use Rattle.hz_explore.proofs.Words.{Assumption, most_states, applies, nodes_of, SettlesUnder, Outcome, Settled, Unsettled, Transition, IsRightOutcome, IsRightTransition}
-use Rattle.hz_explore.proofs.Words.{AreTransitions, end_of, ends_of, Explored, all_nodes, all_transitions, found_by, found_with, Extends, IsSoFar}
+use Rattle.hz_explore.proofs.Words.{AreTransitions, transition_end, ends_of, Explored, all_nodes, all_transitions, found_by, found_with, Extends, IsSoFar}
 use Rattle.std.specs.List.{cons_option}
 use Rattle.std.proofs.lemmas.List.{map-append}
 use Rattle.std.proofs.lemmas.List.Elements.{All-contains_itself}
 use Rattle.std.proofs.lemmas.List.Sums.{fold-append}
-use Rattle.hz_explore.specs.Reached.{Settling, Leads, LeadTo, IsReached}
+use Rattle.hz_explore.specs.Reached.{Settling, Leads, LeadTo, IsReachedState}
 use Rattle.hz_explore.specs.Exploration.{state_of}
 use Rattle.hz_explore.specs.Progress.{IsFound}
 use Rattle.hz_explore.proofs.FoundLemmas.{all-by, once-by, few-by, grows-by, extends-self, extends-by}
@@ -55,7 +55,7 @@ lead-on settles bursts (burst ∷ path) later state middle last leads more = (le
 
 module _ (netlist : Netlist) (cap : ℕ) (assumptions : List Assumption) (bursts : List (List (ℕ × Bool))) (start : List Bool) (steps : HasSteps netlist cap assumptions) where
   -- a state in which a transition from a found one ends
-  end-found : (state next : List Bool) (burst : List (ℕ × Bool)) → IsReached (SettlesUnder netlist cap assumptions) bursts start state → Contains bursts burst → applies state burst ≡ true → SettlesUnder netlist cap assumptions state burst next → IsFound netlist cap assumptions bursts start (nodes_of netlist next)
+  end-found : (state next : List Bool) (burst : List (ℕ × Bool)) → IsReachedState (SettlesUnder netlist cap assumptions) bursts start state → Contains bursts burst → applies state burst ≡ true → SettlesUnder netlist cap assumptions state burst next → IsFound netlist cap assumptions bursts start (nodes_of netlist next)
   end-found state next burst reached listed can settles =
       let rest : IsStableStart netlist next = settles.settled.stable in
       let same = steps.expands next rest in
@@ -63,27 +63,27 @@ module _ (netlist : Netlist) (cap : ℕ) (assumptions : List Assumption) (bursts
       record {
         long = steps.long next rest;
         stable = subst (IsStableStart netlist) same rest;
-        led = subst (IsReached (SettlesUnder netlist cap assumptions) bursts start) same (reached.0 ++ burst ∷ [], lead-on (SettlesUnder netlist cap assumptions) bursts reached.0 (burst ∷ []) start state next reached.1 (next, leads, refl));
+        led = subst (IsReachedState (SettlesUnder netlist cap assumptions) bursts start) same (reached.0 ++ burst ∷ [], lead-on (SettlesUnder netlist cap assumptions) bursts reached.0 (burst ∷ []) start state next reached.1 (next, leads, refl));
       }
 
-  cons-found : (one : Transition) (more : List (List Bool)) (outcome : Outcome) → IsReached (SettlesUnder netlist cap assumptions) bursts start one.start → Contains bursts one.burst → applies one.start one.burst ≡ true → IsRightTransition netlist cap assumptions one → one.outcome ≡ outcome → All (IsFound netlist cap assumptions bursts start) more →
-      All (IsFound netlist cap assumptions bursts start) (cons_option (end_of netlist one.outcome) more)
+  cons-found : (one : Transition) (more : List (List Bool)) (outcome : Outcome) → IsReachedState (SettlesUnder netlist cap assumptions) bursts start one.start → Contains bursts one.burst → applies one.start one.burst ≡ true → IsRightTransition netlist cap assumptions one → one.outcome ≡ outcome → All (IsFound netlist cap assumptions bursts start) more →
+      All (IsFound netlist cap assumptions bursts start) (cons_option (transition_end netlist one.outcome) more)
   cons-found one more (Settled next) reached listed can right is rest =
       let outcome : IsRightOutcome netlist one.found (Settled next) = subst (IsRightOutcome netlist one.found) is right.outcome in
       let settles : SettlesUnder netlist cap assumptions one.start one.burst next = record { found = one.found; from = right.from; right = right.right; settled = outcome } in
-      subst (λ (o : Outcome). All (IsFound netlist cap assumptions bursts start) (cons_option (end_of netlist o) more)) (sym is)
+      subst (λ (o : Outcome). All (IsFound netlist cap assumptions bursts start) (cons_option (transition_end netlist o) more)) (sym is)
       (All-cons (IsFound netlist cap assumptions bursts start) (nodes_of netlist next) more (end-found one.start next one.burst reached listed can settles) rest)
   cons-found one more (Unsettled var) reached listed can right is rest =
-      subst (λ (o : Outcome). All (IsFound netlist cap assumptions bursts start) (cons_option (end_of netlist o) more)) (sym is) rest
+      subst (λ (o : Outcome). All (IsFound netlist cap assumptions bursts start) (cons_option (transition_end netlist o) more)) (sym is) rest
 
   -- all states in which those of a found one end
-  pub ends-found : (state : List Bool) (transitions : List Transition) → IsReached (SettlesUnder netlist cap assumptions) bursts start state → All (λ (one : Transition). one.start ≡ state) transitions → All (IsRightTransition netlist cap assumptions) transitions →
+  pub ends-found : (state : List Bool) (transitions : List Transition) → IsReachedState (SettlesUnder netlist cap assumptions) bursts start state → All (λ (one : Transition). one.start ≡ state) transitions → All (IsRightTransition netlist cap assumptions) transitions →
       All (λ (one : Transition). Contains bursts one.burst × (applies state one.burst ≡ true)) transitions → All (IsFound netlist cap assumptions bursts start) (ends_of netlist transitions)
   ends-found state [] reached starts right can = All-nil (IsFound netlist cap assumptions bursts start)
   ends-found state (one ∷ more) reached starts right can =
       let here : one.start ≡ state = All-head (λ (one : Transition). one.start ≡ state) one more starts in
       let head = All-head (λ (one : Transition). Contains bursts one.burst × (applies state one.burst ≡ true)) one more can in
-      cons-found one (ends_of netlist more) one.outcome (subst (IsReached (SettlesUnder netlist cap assumptions) bursts start) (sym here) reached) head.0
+      cons-found one (ends_of netlist more) one.outcome (subst (IsReachedState (SettlesUnder netlist cap assumptions) bursts start) (sym here) reached) head.0
       (subst (λ (from : List Bool). applies from one.burst ≡ true) (sym here) head.1) (All-head (IsRightTransition netlist cap assumptions) one more right) refl
       (ends-found state more reached (All-tail (λ (one : Transition). one.start ≡ state) one more starts) (All-tail (IsRightTransition netlist cap assumptions) one more right)
       (All-tail (λ (one : Transition). Contains bursts one.burst × (applies state one.burst ≡ true)) one more can))

@@ -1,6 +1,6 @@
 -- A room before and after a change.
 use Rattle.std.proofs.Common.{◌≡◌, ◌∙◌, ℕ, ◌<◌, ◌≤◌, Bool, List, [], ◌∷◌, length, Option, Some, None, IfSome, sym, ap, subst, is_some, arith}
-use Rattle.hz_explore.proofs.Words.{Netlist, IsStableStart, number_of, ChangeOf, Classes, Totals, ExploreRoom, most_states, nodes_of, NotSettled, count_if, found_with, counted}
+use Rattle.hz_explore.proofs.Words.{Netlist, IsStableStart, state_number, ChangeOf, Classes, Totals, ExploreRoom, most_states, nodes_of, NotSettled, count_if, found_with, counted}
 use Rattle.hz_states.proofs.StateLaws.{number-inside}
 use Rattle.hz_edge_reports.specs.declared.finding.Making.{Making}
 use Rattle.hz_edge_reports.specs.Room.{CanBeMade}
@@ -23,7 +23,7 @@ noted-from netlist found is_clean other was there now (end.Settled place) clean 
 noted-from netlist found is_clean other was there now (end.Unsettled var) clean states totals noted =
     (noted.0, noted.1 ∙ states, λ is_found. noted.2 is_found ∙ ap (λ (t : Totals). counted t NotSettled is_found) totals)
 
-few-number : (states : List (List Bool)) (nodes : List Bool) (place : Option ℕ) → length states ≤ most_states → place ≡ number_of states nodes → IfSome place (λ number. number < 4294967295)
+few-number : (states : List (List Bool)) (nodes : List Bool) (place : Option ℕ) → length states ≤ most_states → place ≡ state_number states nodes → IfSome place (λ number. number < 4294967295)
 few-number states nodes None few is = tt
 few-number states nodes (Some number) few is =
     let inside : number < length states = number-inside states nodes number (sym is) in

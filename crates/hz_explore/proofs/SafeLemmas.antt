@@ -1,7 +1,7 @@
 -- A clean transition: each node changes at most once in it, along every run that keeps the orders it uses.
 use Rattle.std.proofs.Common.{◌≡◌, ◌∙◌, refl, sym, ap, subst, ℕ, ◌<◌, ◌≤◌, Bool, true, false, ◌&&◌, not, cond, List, [], ◌∷◌, length, Option, Some, None, IfSome, Contains, count_by, nat_le, nat_eq, le_trans, zero-add, arith}
 use Rattle.hz_explore.proofs.Words.{list_all, true≢false, nat_tests, length-map-range_with_len, Tri, Zero, Unknown, Netlist, network_of, EdgeClass, Order, Assumption, ChangeOf}
-use Rattle.hz_explore.proofs.Words.{Outcome, Settled, Unsettled, Transition, IsRightTransition, class_at, Clean, NotSettled, count_if, count_of, count_of_outcome, is_clean_change}
+use Rattle.hz_explore.proofs.Words.{Outcome, Settled, Unsettled, Transition, IsRightTransition, class_at, Clean, NotSettled, count_if, transition_count, count_of_outcome, is_clean_change}
 use Rattle.hz_explore.proofs.Words.{is_hazard, is_not_settled, is_shown}
 use Rattle.std.proofs.lemmas.List.Elements.{All-contains}
 use Rattle.std.proofs.lemmas.List.Folds.{sum_by-zero}
@@ -103,7 +103,7 @@ pub record IsSafe (netlist : Netlist) (found : ChangeOf) : Type 0 where
   pub shown : is_shown found.used found.kept ≡ true
   pub once : (i : ℕ) → i < length netlist.names → ChangesOnce found.used (network_of netlist) found.input found.start i
 
-pub clean-safe : (netlist : Netlist) (cap : ℕ) (assumptions : List Assumption) (one : Transition) → count_of netlist one ≡ Clean → IsRightTransition netlist cap assumptions one → length netlist.names ≤ length (network_of netlist) → IsSafe netlist one.found
+pub clean-safe : (netlist : Netlist) (cap : ℕ) (assumptions : List Assumption) (one : Transition) → transition_count netlist one ≡ Clean → IsRightTransition netlist cap assumptions one → length netlist.names ≤ length (network_of netlist) → IsSafe netlist one.found
 clean-safe netlist cap assumptions one clean right inside =
     let both = both-true (list_all is_clean_class (node_classes netlist one.found)) (is_shown one.found.used one.found.kept) (clean-settled netlist one.found one.outcome clean) in
     record {

@@ -1,7 +1,7 @@
 -- The transitions of a state, burst after burst.
 use Rattle.std.proofs.Common.{◌≡◌, ◌∙◌, refl, sym, ap, ℕ, ◌+◌, Bool, true, false, ◌&&◌, cond, List, [], ◌∷◌, ◌++◌, map, filter, count_by, arith}
 use Rattle.hz_explore.proofs.Words.{list_all, All-nil, All-cons, All-append, Netlist, has_state, Assumption, Totals, applies, nodes_of, Outcome, Settled, Unsettled, Transition}
-use Rattle.hz_explore.proofs.Words.{IsRightTransition, AreTransitions, end_of, ends_of, Clean, NotSettled, count_of, count_if, count_of_outcome, is_hazard, is_not_settled}
+use Rattle.hz_explore.proofs.Words.{IsRightTransition, AreTransitions, transition_end, ends_of, Clean, NotSettled, transition_count, count_if, count_of_outcome, is_hazard, is_not_settled}
 use Rattle.hz_explore.proofs.Words.{counted}
 use Rattle.std.proofs.lemmas.List.{map-append}
 use Rattle.std.proofs.lemmas.List.Elements.{filter-append, filter_map-append}
@@ -46,7 +46,7 @@ module _ (netlist : Netlist) (cap : ℕ) (assumptions : List Assumption) (state 
 
 -- where they end
 pub ends-append : (netlist : Netlist) (transitions more : List Transition) → ends_of netlist (transitions ++ more) ≡ ends_of netlist transitions ++ ends_of netlist more
-ends-append netlist transitions more = filter_map-append (λ (one : Transition). end_of netlist one.outcome) transitions more
+ends-append netlist transitions more = filter_map-append (λ (one : Transition). transition_end netlist one.outcome) transitions more
 
 -- counts of one transition more
 count-more : (test : Transition → Bool) (transitions : List Transition) (one : Transition) → count_by test (transitions ++ one ∷ []) ≡ count_by test transitions + cond (test one) 1 0
@@ -90,17 +90,17 @@ no-classes-unsettled false e = cc
 
 -- totals with one transition more
 pub totals-more : (netlist : Netlist) (states : List (List Bool)) (transitions : List Transition) (one : Transition) →
-    totals_of netlist states (transitions ++ one ∷ []) ≡ counted (totals_of netlist states transitions) (count_of netlist one) (is_listed netlist states one.outcome)
+    totals_of netlist states (transitions ++ one ∷ []) ≡ counted (totals_of netlist states transitions) (transition_count netlist one) (is_listed netlist states one.outcome)
 totals-more netlist states transitions one =
-    let clean = count-more (λ (t : Transition). is_clean (count_of netlist t)) transitions one in
-    let hazards = count-more (λ (t : Transition). is_hazard (count_of netlist t)) transitions one in
-    let open_ = count-more (λ (t : Transition). is_not_settled (count_of netlist t)) transitions one in
+    let clean = count-more (λ (t : Transition). is_clean (transition_count netlist t)) transitions one in
+    let hazards = count-more (λ (t : Transition). is_hazard (transition_count netlist t)) transitions one in
+    let open_ = count-more (λ (t : Transition). is_not_settled (transition_count netlist t)) transitions one in
     let whole = ap (list_all (has_state states)) (ends-append netlist transitions (one ∷ [])) ∙ list_all-append (has_state states) (ends_of netlist transitions) (ends_of netlist (one ∷ [])) in
-    rw (clean, hazards, open_, whole) (by one.outcome refl (count_of netlist one) refl)
+    rw (clean, hazards, open_, whole) (by one.outcome refl (transition_count netlist one) refl)
   where
     by : (outcome : Outcome) → one.outcome ≡ outcome → (count : Count) → count_of_outcome netlist one.found one.outcome ≡ count →
-        by_counts (totals_of netlist states transitions) (count_of netlist one) (list_all (has_state states) (ends_of netlist transitions) && list_all (has_state states) (ends_of netlist (one ∷ [])))
-        ≡ counted (totals_of netlist states transitions) (count_of netlist one) (is_listed netlist states one.outcome)
+        by_counts (totals_of netlist states transitions) (transition_count netlist one) (list_all (has_state states) (ends_of netlist transitions) && list_all (has_state states) (ends_of netlist (one ∷ [])))
+        ≡ counted (totals_of netlist states transitions) (transition_count netlist one) (is_listed netlist states one.outcome)
     by (Settled next) o Clean c = rw (c, o) (same-totals refl (plus-none _) (plus-none _) (ap (λ (here : Bool). list_all (has_state states) (ends_of netlist transitions) && here) (and-true _)))
     by (Settled next) o Hazard c = rw (c, o) (same-totals (plus-none _) refl (plus-none _) (ap (λ (here : Bool). list_all (has_state states) (ends_of netlist transitions) && here) (and-true _)))
     by (Settled next) o NotSettled c = absurd (no-classes-unsettled _ (ap (count_of_outcome netlist one.found) (sym o) ∙ c))

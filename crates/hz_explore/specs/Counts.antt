@@ -109,8 +109,8 @@ abbrev pub count_of_outcome : Netlist → ChangeOf → Outcome → Count
 count_of_outcome netlist found (Settled next) = count_if (is_clean_change netlist found)
 count_of_outcome netlist found (Unsettled var) = NotSettled
 
-abbrev pub count_of : Netlist → Transition → Count
-count_of netlist transition =
+abbrev pub transition_count : Netlist → Transition → Count
+transition_count netlist transition =
     count_of_outcome netlist transition.found transition.outcome
 
 abbrev pub is_clean : Count → Bool
@@ -144,8 +144,8 @@ classes_of classes =
 abbrev pub totals_of : Netlist → List (List Bool) → List Transition → Totals
 totals_of netlist states transitions =
     record {
-      clean = count_by (λ one. is_clean (count_of netlist one)) transitions;
-      hazards = count_by (λ one. is_hazard (count_of netlist one)) transitions;
-      unsettled = count_by (λ one. is_not_settled (count_of netlist one)) transitions;
+      clean = count_by (λ one. is_clean (transition_count netlist one)) transitions;
+      hazards = count_by (λ one. is_hazard (transition_count netlist one)) transitions;
+      unsettled = count_by (λ one. is_not_settled (transition_count netlist one)) transitions;
       is_whole = list_all (has_state states) (ends_of netlist transitions);
     }

@@ -14,8 +14,8 @@ use Rattle.hz_timing.specs.declared.script.Assumption.{Assumption}
 use Rattle.hz_edge_reports.specs.OrderedEdges.{ChangesAtMostUnder}
 use Rattle.hz_explore.specs.Limits.{most_states}
 use Rattle.hz_explore.specs.Bursts.{applies}
-use Rattle.hz_explore.specs.Counts.{AreTold, count_of, is_hazard, is_not_settled, is_shown}
-use Rattle.hz_explore.specs.Reached.{input_after, nodes_of, IsReached, Settles, SettlesUnder}
+use Rattle.hz_explore.specs.Counts.{AreTold, transition_count, is_hazard, is_not_settled, is_shown}
+use Rattle.hz_explore.specs.Reached.{input_after, nodes_of, IsReachedState, Settles, SettlesUnder}
 use Rattle.hz_explore.specs.Transitions.{Transition, Settled, AreTransitions, ends_of}
 
 -- A state by the values of its nodes, and its transitions.
@@ -52,11 +52,11 @@ is_whole netlist explored =
 -- how many transitions have a hazard, and how many leave a variable unsettled
 abbrev pub hazards_in : Netlist → List Explored → ℕ
 hazards_in netlist explored =
-    count_by (λ one. is_hazard (count_of netlist one)) (all_transitions explored)
+    count_by (λ one. is_hazard (transition_count netlist one)) (all_transitions explored)
 
 abbrev pub unsettled_in : Netlist → List Explored → ℕ
 unsettled_in netlist explored =
-    count_by (λ one. is_not_settled (count_of netlist one)) (all_transitions explored)
+    count_by (λ one. is_not_settled (transition_count netlist one)) (all_transitions explored)
 
 -- a transition of a state by a burst is listed
 pub record IsTransitionAt (explored : List Explored) (state : List Bool) (burst : List (ℕ × Bool))
@@ -79,7 +79,7 @@ ChangesOnce (order ∷ orders) net input start i =
 
 -- A burst comes from a state to another one: its transition is listed and settles, and the other state is an outcome of runs that keep the
 -- orders which the transition uses.
-pub record ComesTo (netlist : Netlist) (explored : List Explored) (state : List Bool)
+pub record BringsTo (netlist : Netlist) (explored : List Explored) (state : List Bool)
     (burst : List (ℕ × Bool)) (next : List Bool) : Type 0 where
   pub transition : Transition
   pub at : IsTransitionAt explored state burst transition
@@ -96,19 +96,19 @@ pub record ComesTo (netlist : Netlist) (explored : List Explored) (state : List 
 pub record IsOfAllRuns (netlist : Netlist) (bursts : List (List (ℕ × Bool))) (start : List Bool)
     (explored : List Explored) : Type 0 where
   pub reached :
-      All (λ one. IsReached (Settles netlist) bursts start (state_of netlist one)) explored
+      All (λ one. IsReachedState (Settles netlist) bursts start (state_of netlist one)) explored
   pub complete : is_whole netlist explored ≡ true →
-      (state : List Bool) → IsReached (Settles netlist) bursts start state →
+      (state : List Bool) → IsReachedState (Settles netlist) bursts start state →
       has_state (all_nodes explored) (nodes_of netlist state) ≡ true
   pub settles : is_whole netlist explored ≡ true → unsettled_in netlist explored ≡ 0 →
       (state : List Bool) (burst : List (ℕ × Bool)) →
-      IsReached (Settles netlist) bursts start state →
+      IsReachedState (Settles netlist) bursts start state →
       Contains bursts burst → applies state burst ≡ true →
       (next : List Bool) × Settles netlist state burst next
   pub safe : is_whole netlist explored ≡ true → hazards_in netlist explored ≡ 0 →
       unsettled_in netlist explored ≡ 0 →
       (state : List Bool) (burst : List (ℕ × Bool)) (i : ℕ) →
-      IsReached (Settles netlist) bursts start state →
+      IsReachedState (Settles netlist) bursts start state →
       Contains bursts burst → applies state burst ≡ true → i < length netlist.names →
       ChangesAtMost (network_of netlist) (input_after netlist state burst) state i 1
 
@@ -133,16 +133,16 @@ pub record IsExploration (netlist : Netlist) (cap : ℕ) (assumptions : List Ass
       one.transitions) explored
   pub stable : All (λ one. IsStableStart netlist (state_of netlist one)) explored
   pub led :
-      All (λ one. IsReached (SettlesUnder netlist cap assumptions) bursts start
+      All (λ one. IsReachedState (SettlesUnder netlist cap assumptions) bursts start
       (state_of netlist one)) explored
   pub once : IsDistinct same_state (all_nodes explored)
   pub stays : is_whole netlist explored ≡ true →
-      (state : List Bool) → IsReached (ComesTo netlist explored) bursts start state →
+      (state : List Bool) → IsReachedState (BringsTo netlist explored) bursts start state →
       has_state (all_nodes explored) (nodes_of netlist state) ≡ true
   pub safe : is_whole netlist explored ≡ true → hazards_in netlist explored ≡ 0 →
       unsettled_in netlist explored ≡ 0 →
       (state : List Bool) (burst : List (ℕ × Bool)) →
-      IsReached (ComesTo netlist explored) bursts start state →
+      IsReachedState (BringsTo netlist explored) bursts start state →
       Contains bursts burst → applies state burst ≡ true →
       (transition : Transition) × IsTransitionAt explored state burst transition
       × (is_shown transition.found.used transition.found.kept ≡ true)

@@ -6,7 +6,7 @@ use Rattle.hz_write.specs.Writes.{newline}
 use Rattle.hz_text.specs.Printed.{all_listed, assignment_text, statement_text}
 use Rattle.hz_text.specs.VariableWord.{spaced_word}
 use Rattle.hz_orders.specs.declared.order.Order.{Order}
-use Rattle.hz_states.specs.States.{number_of}
+use Rattle.hz_states.specs.States.{state_number}
 use Rattle.hz_timing.specs.declared.script.Assumption.{Assumption}
 use Rattle.hz_timing.specs.declared.script.Assumption.TheVariants as assumed
 use Rattle.hz_explore.specs.declared.counting.Classes.{Classes}
@@ -81,7 +81,7 @@ used_text assumptions (order ∷ orders) kept =
 abbrev pub outcome_text : Netlist → List Assumption → List (List Bool) → Transition → Outcome →
     List ℕ
 outcome_text netlist assumptions states transition (Settled next) =
-    codes " to " ++ number_text (number_of states (nodes_of netlist next))
+    codes " to " ++ number_text (state_number states (nodes_of netlist next))
     ++ burst_text netlist transition.burst
     ++ counts_text (classes_of (node_classes netlist transition.found))
     ++ maybe_static_text assumptions (classes_of (node_classes netlist transition.found))

@@ -6,7 +6,7 @@ use Rattle.hz_timing.specs.declared.script.Assumption.{Assumption}
 use Rattle.hz_edge_reports.specs.EdgeChanges.{ChangeOf, IsChangeFrom, IsNextStart, IsRightChange, IsStopper}
 use Rattle.hz_edge_reports.specs.Room.{CanBeMade, IsChangeRoom}
 use Rattle.hz_explore.specs.declared.bursts.Bursts.{Bursts}
-use Rattle.hz_states.specs.States.{number_of}
+use Rattle.hz_states.specs.States.{state_number}
 use Rattle.hz_text.specs.VariableWord.{spaced_word}
 use Rattle.hz_explore.specs.declared.counting.Classes.{Classes}
 use Rattle.hz_explore.specs.declared.counting.Totals.{Totals}
@@ -57,7 +57,7 @@ abbrev pub IsNoted : Netlist → ChangeOf → Bool → ExploreRoom → ExploreRo
 IsNoted netlist found is_clean was now (end.Settled place) =
     (next : List Bool) × IsNextStart netlist found.ends next
     × (now.states ≡ found_with was.states (nodes_of netlist next))
-    × (place ≡ number_of now.states (nodes_of netlist next))
+    × (place ≡ state_number now.states (nodes_of netlist next))
     × (now.totals ≡ counted was.totals (count_if is_clean) (is_some place))
 IsNoted netlist found is_clean was now (end.Unsettled var) =
     IsStopper netlist found.input found.ends var

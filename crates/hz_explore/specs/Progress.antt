@@ -8,7 +8,7 @@ use Rattle.hz_states.specs.States.{same_state}
 use Rattle.hz_timing.specs.declared.script.Assumption.{Assumption}
 use Rattle.hz_explore.specs.declared.counting.Totals.{Totals}
 use Rattle.hz_explore.specs.Limits.{most_states}
-use Rattle.hz_explore.specs.Reached.{nodes_of, IsReached, SettlesUnder}
+use Rattle.hz_explore.specs.Reached.{nodes_of, IsReachedState, SettlesUnder}
 use Rattle.hz_explore.specs.Transitions.{AreTransitions, ends_of}
 use Rattle.hz_explore.specs.Counts.{Count, Clean, Hazard, NotSettled}
 use Rattle.hz_explore.specs.Exploration.{Explored, all_nodes, all_transitions, found_by, state_of}
@@ -24,7 +24,7 @@ pub record IsFound (netlist : Netlist) (cap : ℕ) (assumptions : List Assumptio
     (bursts : List (List (ℕ × Bool))) (start : List Bool) (nodes : List Bool) : Type 0 where
   pub long : length nodes ≡ length netlist.names
   pub stable : IsStableStart netlist (expansion_of netlist nodes)
-  pub led : IsReached (SettlesUnder netlist cap assumptions) bursts start
+  pub led : IsReachedState (SettlesUnder netlist cap assumptions) bursts start
       (expansion_of netlist nodes)
 
 -- The first states of an exploration have their transitions, and these states were found by them.

@@ -60,6 +60,6 @@ LeadTo settles bursts state (burst ∷ later) last =
     × LeadTo settles bursts next later last
 
 -- some bursts do
-abbrev pub IsReached : Settling → List (List (ℕ × Bool)) → List Bool → List Bool → Type 0
-IsReached settles bursts start state =
+abbrev pub IsReachedState : Settling → List (List (ℕ × Bool)) → List Bool → List Bool → Type 0
+IsReachedState settles bursts start state =
     (path : List (List (ℕ × Bool))) × LeadTo settles bursts start path state

@@ -44,14 +44,14 @@ pub record AreTransitions (netlist : Netlist) (cap : ℕ) (assumptions : List As
   pub right : All (IsRightTransition netlist cap assumptions) transitions
 
 -- the values of the nodes where a transition ends, if it settles
-abbrev pub end_of : Netlist → Outcome → Option (List Bool)
-end_of netlist (Settled next) = Some (nodes_of netlist next)
-end_of netlist (Unsettled var) = None
+abbrev pub transition_end : Netlist → Outcome → Option (List Bool)
+transition_end netlist (Settled next) = Some (nodes_of netlist next)
+transition_end netlist (Unsettled var) = None
 
 -- those of transitions, in their order
 abbrev pub ends_of : Netlist → List Transition → List (List Bool)
 ends_of netlist transitions =
-    filter_map (λ transition. end_of netlist transition.outcome) transitions
+    filter_map (λ transition. transition_end netlist transition.outcome) transitions
 
 -- the class of variable i in a change
 abbrev pub class_at : ChangeOf → ℕ → EdgeClass

@@ -5,7 +5,7 @@ ghost use Rattle.hz_net.specs.Starts.{IsStableStart};
 ghost use Rattle.hz_net.specs.Variables.{expansion_of};
 ghost use Rattle.hz_edge_reports.specs.EdgeChanges.{IsChangeFrom, IsRightChange};
 ghost use Rattle.hz_edge_reports.specs.Room.{CanBeMade, change_of};
-ghost use Rattle.hz_states.specs.States.{number_of, state_at};
+ghost use Rattle.hz_states.specs.States.{state_number, state_at};
 ghost use Rattle.hz_explore.specs.Exploration.{found_with};
 ghost use Rattle.hz_explore.specs.Reached.{nodes_of};
 ghost use Rattle.hz_explore.specs.Transitions.{node_classes};
@@ -167,7 +167,7 @@ fn is_shown(orders: &[Order], kept: bool) -> bool
 // Adds a state to those that were found, if there is room for it, and returns its number.
 fn note(states: &mut States, nodes: &[bool]) -> Result<Option<u32>, Memory>
     ensures states { OnOk result (states.new ≡ found_with states.old nodes.now) }
-    ensures place { IfOk result (λ place. place ≡ number_of states.new nodes.now) }
+    ensures place { IfOk result (λ place. place ≡ state_number states.new nodes.now) }
 {
     if states.len() >= MOST_STATES as usize {
         return Ok(states.find(nodes)?);

@@ -1,7 +1,7 @@
 -- Moves of a gate's pins lead from one position to another, and back: each way is a part of walks, and each part of a walk a way.
 use Rattle.std.proofs.Common.{◌≡◌, ◌≢◌, ℕ, zero, suc, ◌+◌, ◌<◌, ◌≤◌, Bool, true, false, not, List, [], ◌∷◌, map, length, take, drop, get_or, All, if◌then◌else◌, refl, sym, ap, ◌∙◌, subst, arith, inl, inr}
 use Rattle.hz_orders.proofs.Words.{◌==◌, cases_Bool, false≢true, Kind, gate_value, Count, Exact, Many, Word, change_count, current_letters, after_move, IsPartOfWalk}
-use Rattle.hz_orders.proofs.Words.{change_between, walk_changes, capped_word, IsAtMost, last_after, Order, advances, IsKeptAt, IsExact, AreExact, IsPosition, value_of, IsOnward}
+use Rattle.hz_orders.proofs.Words.{change_between, walk_changes, capped_word, IsAtMost, last_after, Order, advances, IsKeptAt, IsExactCount, AreExact, IsPosition, value_of, IsOnward}
 use Rattle.hz_orders.proofs.Words.{KeepsAt, IsMostFrom, begin}
 use Rattle.std.specs.Bool.{beq, nat_lt, nat_le}
 use Rattle.std.specs.Prelude.{◌%◌}
@@ -213,11 +213,11 @@ at-begin [] j = refl
 at-begin (pin ∷ pins) zero = refl
 at-begin (pin ∷ pins) (suc j) = at-begin pins j
 
-exact-count : (cap n : ℕ) → IsExact (capped_count cap n) → Exact n ≡ capped_count cap n
+exact-count : (cap n : ℕ) → IsExactCount (capped_count cap n) → Exact n ≡ capped_count cap n
 exact-count cap n exact =
     elim (cases_Bool (nat_le n cap)) [
       | inl within ↦ rw within refl
-      | inr beyond ↦ absurd (subst (λ (c : Count). IsExact c) (same beyond) exact)
+      | inr beyond ↦ absurd (subst (λ (c : Count). IsExactCount c) (same beyond) exact)
     ]
   where
     same : nat_le n cap ≡ false → capped_count cap n ≡ Many

@@ -1,13 +1,13 @@
 -- The table, place by place: the most from a place on follows from what is told of the later ones.
 use Rattle.std.proofs.Common.{◌≡◌, ◌≢◌, ◌⊎◌, ℕ, zero, suc, ◌+◌, ◌-◌, ◌*◌, ◌<◌, ◌≤◌, Bool, true, false, List, [], ◌∷◌, ◌++◌, length, map, max, take, set, get_or, refl, sym, ap, ◌∙◌, subst, arith, inl, inr}
-use Rattle.hz_orders.proofs.Words.{cases_lt, false≢true, ◌==◌, slice_range, length-set, take-length, Word, change_between, last_after, constant_word, IsExact, AreExact}
+use Rattle.hz_orders.proofs.Words.{cases_lt, false≢true, ◌==◌, slice_range, length-set, take-length, Word, change_between, last_after, constant_word, IsExactCount, AreExact}
 use Rattle.hz_orders.proofs.Words.{IsPosition, behind_numbers, positions_of, begin, value_of, IsOnward, KeepsAt, IsMostFrom, AdvancesEach, OrderedGate}
 use Rattle.std.proofs.lemmas.Bool.{eq-eqb}
 use Rattle.std.specs.Prelude.{Result, Ok, Err, IfOk, Option, Some, None, IfSome}
 use Rattle.std.proofs.lemmas.List.{append_assoc, map-append, take_all, get_or-set_same, get_or-set_other}
 use Rattle.std.proofs.Math.Seq.{take-suc}
 use Rattle.std.proofs.Math.Nat.{suc-mul, mul-suc}
-use Rattle.hz_orders.specs.Positions.{number_of, most_places, HaveTable, letters_at, IsKeptMove, IsWay, way_changes}
+use Rattle.hz_orders.specs.Positions.{exact_count, most_places, HaveTable, letters_at, IsKeptMove, IsWay, way_changes}
 use Rattle.hz_orders.specs.Tables.{IsRow, AreMostBehind, changes_through, LeadsTo, IsBest}
 use Rattle.hz_orders.proofs.Sorted.{Stands, every-stands, each-inside, length-position, stands-later, stands-once, length-behind_numbers, some-positions, begins-first}
 use Rattle.hz_orders.proofs.Onward.{onward-each, each-onward}
@@ -227,9 +227,9 @@ some-pins n some =
       | inr not_less ↦ let none : n ≡ 0 = omega (arith, not_less) in absurd (false≢true (some ∙ eq-eqb n 0 none))
     ]
 
-pub positions-cons : (pins : List Word) → 1 ≤ length pins → positions_of pins ≡ behind_numbers (suc (number_of (get_or pins 0 (constant_word false)).changes)) (positions_of (slice_range pins 1 (length pins)))
+pub positions-cons : (pins : List Word) → 1 ≤ length pins → positions_of pins ≡ behind_numbers (suc (exact_count (get_or pins 0 (constant_word false)).changes)) (positions_of (slice_range pins 1 (length pins)))
 positions-cons [] some = absurd (omega arith)
-positions-cons (pin ∷ pins) some = ap (λ (ps : List Word). behind_numbers (suc (number_of pin.changes)) (positions_of ps)) (sym (rest-is pin pins))
+positions-cons (pin ∷ pins) some = ap (λ (ps : List Word). behind_numbers (suc (exact_count pin.changes)) (positions_of ps)) (sym (rest-is pin pins))
 
 pub positions-none : (pins : List Word) → length pins ≡ 0 → positions_of pins ≡ [] ∷ []
 positions-none [] none = refl
@@ -247,12 +247,12 @@ other-factor : (n m : ℕ) → 1 ≤ m → n ≤ n * m
 other-factor n zero some = absurd (omega (arith, some))
 other-factor n (suc m) some = let product = mul-suc n m in omega arith
 
-pub length-cons : (pins : List Word) → 1 ≤ length pins → length (positions_of pins) ≡ suc (number_of (get_or pins 0 (constant_word false)).changes) * length (positions_of (slice_range pins 1 (length pins)))
+pub length-cons : (pins : List Word) → 1 ≤ length pins → length (positions_of pins) ≡ suc (exact_count (get_or pins 0 (constant_word false)).changes) * length (positions_of (slice_range pins 1 (length pins)))
 length-cons pins some =
     ap length (positions-cons pins some)
-    ∙ length-behind_numbers (suc (number_of (get_or pins 0 (constant_word false)).changes)) (positions_of (slice_range pins 1 (length pins)))
+    ∙ length-behind_numbers (suc (exact_count (get_or pins 0 (constant_word false)).changes)) (positions_of (slice_range pins 1 (length pins)))
 
-pub table-cons : (pins : List Word) → 1 ≤ length pins → IsExact (get_or pins 0 (constant_word false)).changes → HaveTable (slice_range pins 1 (length pins)) → suc (number_of (get_or pins 0 (constant_word false)).changes) * length (positions_of (slice_range pins 1 (length pins))) ≤ most_places → HaveTable pins
+pub table-cons : (pins : List Word) → 1 ≤ length pins → IsExactCount (get_or pins 0 (constant_word false)).changes → HaveTable (slice_range pins 1 (length pins)) → suc (exact_count (get_or pins 0 (constant_word false)).changes) * length (positions_of (slice_range pins 1 (length pins))) ≤ most_places → HaveTable pins
 table-cons [] some exact rest few = absurd (omega arith)
 table-cons (pin ∷ pins) some exact rest few =
     record {
@@ -260,13 +260,13 @@ table-cons (pin ∷ pins) some exact rest few =
       few = let long = length-cons (pin ∷ pins) some in omega (arith, few, long);
     }
 
-pub table-first : (pins : List Word) → 1 ≤ length pins → HaveTable pins → IsExact (get_or pins 0 (constant_word false)).changes × (number_of (get_or pins 0 (constant_word false)).changes < most_places)
+pub table-first : (pins : List Word) → 1 ≤ length pins → HaveTable pins → IsExactCount (get_or pins 0 (constant_word false)).changes × (exact_count (get_or pins 0 (constant_word false)).changes < most_places)
 table-first [] some table = absurd (omega arith)
 table-first (pin ∷ pins) some table = (
   table.exact.0,
   let few = table.few in
-      let long = length-behind_numbers (suc (number_of pin.changes)) (positions_of pins) in
-      let product = other-factor (suc (number_of pin.changes)) (length (positions_of pins)) (some-positions pins) in
+      let long = length-behind_numbers (suc (exact_count pin.changes)) (positions_of pins) in
+      let product = other-factor (suc (exact_count pin.changes)) (length (positions_of pins)) (some-positions pins) in
       omega arith,
 )
 
@@ -277,8 +277,8 @@ table-rest (pin ∷ pins) some table =
     (record {
       exact = table.exact.1;
       few = let few = table.few in
-          let long = length-behind_numbers (suc (number_of pin.changes)) (positions_of pins) in
-          let product = factor-less (number_of pin.changes) (length (positions_of pins)) in
+          let long = length-behind_numbers (suc (exact_count pin.changes)) (positions_of pins) in
+          let product = factor-less (exact_count pin.changes) (length (positions_of pins)) in
           omega arith;
     })
 
@@ -313,23 +313,23 @@ pub if-ok : {T E : Type 0} (r : Result T E) (P Q : T → Type 0) → ((x : T) �
 if-ok (Ok x) P Q each holds = each x holds
 if-ok (Err e) P Q each holds = tt
 
-pub some-places : (pins : List Word) (rest : ℕ) (o : Option ℕ) → 1 ≤ length pins → HaveTable (slice_range pins 1 (length pins)) → rest ≡ length (positions_of (slice_range pins 1 (length pins))) → IfSome o (λ places. IsExact (get_or pins 0 (constant_word false)).changes × (places ≡ suc (number_of (get_or pins 0 (constant_word false)).changes) * rest) × (places ≤ most_places)) → IfSome o (λ places. HaveTable pins × (places ≡ length (positions_of pins)))
+pub some-places : (pins : List Word) (rest : ℕ) (o : Option ℕ) → 1 ≤ length pins → HaveTable (slice_range pins 1 (length pins)) → rest ≡ length (positions_of (slice_range pins 1 (length pins))) → IfSome o (λ places. IsExactCount (get_or pins 0 (constant_word false)).changes × (places ≡ suc (exact_count (get_or pins 0 (constant_word false)).changes) * rest) × (places ≤ most_places)) → IfSome o (λ places. HaveTable pins × (places ≡ length (positions_of pins)))
 some-places pins rest None some table same is = tt
 some-places pins rest (Some places) some table same is =
-    let product : places ≡ suc (number_of (get_or pins 0 (constant_word false)).changes) * length (positions_of (slice_range pins 1 (length pins))) =
-    is.1 ∙ ap (λ (r : ℕ). suc (number_of (get_or pins 0 (constant_word false)).changes) * r) same in
+    let product : places ≡ suc (exact_count (get_or pins 0 (constant_word false)).changes) * length (positions_of (slice_range pins 1 (length pins))) =
+    is.1 ∙ ap (λ (r : ℕ). suc (exact_count (get_or pins 0 (constant_word false)).changes) * r) same in
     let few = is.2 in
     (table-cons pins some is.0 table (subst (λ (n : ℕ). n ≤ most_places) product few), product ∙ sym (length-cons pins some))
 
-pub no-places : (pins : List Word) (rest : ℕ) → 1 ≤ length pins → rest ≡ length (positions_of (slice_range pins 1 (length pins))) → HaveTable pins → (IsExact (get_or pins 0 (constant_word false)).changes → 1 ≤ rest → suc (number_of (get_or pins 0 (constant_word false)).changes) * rest ≤ most_places → ⊥) → ⊥
+pub no-places : (pins : List Word) (rest : ℕ) → 1 ≤ length pins → rest ≡ length (positions_of (slice_range pins 1 (length pins))) → HaveTable pins → (IsExactCount (get_or pins 0 (constant_word false)).changes → 1 ≤ rest → suc (exact_count (get_or pins 0 (constant_word false)).changes) * rest ≤ most_places → ⊥) → ⊥
 no-places pins rest some same table none =
     let positions = some-positions (slice_range pins 1 (length pins)) in
-    let product : length (positions_of pins) ≡ suc (number_of (get_or pins 0 (constant_word false)).changes) * rest =
-    length-cons pins some ∙ ap (λ (r : ℕ). suc (number_of (get_or pins 0 (constant_word false)).changes) * r) (sym same) in
+    let product : length (positions_of pins) ≡ suc (exact_count (get_or pins 0 (constant_word false)).changes) * rest =
+    length-cons pins some ∙ ap (λ (r : ℕ). suc (exact_count (get_or pins 0 (constant_word false)).changes) * r) (sym same) in
     none (table-first pins some table).0 (omega (arith, positions, same)) (subst (λ (n : ℕ). n ≤ most_places) product table.few)
 
-pub positions-more : (pins : List Word) (below : ℕ) (tails : List (List ℕ)) → 1 ≤ length pins → below ≡ suc (number_of (get_or pins 0 (constant_word false)).changes) → tails ≡ positions_of (slice_range pins 1 (length pins)) → behind_numbers below tails ≡ positions_of pins
+pub positions-more : (pins : List Word) (below : ℕ) (tails : List (List ℕ)) → 1 ≤ length pins → below ≡ suc (exact_count (get_or pins 0 (constant_word false)).changes) → tails ≡ positions_of (slice_range pins 1 (length pins)) → behind_numbers below tails ≡ positions_of pins
 positions-more pins below tails some is_below is_tails =
     ap (λ (n : ℕ). behind_numbers n tails) is_below
-    ∙ (ap (behind_numbers (suc (number_of (get_or pins 0 (constant_word false)).changes))) is_tails
+    ∙ (ap (behind_numbers (suc (exact_count (get_or pins 0 (constant_word false)).changes))) is_tails
     ∙ sym (positions-cons pins some))

@@ -1,10 +1,10 @@
 -- The positions of pins: each stands in the list, and they stand in the order of their numbers.
 use Rattle.std.proofs.Common.{◌≡◌, ◌≢◌, ◌⊎◌, ℕ, zero, suc, ◌+◌, ◌*◌, ◌-◌, ◌<◌, ◌≤◌, List, [], ◌∷◌, ◌++◌, map, length, get_or, refl, sym, ap, ◌∙◌, subst, arith, inl, inr}
-use Rattle.hz_orders.proofs.Words.{cases_lt, length-map, get_or-map, Count, Exact, Many, Word, IsAtMost, IsExact, AreExact, IsPosition, behind_numbers, positions_of, begin}
+use Rattle.hz_orders.proofs.Words.{cases_lt, length-map, get_or-map, Count, Exact, Many, Word, IsAtMost, IsExactCount, AreExact, IsPosition, behind_numbers, positions_of, begin}
 use Rattle.hz_orders.proofs.Words.{IsOnward}
 use Rattle.std.proofs.lemmas.List.{length-append, get_or_append_left, get_or-append_right}
 use Rattle.std.proofs.Math.Nat.{suc-mul}
-use Rattle.hz_orders.specs.Positions.{number_of}
+use Rattle.hz_orders.specs.Positions.{exact_count}
 
 -- a position stands in a list
 abbrev pub Stands : List (List ℕ) → List ℕ → Type 0
@@ -47,11 +47,11 @@ stands-behind_numbers (suc below) tails times position less stands =
           (stands-right (behind_numbers below tails) (behind below tails) (below ∷ position) (stands-behind below tails position stands))
     ]
 
-at_most-number : (times : ℕ) (count : Count) → IsExact count → IsAtMost (Exact times) count → times ≤ number_of count
+at_most-number : (times : ℕ) (count : Count) → IsExactCount count → IsAtMost (Exact times) count → times ≤ exact_count count
 at_most-number times (Exact changes) exact below = below
 at_most-number times Many exact below = absurd exact
 
-number-at_most : (times : ℕ) (count : Count) → IsExact count → times ≤ number_of count → IsAtMost (Exact times) count
+number-at_most : (times : ℕ) (count : Count) → IsExactCount count → times ≤ exact_count count → IsAtMost (Exact times) count
 number-at_most times (Exact changes) exact below = below
 number-at_most times Many exact below = absurd exact
 
@@ -60,7 +60,7 @@ every-stands [] exact [] is = (0, omega arith, refl)
 every-stands [] exact (times ∷ position) is = absurd is
 every-stands (pin ∷ pins) exact [] is = absurd is
 every-stands (pin ∷ pins) exact (times ∷ position) is =
-    stands-behind_numbers (suc (number_of pin.changes)) (positions_of pins) times position
+    stands-behind_numbers (suc (exact_count pin.changes)) (positions_of pins) times position
     (let below = at_most-number times pin.changes exact.0 is.0 in omega arith)
     (every-stands pins exact.1 position is.1)
 
@@ -92,7 +92,7 @@ pub each-inside : (pins : List Word) → AreExact pins → (k : ℕ) → k < len
 each-inside [] exact zero few = tt
 each-inside [] exact (suc k) few = absurd (omega arith)
 each-inside (pin ∷ pins) exact k few =
-    all-behind_numbers (IsPosition (pin ∷ pins)) (suc (number_of pin.changes)) (positions_of pins)
+    all-behind_numbers (IsPosition (pin ∷ pins)) (suc (exact_count pin.changes)) (positions_of pins)
     (λ times less k' few'. (number-at_most times pin.changes exact.0 (omega (arith, less)), each-inside pins exact.1 k' few')) k few
 
 pub length-position : (pins : List Word) (position : List ℕ) → IsPosition pins position → length position ≡ length pins
@@ -156,7 +156,7 @@ sorted-behind_numbers (suc below) tails sorted j k less few =
 
 sorted-positions : (pins : List Word) → AreSorted (positions_of pins)
 sorted-positions [] j k less few = absurd (omega arith)
-sorted-positions (pin ∷ pins) j k less few = sorted-behind_numbers (suc (number_of pin.changes)) (positions_of pins) (sorted-positions pins) j k less few
+sorted-positions (pin ∷ pins) j k less few = sorted-behind_numbers (suc (exact_count pin.changes)) (positions_of pins) (sorted-positions pins) j k less few
 
 not-before : (before after : List ℕ) → IsOnward before after → IsBefore after before → ⊥
 not-before [] [] onward earlier = earlier
@@ -206,8 +206,8 @@ pub some-positions : (pins : List Word) → 1 ≤ length (positions_of pins)
 some-positions [] = omega arith
 some-positions (pin ∷ pins) =
     let some = some-positions pins in
-    let long = length-behind_numbers (suc (number_of pin.changes)) (positions_of pins) in
-    let product = suc-mul (number_of pin.changes) (length (positions_of pins)) in
+    let long = length-behind_numbers (suc (exact_count pin.changes)) (positions_of pins) in
+    let product = suc-mul (exact_count pin.changes) (length (positions_of pins)) in
     omega arith
 
 -- the first position
@@ -223,4 +223,4 @@ at-first (suc most) tails some =
 pub begins-first : (pins : List Word) → get_or (positions_of pins) 0 [] ≡ begin pins
 begins-first [] = refl
 begins-first (pin ∷ pins) =
-    at-first (number_of pin.changes) (positions_of pins) (some-positions pins) ∙ ap (λ (tail : List ℕ). 0 ∷ tail) (begins-first pins)
+    at-first (exact_count pin.changes) (positions_of pins) (some-positions pins) ∙ ap (λ (tail : List ℕ). 0 ∷ tail) (begins-first pins)

@@ -1,7 +1,7 @@
 -- Pins have a table or not, the orders whose gates have tables, and what they bound.
 use Rattle.std.proofs.Common.{◌≡◌, ◌≢◌, ◌⊎◌, ℕ, suc, ◌+◌, ◌<◌, ◌≤◌, List, [], ◌∷◌, ◌++◌, length, take, get_or, All, refl, sym, ap, ◌∙◌, subst, inl, inr, arith, append-nil, IsTrue, IfOk, Result, Ok, Err}
 use Rattle.hz_orders.proofs.Words.{slice_range, cases_lt, length-map, Kind, takes, Netlist, IsCircuit, gate_at, Driver, Function, Source, network_of, driver_at, first_wire, Reads}
-use Rattle.hz_orders.proofs.Words.{is_gate_of, wired-network_of, reads-inside, Count, Exact, Many, Word, capped_word, Order, advances, IsBoundUnder, IsKeptAt, AreExact, IsExact}
+use Rattle.hz_orders.proofs.Words.{is_gate_of, wired-network_of, reads-inside, Count, Exact, Many, Word, capped_word, Order, advances, IsBoundUnder, IsKeptAt, AreExact, IsExactCount}
 use Rattle.hz_orders.proofs.Words.{positions_of, AreTabled}
 use Rattle.std.proofs.lemmas.List.{take_more}
 use Rattle.std.proofs.lemmas.List.Elements.{All-nil, All-cons, All-head, All-tail}
@@ -18,7 +18,7 @@ if-both (Ok x) P Q R each one two = each x one two
 if-both (Err e) P Q R each one two = tt
 
 -- a number of changes is exact, or it is not
-is-exact-or-not : (count : Count) → IsExact count ⊎ (IsExact count → ⊥)
+is-exact-or-not : (count : Count) → IsExactCount count ⊎ (IsExactCount count → ⊥)
 is-exact-or-not (Exact n) = inl tt
 is-exact-or-not Many = inr (λ exact. exact)
 

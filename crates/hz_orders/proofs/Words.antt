@@ -23,7 +23,7 @@ pub use Rattle.hz_orders.specs.Inductive.{IsEnoughUnder, IsInductiveHolding, IsI
 pub use Rattle.hz_orders.specs.Orders.{Keeps}
 pub use Rattle.hz_orders.specs.Outcomes.{told_value}
 pub use Rattle.hz_orders.specs.Parts.{IsBoundUnder, IsKeptAt, advances}
-pub use Rattle.hz_orders.specs.Positions.{AreExact, IsExact, IsMostFrom, IsOnward, IsPosition, KeepsAt, begin, behind_numbers, positions_of, value_of}
+pub use Rattle.hz_orders.specs.Positions.{AreExact, IsExactCount, IsMostFrom, IsOnward, IsPosition, KeepsAt, begin, behind_numbers, positions_of, value_of}
 pub use Rattle.hz_orders.specs.Tabled.{AreTabled}
 pub use Rattle.hz_orders.specs.Tables.{AdvancesEach}
 pub use Rattle.hz_orders.specs.Telling.{AreToldSoFar}

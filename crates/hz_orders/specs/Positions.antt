@@ -13,19 +13,19 @@ use Rattle.hz_orders.specs.declared.order.Order.{Order}
 use Rattle.hz_orders.specs.Parts.{IsKeptAt}
 
 -- a number of changes is exact
-abbrev pub IsExact : Count → Type 0
-IsExact (Exact changes) = Unit {0}
-IsExact Many = ⊥
+abbrev pub IsExactCount : Count → Type 0
+IsExactCount (Exact changes) = Unit {0}
+IsExactCount Many = ⊥
 
 -- the numbers of changes of pins are exact
 abbrev pub AreExact : List Word → Type 0
 AreExact [] = Unit {0}
-AreExact (pin ∷ pins) = IsExact pin.changes × AreExact pins
+AreExact (pin ∷ pins) = IsExactCount pin.changes × AreExact pins
 
 -- the number, if it is exact
-abbrev pub number_of : Count → ℕ
-number_of (Exact changes) = changes
-number_of Many = 0
+abbrev pub exact_count : Count → ℕ
+exact_count (Exact changes) = changes
+exact_count Many = 0
 
 -- a position of pins: none has advanced more often than its word changes
 abbrev pub IsPosition : List Word → List ℕ → Type 0
@@ -44,7 +44,7 @@ behind_numbers (suc below) tails =
 -- all positions of pins whose numbers of changes are exact, by the first pin, then by the second, and so on
 abbrev pub positions_of : List Word → List (List ℕ)
 positions_of [] = [] ∷ []
-positions_of (pin ∷ pins) = behind_numbers (suc (number_of pin.changes)) (positions_of pins)
+positions_of (pin ∷ pins) = behind_numbers (suc (exact_count pin.changes)) (positions_of pins)
 
 -- the most positions of which there is a table
 abbrev pub most_places : ℕ

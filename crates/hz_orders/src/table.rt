@@ -7,7 +7,7 @@ ghost use Rattle.hz_word.specs.Capped.{IsFold, IsWithinCap, capped_count, greate
 ghost use Rattle.hz_word.specs.Pairs.{last_after};
 ghost use Rattle.hz_word.specs.Walk.{change_between};
 ghost use Rattle.hz_orders.specs.Parts.{IsBoundUnder, IsCountUnder, IsKeptAt};
-ghost use Rattle.hz_orders.specs.Positions.{begin, behind_numbers, HaveTable, IsExact, IsMostFrom, KeepsAt, most_places, number_of, positions_of, value_of};
+ghost use Rattle.hz_orders.specs.Positions.{begin, behind_numbers, HaveTable, IsExactCount, IsMostFrom, KeepsAt, most_places, exact_count, positions_of, value_of};
 ghost use Rattle.hz_orders.specs.Tables.{AdvancesEach, AreEnoughOrders, AreMostBehind, ArePlaces, AreWithOrder, IsOfOthers, IsPlaceAt, IsTable};
 
 use crate::order::Order;
@@ -102,8 +102,8 @@ fn places(pins: &[Word]) -> Option<u64>
 // The product of a number and one more than another, if it is not too great for a table.
 fn times_one_more(changes: Count, rest: u64) -> Option<u64>
     requires { rest ≤ most_places }
-    ensures some { IfSome result (λ places. IsExact changes × (places ≡ suc (number_of changes) * rest) × (places ≤ most_places)) }
-    ensures none { IsNone result → IsExact changes → 1 ≤ rest → suc (number_of changes) * rest ≤ most_places → ⊥ }
+    ensures some { IfSome result (λ places. IsExactCount changes × (places ≡ suc (exact_count changes) * rest) × (places ≤ most_places)) }
+    ensures none { IsNone result → IsExactCount changes → 1 ≤ rest → suc (exact_count changes) * rest ≤ most_places → ⊥ }
 {
     match changes {
         Count::Exact(changes) if changes < MOST_PLACES && (changes + 1) * rest <= MOST_PLACES =>
@@ -238,8 +238,8 @@ fn all_positions(alloc: Global, pins: &[Word]) -> Result<Positions, Memory>
 
 // The number of a count that is exact.
 fn number_of(count: Count) -> u32
-    requires { number_of count < most_places }
-    ensures { result ≡ number_of count }
+    requires { exact_count count < most_places }
+    ensures { result ≡ exact_count count }
 {
     match count {
         Count::Exact(changes) => changes as u32,

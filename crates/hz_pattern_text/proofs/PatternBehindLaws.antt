@@ -17,7 +17,7 @@ use Rattle.hz_pattern_text.specs.Limits.{most_patterns}
 use Rattle.hz_text.specs.Rules.{first_fault_in, first_fault_of, IsFaultOrMemory, IsChecked}
 use Rattle.hz_pattern_text.specs.PatternStatement.{Hold, Pattern}
 use Rattle.hz_pattern_text.specs.PatternResolution.{ResolvedPatternStatement, resolve_pattern_tokens}
-use Rattle.hz_pattern_text.specs.PatternFault.{resolved_pattern_statements, HasPatternFault, IsPatternFaultless, IsPatternRefusal, assignments_in, holds_unknown, lacks_bit, is_hold}
+use Rattle.hz_pattern_text.specs.PatternFault.{resolved_pattern_statements, HasPatternFault, IsPatternFaultless, IsPatternRefusal, held_assignments, holds_unknown, has_malformed_bit, is_hold}
 use Rattle.hz_pattern_text.specs.PatternText.{held_first, behind_hold, pattern_statement, ArePatternsBy, IsPatternsValue, IsPatternOf, ArePatternsFor}
 use Rattle.hz_pattern_text.specs.PatternRules.{holds_node_twice, first_late_hold, last_beyond, pattern_rules, first_pattern_fault, late_hold_behind, beyond_behind, rules_behind, fault_behind, ArePatternsBehind}
 use Rattle.hz_pattern_text.specs.PatternPrinted.{pattern_text}
@@ -61,7 +61,7 @@ no-hold : (rest : List (Numbered ResolvedPatternStatement)) → first_passing_li
 no-hold [] e = (refl, refl)
 no-hold (first ∷ later) e = let none = (none-first is_hold first later e).0 in (rw none refl, nothing first.statement none)
   where
-    nothing : (statement : ResolvedPatternStatement) → is_hold statement ≡ false → assignments_in statement ≡ []
+    nothing : (statement : ResolvedPatternStatement) → is_hold statement ≡ false → held_assignments statement ≡ []
     nothing (Hold assigned) h = cc
     nothing (Pattern from to) h = refl
 
@@ -121,7 +121,7 @@ passes-behind inputs lines front rest right few =
     first-behind test 1 words more (All-map (λ statement. test statement ≡ false) pattern_statement front none) ∙ first-later test lines rest in
     or-behind lines Unknown _ _ _ _ (λ place. refl) (pass (holds_unknown inputs) (λ k d l. refl)) (λ known.
     or-behind lines Twice _ _ _ _ (λ place. refl) (pass holds_node_twice (λ k d l. refl)) (λ once.
-    or-behind lines Bit _ _ _ _ (λ place. refl) (pass (lacks_bit inputs) (λ k d l. no_bit_lacks inputs _ (right k d l))) (λ bits.
+    or-behind lines Bit _ _ _ _ (λ place. refl) (pass (has_malformed_bit inputs) (λ k d l. no_bit_lacks inputs _ (right k d l))) (λ bits.
     or-behind lines Order _ _ _ _ (λ place. refl) (order-behind lines front rest) (λ none.
     or-behind lines TooMany _ _ _ _ (λ place. refl) (beyond-behind lines front rest few none) (λ short. refl)))))
 
@@ -155,7 +155,7 @@ pub clear-behind : (before inputs : ℕ) (rest : List (Numbered ResolvedPatternS
 clear-behind before inputs rest h =
     let a = none_parts Unknown (first_passing_line (holds_unknown inputs) rest) _ h in
     let b = none_parts Twice (first_passing_line holds_node_twice rest) _ a.1 in
-    let c = none_parts Bit (first_passing_line (lacks_bit inputs) rest) _ b.1 in
+    let c = none_parts Bit (first_passing_line (has_malformed_bit inputs) rest) _ b.1 in
     let d = none_parts Order (late_hold_behind before rest) _ c.1 in
     let e = (none_parts TooMany (beyond_behind before rest) _ d.1).0 in
     let many = few_behind (most_patterns - before) (behind_hold rest) e in
@@ -238,7 +238,7 @@ module _ (netlist : Netlist) (count : ℕ) (bits : List Bool) (rest : List ℕ) 
     late =
         let a = none_parts Unknown (first_passing_line (holds_unknown netlist.inputs) statements) _ h.clear in
         let b = none_parts Twice (first_passing_line holds_node_twice statements) _ a.1 in
-        let c = none_parts Bit (first_passing_line (lacks_bit netlist.inputs) statements) _ b.1 in
+        let c = none_parts Bit (first_passing_line (has_malformed_bit netlist.inputs) statements) _ b.1 in
         ap (λ (k : ℕ). late_hold_behind k statements) long ∙ (none_parts Order (late_hold_behind count statements) _ c.1).0
 
     -- the value of the text, and what holds of it

@@ -21,7 +21,7 @@ use Rattle.hz_pattern_text.specs.Limits.{most_patterns}
 use Rattle.hz_text.specs.Printed.{letter_of}
 use Rattle.hz_pattern_text.specs.PatternStatement.{Hold, Pattern}
 use Rattle.hz_pattern_text.specs.PatternResolution.{ResolvedPatternStatement, PatternEntry, pattern_resolution_of, numbered_pattern_resolution, numbered_pattern_resolutions}
-use Rattle.hz_pattern_text.specs.PatternFault.{assignments_in, holds_unknown, lacks_bit, is_hold}
+use Rattle.hz_pattern_text.specs.PatternFault.{held_assignments, holds_unknown, has_malformed_bit, is_hold}
 use Rattle.hz_pattern_text.specs.PatternText.{held_first, behind_hold, pattern_statement, ArePatternsBy, IsPatternOf, ArePatternsFor}
 use Rattle.hz_pattern_text.specs.PatternRules.{holds_node_twice, first_late_hold, last_beyond, first_pattern_fault, AssignsBelow}
 use Rattle.hz_pattern_text.specs.PatternValue.{PatternOf, PatternsOf, bits_of_pattern}
@@ -143,7 +143,7 @@ not-false true h = refl
 not-false false h = cc
 
 -- both words of a pattern that lacks no bit
-pub right_words : (inputs : ℕ) (from to : List ℕ) → lacks_bit inputs (Pattern from to) ≡ false → IsRightWord inputs from × IsRightWord inputs to
+pub right_words : (inputs : ℕ) (from to : List ℕ) → has_malformed_bit inputs (Pattern from to) ≡ false → IsRightWord inputs from × IsRightWord inputs to
 right_words inputs from to h =
     let parts = or_parts (not (is_bits_word inputs from)) (not (is_bits_word inputs to)) h in
     (right_word inputs from (not-false _ parts.0), right_word inputs to (not-false _ parts.1))
@@ -170,7 +170,7 @@ cut inputs a b rest la lb =
 module _ {X : Type 0} (inputs : ℕ) (f : X → ResolvedPatternStatement) where
   -- a pattern without a wrong word
   abbrev pub IsRight : X → Type 0
-  IsRight x = (is_hold (f x) ≡ false) × (lacks_bit inputs (f x) ≡ false)
+  IsRight x = (is_hold (f x) ≡ false) × (has_malformed_bit inputs (f x) ≡ false)
 
   -- the bits of all
   abbrev pub bits_in : List X → List Bool
@@ -209,7 +209,7 @@ module _ {X : Type 0} (inputs : ℕ) (f : X → ResolvedPatternStatement) where
 pub record IsClear (inputs : ℕ) (statements : List (Numbered ResolvedPatternStatement)) : Type 0 where
   pub unknown : first_passing_line (holds_unknown inputs) statements ≡ None
   pub twice : first_passing_line holds_node_twice statements ≡ None
-  pub bit : first_passing_line (lacks_bit inputs) statements ≡ None
+  pub bit : first_passing_line (has_malformed_bit inputs) statements ≡ None
   pub order : first_late_hold statements ≡ None
   pub few : last_beyond statements ≡ None
 
@@ -217,13 +217,13 @@ pub clear-from : (inputs : ℕ) (statements : List (Numbered ResolvedPatternStat
 clear-from inputs statements h =
     let a = none_parts fault.Unknown (first_passing_line (holds_unknown inputs) statements) _ h in
     let b = none_parts fault.Twice (first_passing_line holds_node_twice statements) _ a.1 in
-    let c = none_parts fault.Bit (first_passing_line (lacks_bit inputs) statements) _ b.1 in
+    let c = none_parts fault.Bit (first_passing_line (has_malformed_bit inputs) statements) _ b.1 in
     let d = none_parts fault.Order (first_late_hold statements) _ c.1 in
     record { unknown = a.0; twice = b.0; bit = c.0; order = d.0; few = (none_parts fault.TooMany (last_beyond statements) _ d.1).0 }
 
 -- a statement with its line is a pattern without a wrong word
 abbrev pub IsPatternLine : ℕ → Numbered ResolvedPatternStatement → Type 0
-IsPatternLine inputs numbered = (is_hold numbered.statement ≡ false) × (lacks_bit inputs numbered.statement ≡ false)
+IsPatternLine inputs numbered = (is_hold numbered.statement ≡ false) × (has_malformed_bit inputs numbered.statement ≡ false)
 
 both : {X : Type 0} (P Q : X → Type 0) (xs : List X) → All P xs → All Q xs → All (λ x. P x × Q x) xs
 both P Q xs p q = λ k d l. (p k d l, q k d l)
@@ -237,13 +237,13 @@ all-patterns inputs (first ∷ later) h = by_test (is_hold first.statement) refl
     P numbered = is_hold numbered.statement ≡ false
 
     Q : Numbered ResolvedPatternStatement → Type 0
-    Q numbered = lacks_bit inputs numbered.statement ≡ false
+    Q numbered = has_malformed_bit inputs numbered.statement ≡ false
 
     holds : All P later
     holds = All-from_first_line is_hold later h.order
 
     bits : All Q (first ∷ later)
-    bits = All-from_first_line (lacks_bit inputs) (first ∷ later) h.bit
+    bits = All-from_first_line (has_malformed_bit inputs) (first ∷ later) h.bit
 
     by_test : (t : Bool) → is_hold first.statement ≡ t → All (IsPatternLine inputs) (behind_hold (first ∷ later))
     by_test true t = rw t (both P Q later holds (All-tail Q first later bits))
@@ -264,11 +264,11 @@ held-pairs inputs nodes (entry ∷ entries) h below =
     let first = numbered_pattern_resolution entry in
     let later = numbered_pattern_resolutions entries in
     let u = All-head (λ (numbered : Numbered ResolvedPatternStatement). holds_unknown inputs numbered.statement ≡ false) first later (All-from_first_line (holds_unknown inputs) (first ∷ later) h.unknown) in
-    let b = All-head (λ (numbered : Numbered ResolvedPatternStatement). lacks_bit inputs numbered.statement ≡ false) first later (All-from_first_line (lacks_bit inputs) (first ∷ later) h.bit) in
+    let b = All-head (λ (numbered : Numbered ResolvedPatternStatement). has_malformed_bit inputs numbered.statement ≡ false) first later (All-from_first_line (has_malformed_bit inputs) (first ∷ later) h.bit) in
     let t = All-head (λ (numbered : Numbered ResolvedPatternStatement). holds_node_twice numbered.statement ≡ false) first later (All-from_first_line holds_node_twice (first ∷ later) h.twice) in
-    record { pairs = pairs-sound inputs nodes Gates (assignments_in first.statement) u (bits first.statement b) (All-head (AssignsBelow nodes) entry entries below); fresh = t }
+    record { pairs = pairs-sound inputs nodes Gates (held_assignments first.statement) u (bits first.statement b) (All-head (AssignsBelow nodes) entry entries below); fresh = t }
   where
-    bits : (statement : ResolvedPatternStatement) → lacks_bit inputs statement ≡ false → any_bitless (assignments_in statement) ≡ false
+    bits : (statement : ResolvedPatternStatement) → has_malformed_bit inputs statement ≡ false → any_bitless (held_assignments statement) ≡ false
     bits (Hold assigned) b = b
     bits (Pattern from to) b = refl
 
@@ -301,7 +301,7 @@ bits_long (suc inputs) (bit ∷ bits) h =
     let long : length (bits_word (bit ∷ bits)) ≡ suc inputs = grind (arith, nat_tests, parts.0) in
     sym (length-map (bit ∷ bits) letter_of) ∙ long
 
-pattern_long : (inputs : ℕ) (pattern : PatternOf) → lacks_bit inputs (pattern_statement pattern) ≡ false → IsPatternOf inputs pattern
+pattern_long : (inputs : ℕ) (pattern : PatternOf) → has_malformed_bit inputs (pattern_statement pattern) ≡ false → IsPatternOf inputs pattern
 pattern_long inputs pattern h =
     let parts = or_parts (not (is_bits_word inputs (bits_word pattern.from))) (not (is_bits_word inputs (bits_word pattern.to))) h in
     record { from = bits_long inputs pattern.from (not-false _ parts.0); to = bits_long inputs pattern.to (not-false _ parts.1) }
@@ -326,7 +326,7 @@ usable-patterns netlist statements value h is =
     let long : length value.held ≡ nodes = ap length is.held ∙ length-map (range_with_len 0 nodes) (assigned_bit all) ∙ length-range_with_len 0 nodes in
     let statement_of = λ (numbered : Numbered ResolvedPatternStatement). numbered.statement in
     let many : length value.patterns ≡ length (behind_hold statements) = sym (length-map value.patterns pattern_statement) ∙ ap length is.patterns ∙ length-map (behind_hold statements) statement_of in
-    let Q : ResolvedPatternStatement → Type 0 = λ statement. lacks_bit inputs statement ≡ false in
+    let Q : ResolvedPatternStatement → Type 0 = λ statement. has_malformed_bit inputs statement ≡ false in
     let rights : All (λ numbered. Q numbered.statement) (behind_hold statements) = λ k d l. (all-patterns inputs statements h k d l).1 in
     let lines : All Q (map pattern_statement value.patterns) = subst (All Q) (sym is.patterns) (All-map Q statement_of (behind_hold statements) rights) in
     let each = All-unmap Q pattern_statement value.patterns lines in

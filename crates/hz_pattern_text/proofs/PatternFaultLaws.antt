@@ -10,7 +10,7 @@ use Rattle.hz_text.specs.Assignment.{Gates}
 use Rattle.hz_text.specs.Rules.{first_fault_of, IsFaultOrMemory}
 use Rattle.hz_pattern_text.specs.PatternStatement.{PatternStatement, Hold, Pattern, pattern_statement_of, pattern_statements_of}
 use Rattle.hz_pattern_text.specs.PatternResolution.{ResolvedPatternStatement, resolve_pattern_statement, resolve_pattern_tokens}
-use Rattle.hz_pattern_text.specs.PatternFault.{resolved_pattern_statements, holds_unknown, holds_twice, lacks_bit, is_hold, HoldsLate, line_beyond, HasPatternFault, IsPatternFaultless, IsPatternRefusal}
+use Rattle.hz_pattern_text.specs.PatternFault.{resolved_pattern_statements, holds_unknown, holds_twice, has_malformed_bit, is_hold, HoldsLate, pattern_beyond, HasPatternFault, IsPatternFaultless, IsPatternRefusal}
 use Rattle.hz_pattern_text.specs.PatternText.{behind_hold}
 use Rattle.hz_pattern_text.specs.PatternRules.{holds_node_twice, first_late_hold, last_beyond, pattern_rules, first_pattern_fault}
 use Rattle.hz_text.proofs.PassLaws.{twice-names}
@@ -57,7 +57,7 @@ patterns-behind (first ∷ later) e = by_test (is_hold first.statement) refl
     by_test true t = rw t (filter-patterns later e)
     by_test false t = rw t (ap (λ rest. first ∷ rest) (filter-patterns later e))
 
-line_beyond-ordered : (statements : List (Numbered ResolvedPatternStatement)) → first_late_hold statements ≡ None → line_beyond statements ≡ last_beyond statements
+line_beyond-ordered : (statements : List (Numbered ResolvedPatternStatement)) → first_late_hold statements ≡ None → pattern_beyond statements ≡ last_beyond statements
 line_beyond-ordered statements none = rw (patterns-behind statements none) refl
 
 -- each pass answers the least place of its fault
@@ -66,7 +66,7 @@ judged netlist text =
     let inputs = netlist.inputs in
     let looked = resolved_pattern_statements netlist text in
     let up = looked-Ascends (resolve_pattern_statement netlist) pattern_statement_of text in
-    let P : Option ℕ → Type 0 = λ answer. IsLeastOf (λ place. line_beyond looked ≡ Some place) answer in
+    let P : Option ℕ → Type 0 = λ answer. IsLeastOf (λ place. pattern_beyond looked ≡ Some place) answer in
     let Q : Option ℕ → Type 0 = IsLeastOf (PassesOn holds_twice (pattern_statements_of text)) in
     record {
       form = answers_malformed (resolve_pattern_statement netlist) pattern_statement_of text;
@@ -76,9 +76,9 @@ judged netlist text =
           subst Q (sym same)
           (answers_first holds_twice (pattern_statements_of text) (first_passing_line holds_twice (pattern_statements_of text)) (numbered_from-Ascends pattern_statement_of 1 (lines_of text)) refl);
       missing = λ node stands. stands;
-      bit = answers_first (lacks_bit inputs) looked (first_passing_line (lacks_bit inputs) looked) up refl;
+      bit = answers_first (has_malformed_bit inputs) looked (first_passing_line (has_malformed_bit inputs) looked) up refl;
       order = answers_order looked up;
-      beyond = λ none. subst P (line_beyond-ordered looked none) (answers_itself (line_beyond looked));
+      beyond = λ none. subst P (line_beyond-ordered looked none) (answers_itself (pattern_beyond looked));
       mismatch = λ line told real stands. stands;
       one = one-mismatch netlist text;
       memory = λ stands. stands;

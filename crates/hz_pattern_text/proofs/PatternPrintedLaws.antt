@@ -19,7 +19,7 @@ use Rattle.hz_pattern_text.specs.Limits.{most_patterns}
 use Rattle.hz_text.specs.Printed.{letter_of, assignment_text, statement_text, listed_from}
 use Rattle.hz_pattern_text.specs.PatternStatement.{Hold, Pattern, HoldWord, FromWord, pattern_keyword_of, is_to}
 use Rattle.hz_pattern_text.specs.PatternResolution.{ResolvedPatternStatement, resolve_pattern_tokens}
-use Rattle.hz_pattern_text.specs.PatternFault.{resolved_pattern_statements, holds_unknown, lacks_bit, is_hold, IsPatternFaultless}
+use Rattle.hz_pattern_text.specs.PatternFault.{resolved_pattern_statements, holds_unknown, has_malformed_bit, is_hold, IsPatternFaultless}
 use Rattle.hz_pattern_text.specs.PatternText.{held_first, behind_hold, pattern_statement, IsPatternOf, ArePatternsBy, IsPatternsValue, ArePatternsFor}
 use Rattle.hz_pattern_text.specs.PatternRules.{holds_node_twice, first_late_hold, last_beyond, first_pattern_fault}
 use Rattle.hz_pattern_text.specs.PatternValue.{PatternOf, PatternsOf}
@@ -192,7 +192,7 @@ is_word inputs (bit ∷ bits) e =
     let same : nat_eq (length (map letter_of (bit ∷ bits))) inputs ≡ true = grind (arith, nat_tests, many) in
     rw (some, same, all_letters (bit ∷ bits)) refl
 
-pub no_bit_lacks : (inputs : ℕ) (pattern : PatternOf) → IsPatternOf inputs pattern → lacks_bit inputs (pattern_statement pattern) ≡ false
+pub no_bit_lacks : (inputs : ℕ) (pattern : PatternOf) → IsPatternOf inputs pattern → has_malformed_bit inputs (pattern_statement pattern) ≡ false
 no_bit_lacks inputs pattern h = rw (is_word inputs pattern.from h.from, is_word inputs pattern.to h.to) refl
 
 sent-clear : (netlist : Netlist) (value : PatternsOf) → ArePatternsFor netlist value → first_pattern_fault netlist.inputs (numbered 1 (sent (listed_from 0 value.held) value.patterns)) ≡ None
@@ -205,10 +205,10 @@ sent-clear netlist value h =
     let gates = listed-gates inputs 0 held (λ k l below. sym (get_or-take inputs held k None (omega (arith, below))) ∙ h.gates k None (inside_take k inputs held (omega (arith, below)) l)) in
     let U : ResolvedPatternStatement → Type 0 = λ statement. holds_unknown inputs statement ≡ false in
     let T : ResolvedPatternStatement → Type 0 = λ statement. holds_node_twice statement ≡ false in
-    let B : ResolvedPatternStatement → Type 0 = λ statement. lacks_bit inputs statement ≡ false in
+    let B : ResolvedPatternStatement → Type 0 = λ statement. has_malformed_bit inputs statement ≡ false in
     let unknown = none-passes (holds_unknown inputs) 1 all (all-sent U pairs patterns gates (λ k d l. refl)) in
     let twice = none-passes holds_node_twice 1 all (all-sent T pairs patterns (ap (has_repeat nat_eq) (assigned_nodes-pairs pairs) ∙ listed-fresh 0 held) (λ k d l. refl)) in
-    let bit = none-passes (lacks_bit inputs) 1 all (all-sent B pairs patterns (all-bits pairs) (λ k d l. no_bit_lacks inputs (get_or patterns k d) (h.patterns k d l))) in
+    let bit = none-passes (has_malformed_bit inputs) 1 all (all-sent B pairs patterns (all-bits pairs) (λ k d l. no_bit_lacks inputs (get_or patterns k d) (h.patterns k d l))) in
     rw (unknown, twice, bit, order-sent pairs patterns, few-sent pairs patterns h.few) refl
 
 -- the statements of the printed text

@@ -18,22 +18,22 @@ resolved_pattern_statements netlist text =
     map (resolve_numbered_pattern netlist) (pattern_statements_of text)
 
 -- what a statement assigns
-abbrev pub assignments_in : {A : Type 0} → PatternStatementOf A → List A
-assignments_in (Hold assignments) = assignments
-assignments_in (Pattern from to) = []
+abbrev pub held_assignments : {A : Type 0} → PatternStatementOf A → List A
+held_assignments (Hold assignments) = assignments
+held_assignments (Pattern from to) = []
 
 -- the statement holds what is no gate
 abbrev pub holds_unknown : ℕ → ResolvedPatternStatement → Bool
-holds_unknown inputs statement = any_unknown inputs Gates (assignments_in statement)
+holds_unknown inputs statement = any_unknown inputs Gates (held_assignments statement)
 
 -- the statement holds a name twice
 abbrev pub holds_twice : PatternStatement → Bool
-holds_twice statement = any_twice (assignments_in statement)
+holds_twice statement = any_twice (held_assignments statement)
 
 -- the statement assigns a word that is no bit, or has a word that is not one of so many bits
-abbrev pub lacks_bit : ℕ → ResolvedPatternStatement → Bool
-lacks_bit inputs (Hold assigned) = any_bitless assigned
-lacks_bit inputs (Pattern from to) = not (is_bits_word inputs from) || not (is_bits_word inputs to)
+abbrev pub has_malformed_bit : ℕ → ResolvedPatternStatement → Bool
+has_malformed_bit inputs (Hold assigned) = any_bitless assigned
+has_malformed_bit inputs (Pattern from to) = not (is_bits_word inputs from) || not (is_bits_word inputs to)
 
 -- the statement holds gates
 abbrev pub is_hold : {A : Type 0} → PatternStatementOf A → Bool
@@ -45,8 +45,8 @@ abbrev pub HoldsLate : List (Numbered ResolvedPatternStatement) → ℕ → Type
 HoldsLate statements line = PassesOn is_hold (drop 1 statements) line
 
 -- the line of the pattern 65,537, if there are so many
-abbrev pub line_beyond : List (Numbered ResolvedPatternStatement) → Option ℕ
-line_beyond statements =
+abbrev pub pattern_beyond : List (Numbered ResolvedPatternStatement) → Option ℕ
+pattern_beyond statements =
     option_map (λ numbered. numbered.line)
     (slice_get (filter (λ numbered. not (is_hold numbered.statement)) statements) most_patterns)
 
@@ -60,11 +60,11 @@ HasPatternFault netlist text (fault.Twice line) =
     PassesOn holds_twice (pattern_statements_of text) line
 HasPatternFault netlist text (fault.Missing node) = ⊥
 HasPatternFault netlist text (fault.Bit line) =
-    PassesOn (lacks_bit netlist.inputs) (resolved_pattern_statements netlist text) line
+    PassesOn (has_malformed_bit netlist.inputs) (resolved_pattern_statements netlist text) line
 HasPatternFault netlist text (fault.Order line) =
     HoldsLate (resolved_pattern_statements netlist text) line
 HasPatternFault netlist text (fault.TooMany line) =
-    line_beyond (resolved_pattern_statements netlist text) ≡ Some line
+    pattern_beyond (resolved_pattern_statements netlist text) ≡ Some line
 HasPatternFault netlist text fault.Memory = ⊥
 HasPatternFault netlist text (fault.Mismatch line told real) = ⊥
 

@@ -8,14 +8,14 @@ use Rattle.hz_text.specs.declared.fault.TextFault.TheVariants.{Form, Unknown, Tw
 use Rattle.hz_text.specs.Assignment.{assigned_bit}
 use Rattle.hz_text.specs.Rules.{repeats_node, AreBelow, Rules, first_fault_in}
 use Rattle.hz_pattern_text.specs.PatternResolution.{ResolvedPatternStatement, PatternEntry, pattern_resolution_of}
-use Rattle.hz_pattern_text.specs.PatternFault.{assignments_in, holds_unknown, lacks_bit, is_hold}
+use Rattle.hz_pattern_text.specs.PatternFault.{held_assignments, holds_unknown, has_malformed_bit, is_hold}
 use Rattle.hz_pattern_text.specs.PatternText.{held_first, behind_hold, pattern_statement}
 use Rattle.hz_pattern_text.specs.PatternValue.{PatternOf, PatternsOf}
 use Rattle.hz_pattern_text.specs.Limits.{most_patterns}
 
 -- the statement assigns a node twice
 abbrev pub holds_node_twice : ResolvedPatternStatement → Bool
-holds_node_twice statement = repeats_node (assignments_in statement)
+holds_node_twice statement = repeats_node (held_assignments statement)
 
 -- the line that holds gates first, of those behind the first statement
 abbrev pub first_late_hold : List (Numbered ResolvedPatternStatement) → Option ℕ
@@ -30,8 +30,8 @@ last_beyond statements =
 abbrev pub pattern_rules : ℕ → Rules ResolvedPatternStatement
 pattern_rules inputs = record {
   unknown = holds_unknown inputs;
-  assigned = assignments_in;
-  bitless = lacks_bit inputs;
+  assigned = held_assignments;
+  bitless = has_malformed_bit inputs;
   missing = λ statements. None;
   order = first_late_hold;
   beyond = last_beyond;
@@ -44,7 +44,7 @@ first_pattern_fault inputs statements = first_fault_in (pattern_rules inputs) st
 
 -- the nodes that an entry assigns are below a bound
 abbrev pub AssignsBelow : ℕ → PatternEntry → Type 0
-AssignsBelow nodes entry = AreBelow nodes (assignments_in (pattern_resolution_of entry.held))
+AssignsBelow nodes entry = AreBelow nodes (held_assignments (pattern_resolution_of entry.held))
 
 -- the line that holds gates behind the first statement of all, if so many patterns stand in front of these statements
 abbrev pub late_hold_behind : ℕ → List (Numbered ResolvedPatternStatement) → Option ℕ
@@ -61,8 +61,8 @@ beyond_behind before statements =
 abbrev pub rules_behind : ℕ → ℕ → Rules ResolvedPatternStatement
 rules_behind before inputs = record {
   unknown = holds_unknown inputs;
-  assigned = assignments_in;
-  bitless = lacks_bit inputs;
+  assigned = held_assignments;
+  bitless = has_malformed_bit inputs;
   missing = λ statements. None;
   order = late_hold_behind before;
   beyond = beyond_behind before;

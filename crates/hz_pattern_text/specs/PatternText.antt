@@ -6,7 +6,7 @@ use Rattle.hz_line.specs.Statement.{Numbered}
 use Rattle.hz_text.specs.Assignment.{Assigned, assigned_bit}
 use Rattle.hz_pattern_text.specs.PatternStatement.{Pattern}
 use Rattle.hz_pattern_text.specs.PatternResolution.{ResolvedPatternStatement}
-use Rattle.hz_pattern_text.specs.PatternFault.{resolved_pattern_statements, assignments_in, is_hold}
+use Rattle.hz_pattern_text.specs.PatternFault.{resolved_pattern_statements, held_assignments, is_hold}
 use Rattle.hz_pattern_text.specs.PatternValue.{PatternOf, PatternsOf}
 use Rattle.hz_pattern_text.specs.PatternWord.{bits_word}
 use Rattle.hz_pattern_text.specs.Limits.{most_patterns}
@@ -14,7 +14,7 @@ use Rattle.hz_pattern_text.specs.Limits.{most_patterns}
 -- what the first statement assigns; a pattern assigns nothing
 abbrev pub held_first : List (Numbered ResolvedPatternStatement) → List Assigned
 held_first [] = []
-held_first (first ∷ later) = assignments_in first.statement
+held_first (first ∷ later) = held_assignments first.statement
 
 -- the statements behind the first one, if that holds gates, else all
 abbrev pub behind_hold : List (Numbered ResolvedPatternStatement) →

@@ -5,7 +5,7 @@ ghost use Rattle.std.specs.List.{flat_map};
 ghost use Rattle.hz_pattern_text.specs.Limits.{most_patterns};
 ghost use Rattle.hz_pattern_text.specs.PatternInside.{patterns_in, statement_bits};
 ghost use Rattle.hz_pattern_text.specs.PatternResolution.{pattern_resolution_of, numbered_pattern_resolutions};
-ghost use Rattle.hz_pattern_text.specs.PatternFault.{lacks_bit};
+ghost use Rattle.hz_pattern_text.specs.PatternFault.{has_malformed_bit};
 ghost use Rattle.hz_pattern_text.specs.PatternRules.{AssignsBelow, rules_behind, ArePatternsBehind};
 ghost use Rattle.hz_text.specs.Rules.{first_fault_in};
 
@@ -46,7 +46,7 @@ pub(crate) fn build(
 
 // Adds the bits of patterns, one pattern after the other.
 fn push_statements(bits: &mut Vec<bool>, entries: &[Entry], inputs: u32) -> Result<(), Memory>
-    requires { All (λ entry. lacks_bit inputs (pattern_resolution_of entry.held) ≡ false)
+    requires { All (λ entry. has_malformed_bit inputs (pattern_resolution_of entry.held) ≡ false)
         entries.now }
     ensures { OnOk result
         (bits.new.items
@@ -66,7 +66,7 @@ fn push_statements(bits: &mut Vec<bool>, entries: &[Entry], inputs: u32) -> Resu
 
 // Adds the bits of a pattern.
 fn push_statement(bits: &mut Vec<bool>, held: &Held, inputs: u32) -> Result<(), Memory>
-    requires { lacks_bit inputs (pattern_resolution_of held.now) ≡ false }
+    requires { has_malformed_bit inputs (pattern_resolution_of held.now) ≡ false }
     ensures { OnOk result
         (bits.new.items
         ≡ bits.old.items ++ statement_bits inputs (pattern_resolution_of held.now)) }

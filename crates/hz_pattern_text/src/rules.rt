@@ -3,7 +3,7 @@
 ghost use Rattle.std.specs.Prelude.{◌≡◌, map};
 ghost use Rattle.hz_line.specs.Statement.{first_passing_line};
 ghost use Rattle.hz_pattern_text.specs.PatternResolution.{pattern_resolution_of, numbered_pattern_resolutions};
-ghost use Rattle.hz_pattern_text.specs.PatternFault.{assignments_in, holds_unknown, lacks_bit, is_hold};
+ghost use Rattle.hz_pattern_text.specs.PatternFault.{held_assignments, holds_unknown, has_malformed_bit, is_hold};
 ghost use Rattle.hz_pattern_text.specs.PatternRules.{first_late_hold, late_hold_behind, beyond_behind};
 ghost use Rattle.hz_pattern_text.specs.PatternText.{held_first, behind_hold};
 
@@ -14,7 +14,7 @@ use hz_text::{Allowed, Assigned, any_unknown, any_without_bit};
 
 // What a statement assigns.
 pub(crate) fn assignments_in<'h>(held: &'h Held) -> &'h [Assigned]
-    ensures { result.now ≡ assignments_in (pattern_resolution_of held.now) }
+    ensures { result.now ≡ held_assignments (pattern_resolution_of held.now) }
 {
     match held {
         Held::Hold(assigned) => assigned.as_slice(),
@@ -31,7 +31,7 @@ pub(crate) fn holds_unknown(held: &Held, inputs: u32) -> bool
 
 // Whether the statement has a word that is to be a bit, or as many bits as there are inputs, and is not.
 pub(crate) fn lacks_bit(held: &Held, inputs: u32) -> bool
-    ensures { result ≡ lacks_bit inputs (pattern_resolution_of held.now) }
+    ensures { result ≡ has_malformed_bit inputs (pattern_resolution_of held.now) }
 {
     match held {
         Held::Hold(assigned) => any_without_bit(assigned.as_slice()),

@@ -6,7 +6,7 @@ ghost use Rattle.hz_line.specs.Reading.{by_tokens, IsUnread};
 ghost use Rattle.hz_line.specs.Token.{tokens_of};
 ghost use Rattle.hz_pattern_text.specs.PatternStatement.{Pattern, pattern_keyword_of, pattern_by, is_to};
 ghost use Rattle.hz_pattern_text.specs.PatternResolution.{pattern_resolution_of, pattern_keyword_by, resolve_pattern_tokens, resolve_pattern_keyword};
-ghost use Rattle.hz_pattern_text.specs.PatternFault.{assignments_in};
+ghost use Rattle.hz_pattern_text.specs.PatternFault.{held_assignments};
 ghost use Rattle.hz_pattern_text.specs.PatternRules.{rules_behind};
 ghost use Rattle.hz_text.specs.Rules.{AreBelow};
 
@@ -131,7 +131,7 @@ fn read_statement_of<'t>(
         (tokens_of rest.now)) why) }
     ensures below { IfOk result
         (λ held. AreBelow (length circuit.now.names)
-        (assignments_in (pattern_resolution_of held))) }
+        (held_assignments (pattern_resolution_of held))) }
 {
     match keyword {
         Keyword::Hold => Ok(Held::Hold(read_assignments(alloc, circuit, rest)?)),

@@ -2,13 +2,13 @@
 use Rattle.std.proofs.Common.{◌≡◌, sym, ap, ℕ, ◌<◌, Bool, true, false, cond, List, [], ◌∷◌, ◌++◌, Some, length}
 use Rattle.std.proofs.lemmas.List.Quantifiers.{position-Some}
 use Rattle.hz_states.specs.Key.{same_state-Decides}
-use Rattle.hz_states.specs.States.{has_state, number_of, same_state, state_at, with_state}
+use Rattle.hz_states.specs.States.{has_state, state_number, same_state, state_at, with_state}
 
 -- a state with a number stands at its place
-pub number-inside : (states : List (List Bool)) (state : List Bool) (number : ℕ) → number_of states state ≡ Some number → number < length states
+pub number-inside : (states : List (List Bool)) (state : List Bool) (number : ℕ) → state_number states state ≡ Some number → number < length states
 number-inside states state number is = (position-Some (same_state state) states number [] is).0
 
-pub number-state : (states : List (List Bool)) (state : List Bool) (number : ℕ) → number_of states state ≡ Some number → state_at states number ≡ state
+pub number-state : (states : List (List Bool)) (state : List Bool) (number : ℕ) → state_number states state ≡ Some number → state_at states number ≡ state
 number-state states state number is =
     sym ((same_state-Decides state (state_at states number)).0 (position-Some (same_state state) states number [] is).1)
 

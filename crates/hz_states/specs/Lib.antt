@@ -3,7 +3,7 @@
 -- same_state state other: two states have the same bits
 -- has_state states state: a state is among these
 -- with_state states state: the states with one more at the end, unless they have it
--- number_of states state: the number of a state, if it is there
+-- state_number states state: the number of a state, if it is there
 -- state_at states number: the state with a number
 -- packed bits, unpacked count bytes: bits in bytes, and back
 -- hashing_with key: the hash of states with a key

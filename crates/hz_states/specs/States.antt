@@ -17,8 +17,8 @@ abbrev pub with_state : List (List Bool) → List Bool → List (List Bool)
 with_state states state = if has_state states state then states else states ++ state ∷ []
 
 -- the number of a state, if it is there: its place
-abbrev pub number_of : List (List Bool) → List Bool → Option ℕ
-number_of states state = position (same_state state) states
+abbrev pub state_number : List (List Bool) → List Bool → Option ℕ
+state_number states state = position (same_state state) states
 
 -- the state with a number
 abbrev pub state_at : List (List Bool) → ℕ → List Bool

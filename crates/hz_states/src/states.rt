@@ -1,7 +1,7 @@
 //! States that are kept in the order in which they are found.
 ghost use Rattle.std.specs.Prelude.{◌≡◌, ◌<◌, [], length, not, Some, IfOk, OnOk, OnErr};
 ghost use Rattle.std.specs.List.{IsDistinct};
-ghost use Rattle.hz_states.specs.States.{has_state, number_of, same_state, state_at, with_state};
+ghost use Rattle.hz_states.specs.States.{has_state, state_number, same_state, state_at, with_state};
 
 use crate::hashing::StateHashing;
 use crate::state::State;
@@ -62,7 +62,7 @@ impl States {
 
     /// The number of a state, if it is there.
     pub fn find(&self, state: &[bool]) -> Result<Option<u32>, AllocError>
-        ensures { IfOk result (λ number. number ≡ number_of self.now state.now) }
+        ensures { IfOk result (λ number. number ≡ state_number self.now state.now) }
     {
         let sought = State::new(self.alloc, state)?;
         let Some(place) = self.set.get_index_of(&sought) else {
@@ -74,7 +74,7 @@ impl States {
     /// Puts a state at the end, if it is not there.
     pub fn add(&mut self, state: &[bool]) -> Result<Added, AllocError>
         ensures added { OnOk result (self.new ≡ with_state self.old state.now) }
-        ensures number { IfOk result (λ added. number_of self.new state.now ≡ Some added.number) }
+        ensures number { IfOk result (λ added. state_number self.new state.now ≡ Some added.number) }
         ensures is_new { IfOk result (λ added. added.is_new ≡ not (has_state self.old state.now)) }
         ensures err { OnErr result (self.new ≡ self.old) }
     {

@@ -1,7 +1,7 @@
 -- The assumptions of statements without a fault are assumptions on the network.
 use Rattle.std.proofs.Common.{◌≡◌, ◌∙◌, ℕ, ◌<◌, ◌≤◌, Bool, true, false, not, ◌&&◌, cond, nat_eq, nat_le, List, [], ◌∷◌, Option, Some, None, length, map, refl, ap, sym, arith, slice_get}
 use Rattle.hz_timing.proofs.Words.{All, nat_tests, length-map, All-nil, All-cons, Netlist, IsCircuit, Numbered, true-false, variable_named, Ordered, Ideal, Start, Change}
-use Rattle.hz_timing.proofs.Words.{ResolvedTimed, resolve_timed, names_unknown, is_unpaired, assumptions_in}
+use Rattle.hz_timing.proofs.Words.{ResolvedTimed, resolve_timed, names_missing, is_unpaired, assumptions_in}
 use Rattle.std.specs.List.{cons_option}
 use Rattle.std.specs.Option.{IfSome, is_none}
 use Rattle.std.proofs.lemmas.List.Elements.{All-head, All-tail}
@@ -21,7 +21,7 @@ use Rattle.hz_text.proofs.BuildLemmas.{or_parts}
 use Rattle.hz_timing.specs.declared.script.Assumption.{Assumption}
 use Rattle.hz_timing.specs.declared.script.Assumption.TheVariants as assumption
 use Rattle.hz_timing.specs.TimedStatement.{TimedStatement}
-use Rattle.hz_timing.specs.TimedResolution.{resolve_numbered_timed, number_of}
+use Rattle.hz_timing.specs.TimedResolution.{resolve_numbered_timed, order_number}
 use Rattle.hz_timing.specs.TimedFault.{gate_by, gate_into, are_same}
 use Rattle.hz_timing.specs.TimedText.{assumption_of, IsAssumptionOf}
 use Rattle.hz_timing.specs.Limits.{most_nth}
@@ -85,7 +85,7 @@ order-fits netlist first second number circuit whole paired some few =
         )
 
 -- the number of an order is from 1 to 1000
-number-bounds : (word : Option (List ℕ)) → IfSome (number_of word) (λ n. (1 ≤ n) × (n ≤ most_nth))
+number-bounds : (word : Option (List ℕ)) → IfSome (order_number word) (λ n. (1 ≤ n) × (n ≤ most_nth))
 number-bounds None = (omega arith, omega arith)
 number-bounds (Some word) = by_test (is_decimal word) (nat_le 1 (number_by word)) (nat_le (number_by word) most_nth) refl refl
   where
@@ -96,7 +96,7 @@ number-bounds (Some word) = by_test (is_decimal word) (nat_le 1 (number_by word)
     by_test false low high a b = tt
 
 -- the assumption of a statement without a fault
-assumption-fits : (netlist : Netlist) (statement : TimedStatement) → IsCircuit netlist → IsWhole netlist → names_unknown netlist (resolve_timed netlist statement) ≡ false → is_unpaired netlist (resolve_timed netlist statement) ≡ false → IfSome (assumption_of (resolve_timed netlist statement)) (IsAssumptionOf netlist)
+assumption-fits : (netlist : Netlist) (statement : TimedStatement) → IsCircuit netlist → IsWhole netlist → names_missing netlist (resolve_timed netlist statement) ≡ false → is_unpaired netlist (resolve_timed netlist statement) ≡ false → IfSome (assumption_of (resolve_timed netlist statement)) (IsAssumptionOf netlist)
 assumption-fits netlist (Start assigned) circuit whole known paired = tt
 assumption-fits netlist (Change assigned) circuit whole known paired = tt
 assumption-fits netlist (Ideal wire) circuit whole known paired = by_wire (variable_named netlist wire) known
@@ -108,7 +108,7 @@ assumption-fits netlist (Ideal wire) circuit whole known paired = by_wire (varia
     by_wire : (variable : Option ℕ) → is_none (gate_into netlist variable) ≡ false → IfSome (assumption_of (Ideal variable)) (IsAssumptionOf netlist)
     by_wire None k = tt
     by_wire (Some wire) k = by_gate wire (gate_into netlist (Some wire)) refl k
-assumption-fits netlist (Ordered first second word) circuit whole known paired = by_parts (variable_named netlist first) (variable_named netlist second) (number_of word) paired (number-bounds word)
+assumption-fits netlist (Ordered first second word) circuit whole known paired = by_parts (variable_named netlist first) (variable_named netlist second) (order_number word) paired (number-bounds word)
   where
     by_parts : (one other number : Option ℕ) → is_unpaired netlist (Ordered one other number) ≡ false → IfSome number (λ n. (1 ≤ n) × (n ≤ most_nth)) → IfSome (assumption_of (Ordered one other number)) (IsAssumptionOf netlist)
     by_parts (Some one) (Some other) (Some number) p b = order-fits netlist one other number circuit whole p b.0 b.1
@@ -118,11 +118,11 @@ assumption-fits netlist (Ordered first second word) circuit whole known paired =
 
 -- the assumptions of all
 pub assumptions-fit :
-    (netlist : Netlist) (written : List (Numbered TimedStatement)) → IsCircuit netlist → IsWhole netlist → All (λ numbered. names_unknown netlist numbered.statement ≡ false) (map (resolve_numbered_timed netlist) written) →
+    (netlist : Netlist) (written : List (Numbered TimedStatement)) → IsCircuit netlist → IsWhole netlist → All (λ numbered. names_missing netlist numbered.statement ≡ false) (map (resolve_numbered_timed netlist) written) →
     All (λ numbered. is_unpaired netlist numbered.statement ≡ false) (map (resolve_numbered_timed netlist) written) → All (IsAssumptionOf netlist) (assumptions_in (map (resolve_numbered_timed netlist) written))
 assumptions-fit netlist [] circuit whole known paired = All-nil (IsAssumptionOf netlist)
 assumptions-fit netlist (first ∷ later) circuit whole known paired =
-    let K : Numbered ResolvedTimed → Type 0 = λ numbered. names_unknown netlist numbered.statement ≡ false in
+    let K : Numbered ResolvedTimed → Type 0 = λ numbered. names_missing netlist numbered.statement ≡ false in
     let P : Numbered ResolvedTimed → Type 0 = λ numbered. is_unpaired netlist numbered.statement ≡ false in
     let head = resolve_numbered_timed netlist first in
     let tail = map (resolve_numbered_timed netlist) later in

@@ -1,7 +1,7 @@
 -- One entry more or less of those that were read.
 use Rattle.std.proofs.Common.{◌≡◌, ◌∙◌, ℕ, zero, suc, ◌+◌, ◌-◌, ◌<◌, ◌≤◌, Bool, true, false, cond, List, [], ◌∷◌, ◌++◌, Option, Some, None, length, get_or, take, drop, map, filter, refl, ap, sym, subst, arith, append_assoc, length-append, length-drop}
 use Rattle.hz_timing.proofs.Words.{All, length-map, Numbered, Assigned, assignment_to, most_changes, ScriptOf, Ordered, Ideal, Start, Change, ResolvedTimed, TimedEntry}
-use Rattle.hz_timing.proofs.Words.{timed_resolution_of, numbered_timed_resolutions, is_start, is_change, is_stated, first_line_behind, IsSoundTimed, assumptions_in}
+use Rattle.hz_timing.proofs.Words.{timed_resolution_of, numbered_timed_resolutions, is_timed_start, is_timed_change, is_stated, first_line_behind, IsSoundTimed, assumptions_in}
 use Rattle.hz_timing.proofs.Words.{changes_up_to_start, Part, parts_in, AreScriptsOf}
 use Rattle.std.specs.List.{cons_option, filter_map}
 use Rattle.hz_text.specs.Bits.{ArePairs, pair_of}
@@ -86,9 +86,9 @@ assumptions-end entries i old past =
 
 -- fewer statements have fewer changes
 few-tail : (first : Numbered ResolvedTimed) (later : List (Numbered ResolvedTimed)) → AreFewChanges (first ∷ later) → AreFewChanges later
-few-tail first later few = step (is_change first.statement) few
+few-tail first later few = step (is_timed_change first.statement) few
   where
-    step : (b : Bool) → length (cond b (first ∷ filter (λ numbered. is_change numbered.statement) later) (filter (λ numbered. is_change numbered.statement) later)) ≤ most_changes → AreFewChanges later
+    step : (b : Bool) → length (cond b (first ∷ filter (λ numbered. is_timed_change numbered.statement) later) (filter (λ numbered. is_timed_change numbered.statement) later)) ≤ most_changes → AreFewChanges later
     step true h = omega (arith, h)
     step false h = h
 
@@ -139,13 +139,13 @@ parts-end nodes entries i old past so_far =
 abbrev pub assigned_in : List (Numbered ResolvedStatement) → List (List Assigned)
 assigned_in statements = map (λ numbered. numbered.statement.assigned) statements
 
-change-first : (line : ℕ) (statement : ResolvedTimed) (rest : List (Numbered ResolvedStatement)) → is_start statement ≡ false → assigned_in (change_before line statement rest) ≡ changes_of statement ++ assigned_in rest
+change-first : (line : ℕ) (statement : ResolvedTimed) (rest : List (Numbered ResolvedStatement)) → is_timed_start statement ≡ false → assigned_in (change_before line statement rest) ≡ changes_of statement ++ assigned_in rest
 change-first line (Ordered first second number) rest other = refl
 change-first line (Ideal wire) rest other = refl
 change-first line (Start assigned) rest other = cc
 change-first line (Change assigned) rest other = refl
 
-start-first : (line : ℕ) (statement : ResolvedTimed) (rest : List (Numbered ResolvedStatement)) → is_start statement ≡ true → change_before line statement rest ≡ []
+start-first : (line : ℕ) (statement : ResolvedTimed) (rest : List (Numbered ResolvedStatement)) → is_timed_start statement ≡ true → change_before line statement rest ≡ []
 start-first line (Ordered first second number) rest start = cc
 start-first line (Ideal wire) rest start = cc
 start-first line (Start assigned) rest start = refl
@@ -153,7 +153,7 @@ start-first line (Change assigned) rest start = cc
 
 -- the changes so far, and those to come
 pub changes-step :
-    (entries : List TimedEntry) (i : ℕ) (entry : TimedEntry) (old new : List (List (ℕ × Bool))) → i < length entries → entry ≡ get_or entries i entry → is_start (timed_resolution_of entry.held) ≡ false →
+    (entries : List TimedEntry) (i : ℕ) (entry : TimedEntry) (old new : List (List (ℕ × Bool))) → i < length entries → entry ≡ get_or entries i entry → is_timed_start (timed_resolution_of entry.held) ≡ false →
     map (map assignment_to) new ≡ map (map assignment_to) old ++ changes_of (timed_resolution_of entry.held) →
     map (map assignment_to) old ++ assigned_in (changes_up_to_start (numbered_timed_resolutions (drop i entries))) ≡ assigned_in (changes_up_to_start (numbered_timed_resolutions entries)) →
     map (map assignment_to) new ++ assigned_in (changes_up_to_start (numbered_timed_resolutions (drop (i + 1) entries))) ≡ assigned_in (changes_up_to_start (numbered_timed_resolutions entries))
@@ -168,7 +168,7 @@ changes-step entries i entry old new within is other e so_far =
     ∙ so_far
 
 pub changes-here :
-    (entries : List TimedEntry) (i : ℕ) (entry : TimedEntry) (old : List (List (ℕ × Bool))) → i < length entries → entry ≡ get_or entries i entry → is_start (timed_resolution_of entry.held) ≡ true →
+    (entries : List TimedEntry) (i : ℕ) (entry : TimedEntry) (old : List (List (ℕ × Bool))) → i < length entries → entry ≡ get_or entries i entry → is_timed_start (timed_resolution_of entry.held) ≡ true →
     map (map assignment_to) old ++ assigned_in (changes_up_to_start (numbered_timed_resolutions (drop i entries))) ≡ assigned_in (changes_up_to_start (numbered_timed_resolutions entries)) →
     map (map assignment_to) old ≡ assigned_in (changes_up_to_start (numbered_timed_resolutions entries))
 changes-here entries i entry old within is start so_far =
@@ -187,7 +187,7 @@ changes-end entries i old past so_far =
     let front = map (map assignment_to) old in
     sym (ap (λ left. front ++ assigned_in (changes_up_to_start (numbered_timed_resolutions left))) (drop_all i entries past) ∙ append-nil front) ∙ so_far
 
-change-counted : (line : ℕ) (statement : ResolvedTimed) (rest : List (Numbered ResolvedStatement)) → is_change statement ≡ true → 1 ≤ length (change_before line statement rest)
+change-counted : (line : ℕ) (statement : ResolvedTimed) (rest : List (Numbered ResolvedStatement)) → is_timed_change statement ≡ true → 1 ≤ length (change_before line statement rest)
 change-counted line (Ordered first second number) rest change = cc
 change-counted line (Ideal wire) rest change = cc
 change-counted line (Start assigned) rest change = cc
@@ -197,7 +197,7 @@ change-counted line (Change assigned) rest change = omega arith
 pub changes-few :
     (entries : List TimedEntry) (i : ℕ) (entry : TimedEntry) (old : List (List (ℕ × Bool))) → i < length entries → entry ≡ get_or entries i entry → AreFewChanges (numbered_timed_resolutions entries) →
     map (map assignment_to) old ++ assigned_in (changes_up_to_start (numbered_timed_resolutions (drop i entries))) ≡ assigned_in (changes_up_to_start (numbered_timed_resolutions entries)) →
-    is_change (timed_resolution_of entry.held) ≡ true → length old < most_changes
+    is_timed_change (timed_resolution_of entry.held) ≡ true → length old < most_changes
 changes-few entries i entry old within is few so_far change =
     let statements = numbered_timed_resolutions entries in
     let A : Numbered ResolvedStatement → List Assigned = λ numbered. numbered.statement.assigned in

@@ -1,8 +1,8 @@
 -- The first answer of the passes over a script with assumptions of time is its least fault.
 use Rattle.std.proofs.Common.{◌≡◌, ◌∙◌, ℕ, zero, ◌-◌, ◌<◌, ◌≤◌, Bool, true, false, ◌&&◌, cond, nat_eq, filter, slice_get, List, [], ◌∷◌, Option, Some, None, suc, refl, ap, sym, subst, inl, inr, arith}
 use Rattle.hz_timing.proofs.Words.{◌⊎◌, option_map, Netlist, primary_inputs, nat_tests, IsLeastOf, Numbered, first_passing_line, Inputs, TextFault, most_changes, TimedFault, Text}
-use Rattle.hz_timing.proofs.Words.{Wires, Number, Again, Ordered, Ideal, Start, Change, ResolvedTimed, resolve_timed, resolved_timed_statements, names_unknown, lacks_bit}
-use Rattle.hz_timing.proofs.Words.{is_start, is_change, counted, line_behind, is_unpaired, lacks_number, is_stated, HasTimedFault, IsLeastTimedFault, IsTimedRefusal}
+use Rattle.hz_timing.proofs.Words.{Wires, Number, Again, Ordered, Ideal, Start, Change, ResolvedTimed, resolve_timed, resolved_timed_statements, names_missing, assigns_no_bit}
+use Rattle.hz_timing.proofs.Words.{is_timed_start, is_timed_change, counted, line_behind, is_unpaired, lacks_number, is_stated, HasTimedFault, IsLeastTimedFault, IsTimedRefusal}
 use Rattle.hz_timing.proofs.Words.{timed_faults_that, names_node_twice, first_line_behind}
 use Rattle.hz_lists.specs.Least.{option_min}
 use Rattle.hz_lists.proofs.LeastLemmas.{IsLeastOf-either}
@@ -20,7 +20,7 @@ use Rattle.hz_text.proofs.TextLaws.{Judged, looked-Ascends, answers_malformed, t
 use Rattle.hz_text.proofs.PassLaws.{twice-names}
 use Rattle.hz_timing.specs.TimedStatement.{TimedStatement, timed_statement_of, timed_statements_of}
 use Rattle.hz_timing.specs.TimedResolution.{resolve_timed_tokens}
-use Rattle.hz_timing.specs.TimedFault.{names_twice, is_order, is_ideal, IsBeyond, timed_fault_number, timed_place_of}
+use Rattle.hz_timing.specs.TimedFault.{assigns_name_twice, is_order, is_ideal, IsBeyondLimits, timed_fault_number, timed_place_of}
 use Rattle.hz_timing.specs.TimedRules.{line_from, first_beyond, timed_rules, assumption_faults, first_assumption_fault}
 use Rattle.hz_timing.specs.Limits.{most_orders, most_ideals, most_starts}
 use Rattle.hz_timing.proofs.BehindLaws.{answers_behind, answers_order}
@@ -51,28 +51,28 @@ pub first_beyond-is :
     (statements : List (Numbered ResolvedTimed)) →
     first_beyond statements
     ≡ option_min (line_behind is_order most_orders statements)
-    (option_min (line_behind is_ideal most_ideals statements) (option_min (line_behind is_start most_starts statements) (line_behind is_change most_changes statements)))
+    (option_min (line_behind is_ideal most_ideals statements) (option_min (line_behind is_timed_start most_starts statements) (line_behind is_timed_change most_changes statements)))
 first_beyond-is statements =
-    ap (λ one. option_min one (option_min (line_from is_ideal most_ideals statements) (option_min (line_from is_start most_starts statements) (line_from is_change most_changes statements)))) (line_from-is is_order most_orders statements)
-    ∙ ap (λ one. option_min (line_behind is_order most_orders statements) (option_min one (option_min (line_from is_start most_starts statements) (line_from is_change most_changes statements)))) (line_from-is is_ideal most_ideals statements)
-    ∙ ap (λ one. option_min (line_behind is_order most_orders statements) (option_min (line_behind is_ideal most_ideals statements) (option_min one (line_from is_change most_changes statements)))) (line_from-is is_start most_starts statements)
-    ∙ ap (λ one. option_min (line_behind is_order most_orders statements) (option_min (line_behind is_ideal most_ideals statements) (option_min (line_behind is_start most_starts statements) one))) (line_from-is is_change most_changes statements)
+    ap (λ one. option_min one (option_min (line_from is_ideal most_ideals statements) (option_min (line_from is_timed_start most_starts statements) (line_from is_timed_change most_changes statements)))) (line_from-is is_order most_orders statements)
+    ∙ ap (λ one. option_min (line_behind is_order most_orders statements) (option_min one (option_min (line_from is_timed_start most_starts statements) (line_from is_timed_change most_changes statements)))) (line_from-is is_ideal most_ideals statements)
+    ∙ ap (λ one. option_min (line_behind is_order most_orders statements) (option_min (line_behind is_ideal most_ideals statements) (option_min one (line_from is_timed_change most_changes statements)))) (line_from-is is_timed_start most_starts statements)
+    ∙ ap (λ one. option_min (line_behind is_order most_orders statements) (option_min (line_behind is_ideal most_ideals statements) (option_min (line_behind is_timed_start most_starts statements) one))) (line_from-is is_timed_change most_changes statements)
 
 -- the pass over the limits answers the least line
-answers_beyond : (statements : List (Numbered ResolvedTimed)) → IsLeastOf (IsBeyond statements) (first_beyond statements)
+answers_beyond : (statements : List (Numbered ResolvedTimed)) → IsLeastOf (IsBeyondLimits statements) (first_beyond statements)
 answers_beyond statements =
     let order = line_behind is_order most_orders statements in
     let ideal = line_behind is_ideal most_ideals statements in
-    let start = line_behind is_start most_starts statements in
-    let change = line_behind is_change most_changes statements in
+    let start = line_behind is_timed_start most_starts statements in
+    let change = line_behind is_timed_change most_changes statements in
     let last = IsLeastOf-either (λ line. start ≡ Some line) (λ line. change ≡ Some line) start change (answers_itself start) (answers_itself change) in
     let more = IsLeastOf-either (λ line. ideal ≡ Some line) (λ line. (start ≡ Some line) ⊎ (change ≡ Some line)) ideal _ (answers_itself ideal) last in
     let all = IsLeastOf-either (λ line. order ≡ Some line) (λ line. (ideal ≡ Some line) ⊎ ((start ≡ Some line) ⊎ (change ≡ Some line))) order _ (answers_itself order) more in
-    let P : Option ℕ → Type 0 = IsLeastOf (IsBeyond statements) in
+    let P : Option ℕ → Type 0 = IsLeastOf (IsBeyondLimits statements) in
     subst P (sym (first_beyond-is statements)) all
 
 -- a statement without an unknown name assigns a node twice if it assigns a name twice
-same_twice : (netlist : Netlist) (statement : TimedStatement) → names_unknown netlist (resolve_timed netlist statement) ≡ false → names_node_twice (resolve_timed netlist statement) ≡ names_twice statement
+same_twice : (netlist : Netlist) (statement : TimedStatement) → names_missing netlist (resolve_timed netlist statement) ≡ false → names_node_twice (resolve_timed netlist statement) ≡ assigns_name_twice statement
 same_twice netlist (Ordered first second number) known = refl
 same_twice netlist (Ideal wire) known = refl
 same_twice netlist (Start assignments) known = twice-names netlist Nodes assignments known
@@ -86,15 +86,15 @@ judged : (again : Bool) (netlist : Netlist) (bytes : List ℕ) → Judged (HasTe
 judged again netlist bytes =
     let looked = resolved_timed_statements netlist bytes in
     let up = looked-Ascends (resolve_timed netlist) timed_statement_of bytes in
-    let Q : Option ℕ → Type 0 = IsLeastOf (PassesOn names_twice (timed_statements_of bytes)) in
+    let Q : Option ℕ → Type 0 = IsLeastOf (PassesOn assigns_name_twice (timed_statements_of bytes)) in
     record {
       form = answers_malformed (resolve_timed netlist) timed_statement_of bytes;
-      unknown = answers_first (names_unknown netlist) looked (first_passing_line (names_unknown netlist) looked) up refl;
+      unknown = answers_first (names_missing netlist) looked (first_passing_line (names_missing netlist) looked) up refl;
       twice = λ known.
-          let same = twice-line (resolve_timed netlist) (names_unknown netlist) names_node_twice names_twice (same_twice netlist) (timed_statements_of bytes) known in
-          subst Q (sym same) (answers_first names_twice (timed_statements_of bytes) (first_passing_line names_twice (timed_statements_of bytes)) (numbered_from-Ascends timed_statement_of 1 (lines_of bytes)) refl);
+          let same = twice-line (resolve_timed netlist) (names_missing netlist) names_node_twice assigns_name_twice (same_twice netlist) (timed_statements_of bytes) known in
+          subst Q (sym same) (answers_first assigns_name_twice (timed_statements_of bytes) (first_passing_line assigns_name_twice (timed_statements_of bytes)) (numbered_from-Ascends timed_statement_of 1 (lines_of bytes)) refl);
       missing = answers_missing (primary_inputs netlist) (counted again looked);
-      bit = answers_first lacks_bit looked (first_passing_line lacks_bit looked) up refl;
+      bit = answers_first assigns_no_bit looked (first_passing_line assigns_no_bit looked) up refl;
       order = answers_order again looked up;
       beyond = λ none. answers_beyond looked;
       mismatch = λ line told real stands. stands;

@@ -1,6 +1,6 @@
 -- The pass over the starts answers the least input that some start leaves out.
 use Rattle.std.proofs.Common.{◌≡◌, ◌∙◌, ℕ, ◌<◌, ◌≤◌, Bool, true, false, cond, nat_lt, List, [], ◌∷◌, Option, Some, None, refl, sym, subst, inl, inr, arith}
-use Rattle.hz_timing.proofs.Words.{nat_tests, IsLeastOf, Numbered, Assigned, true-false, Ordered, Ideal, Start, Change, ResolvedTimed, LeavesOut, IsMissing}
+use Rattle.hz_timing.proofs.Words.{nat_tests, IsLeastOf, Numbered, Assigned, true-false, Ordered, Ideal, Start, Change, ResolvedTimed, StartLeavesOut, IsMissingInStarts}
 use Rattle.std.proofs.lemmas.Bool.{cases_lt}
 use Rattle.hz_text.specs.Rules.{least_unassigned}
 use Rattle.hz_text.proofs.PassLaws.{unassigned-Some, unassigned-None}
@@ -12,7 +12,7 @@ pub record IsLeastMissing (missing : ℕ → Type 0) (bound least : ℕ) : Type 
   pub none : (node : ℕ) → missing node → least ≤ node
   pub here : least < bound → missing least
 
-by_assigned : (primary bound : ℕ) (assigned : List Assigned) (answer : Option ℕ) → bound ≤ primary → least_unassigned bound assigned ≡ answer → IsLeastMissing (LeavesOut primary (Start assigned)) bound (or_known bound answer)
+by_assigned : (primary bound : ℕ) (assigned : List Assigned) (answer : Option ℕ) → bound ≤ primary → least_unassigned bound assigned ≡ answer → IsLeastMissing (StartLeavesOut primary (Start assigned)) bound (or_known bound answer)
 by_assigned primary bound assigned None low e = record {
   within = omega arith;
   none = λ node out. elim (cases_lt node bound) [
@@ -36,15 +36,15 @@ no_start : (missing : ℕ → Type 0) (bound : ℕ) → ((node : ℕ) → missin
 no_start missing bound never = record { within = omega arith; none = λ node out. absurd (never node out); here = λ less. absurd (omega (arith, less)) }
 
 -- what one statement leaves out
-left_out-least : (primary bound : ℕ) (statement : ResolvedTimed) → bound ≤ primary → IsLeastMissing (LeavesOut primary statement) bound (left_out bound statement)
+left_out-least : (primary bound : ℕ) (statement : ResolvedTimed) → bound ≤ primary → IsLeastMissing (StartLeavesOut primary statement) bound (left_out bound statement)
 left_out-least primary bound (Start assigned) low = by_assigned primary bound assigned (least_unassigned bound assigned) low refl
-left_out-least primary bound (Ordered first second number) low = no_start (LeavesOut primary (Ordered first second number)) bound (λ node out. out)
-left_out-least primary bound (Ideal wire) low = no_start (LeavesOut primary (Ideal wire)) bound (λ node out. out)
-left_out-least primary bound (Change assigned) low = no_start (LeavesOut primary (Change assigned)) bound (λ node out. out)
+left_out-least primary bound (Ordered first second number) low = no_start (StartLeavesOut primary (Ordered first second number)) bound (λ node out. out)
+left_out-least primary bound (Ideal wire) low = no_start (StartLeavesOut primary (Ideal wire)) bound (λ node out. out)
+left_out-least primary bound (Change assigned) low = no_start (StartLeavesOut primary (Change assigned)) bound (λ node out. out)
 
 -- what all leave out
-left_out_by_any-least : (primary bound : ℕ) (statements : List (Numbered ResolvedTimed)) → bound ≤ primary → IsLeastMissing (IsMissing primary statements) bound (left_out_by_any bound statements)
-left_out_by_any-least primary bound [] low = no_start (IsMissing primary []) bound (λ node out. out)
+left_out_by_any-least : (primary bound : ℕ) (statements : List (Numbered ResolvedTimed)) → bound ≤ primary → IsLeastMissing (IsMissingInStarts primary statements) bound (left_out_by_any bound statements)
+left_out_by_any-least primary bound [] low = no_start (IsMissingInStarts primary []) bound (λ node out. out)
 left_out_by_any-least primary bound (first ∷ later) low =
     let one = left_out-least primary bound first.statement low in
     let next = left_out bound first.statement in
@@ -60,27 +60,27 @@ left_out_by_any-least primary bound (first ∷ later) low =
         | inl below ↦ inr (rest.here below)
         | inr above ↦
             let same : next ≡ least = omega (arith, above, rest.within) in
-            inl (subst (LeavesOut primary first.statement) same (one.here (omega (arith, same, less))))
+            inl (subst (StartLeavesOut primary first.statement) same (one.here (omega (arith, same, less))))
       ];
     }
 
 -- a node that a start leaves out is an input
-out-below : (primary node : ℕ) (statement : ResolvedTimed) → LeavesOut primary statement node → node < primary
+out-below : (primary node : ℕ) (statement : ResolvedTimed) → StartLeavesOut primary statement node → node < primary
 out-below primary node (Start assigned) out = out.0
 out-below primary node (Ordered first second number) out = absurd out
 out-below primary node (Ideal wire) out = absurd out
 out-below primary node (Change assigned) out = absurd out
 
-pub missing-below : (primary node : ℕ) (statements : List (Numbered ResolvedTimed)) → IsMissing primary statements node → node < primary
+pub missing-below : (primary node : ℕ) (statements : List (Numbered ResolvedTimed)) → IsMissingInStarts primary statements node → node < primary
 missing-below primary node [] out = absurd out
 missing-below primary node (first ∷ later) (inl here) = out-below primary node first.statement here
 missing-below primary node (first ∷ later) (inr more) = missing-below primary node later more
 
 -- the pass answers the least
-pub answers_missing : (primary : ℕ) (statements : List (Numbered ResolvedTimed)) → IsLeastOf (IsMissing primary statements) (least_missing primary statements)
+pub answers_missing : (primary : ℕ) (statements : List (Numbered ResolvedTimed)) → IsLeastOf (IsMissingInStarts primary statements) (least_missing primary statements)
 answers_missing primary statements = by_test (nat_lt (left_out_by_any primary statements) primary) refl
   where
-    by_test : (b : Bool) → nat_lt (left_out_by_any primary statements) primary ≡ b → IsLeastOf (IsMissing primary statements) (cond b (Some (left_out_by_any primary statements)) None)
+    by_test : (b : Bool) → nat_lt (left_out_by_any primary statements) primary ≡ b → IsLeastOf (IsMissingInStarts primary statements) (cond b (Some (left_out_by_any primary statements)) None)
     by_test true t =
         let is = left_out_by_any-least primary primary statements (omega arith) in
         let below : left_out_by_any primary statements < primary = grind (arith, nat_tests, t) in

@@ -1,7 +1,7 @@
 -- The scripts of statements without a fault are scripts of the network.
 use Rattle.std.proofs.Common.{◌≡◌, ◌∙◌, ℕ, ◌+◌, ◌<◌, ◌≤◌, Bool, true, false, ◌||◌, cond, nat_eq, nat_le, List, [], ◌∷◌, Option, Some, None, length, get_or, map, filter, refl, ap, sym, subst, inl, inr, arith, zero-add}
 use Rattle.hz_timing.proofs.Words.{◌⊎◌, All, option_map, nat_tests, length-map, All-nil, All-cons, Netlist, IsCircuit, primary_inputs, Numbered, Assigned, Inputs, assignment_to}
-use Rattle.hz_timing.proofs.Words.{true-false, most_changes, ScriptOf, Ordered, Ideal, Start, Change, ResolvedTimed, names_unknown, lacks_bit, is_start, is_change, LeavesOut}
+use Rattle.hz_timing.proofs.Words.{true-false, most_changes, ScriptOf, Ordered, Ideal, Start, Change, ResolvedTimed, names_missing, assigns_no_bit, is_timed_start, is_timed_change, StartLeavesOut}
 use Rattle.hz_timing.proofs.Words.{line_behind, names_node_twice, changes_up_to_start, Part, parts_in, AreScriptsOf}
 use Rattle.std.specs.Prelude.{sum_by}
 use Rattle.std.specs.List.{list_any, range_with_len}
@@ -19,7 +19,7 @@ use Rattle.hz_text.proofs.BuildLemmas.{or_parts, assigned_nodes-pairs, IsDistinc
 use Rattle.hz_script.specs.Resolution.{ResolvedStatement}
 use Rattle.hz_script.specs.ScriptText.{IsScriptBy, IsScriptFor}
 use Rattle.hz_timing.specs.TimedFault.{has_start}
-use Rattle.hz_timing.specs.TimedText.{change_before, part_before, start_of, change_count}
+use Rattle.hz_timing.specs.TimedText.{change_before, part_before, start_statement, change_count}
 
 -- a change of inputs, each at most once
 pub record IsGoodChange (inputs : ℕ) (statement : ResolvedStatement) : Type 0 where
@@ -34,10 +34,10 @@ pub record IsGoodPart (netlist : Netlist) (part : Part) : Type 0 where
 
 -- a statement in which no pass of all texts finds a fault
 pub record IsClearStatement (netlist : Netlist) (statement : ResolvedTimed) : Type 0 where
-  pub known : names_unknown netlist statement ≡ false
+  pub known : names_missing netlist statement ≡ false
   pub once : names_node_twice statement ≡ false
-  pub bits : lacks_bit statement ≡ false
-  pub whole : (node : ℕ) → LeavesOut (primary_inputs netlist) statement node → ⊥
+  pub bits : assigns_no_bit statement ≡ false
+  pub whole : (node : ℕ) → StartLeavesOut (primary_inputs netlist) statement node → ⊥
 
 change-below : (inputs : ℕ) (change : List (ℕ × Bool)) → list_any (λ assigned. is_not_allowed inputs Inputs assigned.node) (map assignment_to change) ≡ false → All (λ pair. pair.0 < inputs) change
 change-below inputs [] h = All-nil (λ (pair : ℕ × Bool). pair.0 < inputs)
@@ -55,7 +55,7 @@ change-input inputs assigned change e known once =
     }
 
 -- the script of a good part
-script-fits : (netlist : Netlist) (part : Part) (script : ScriptOf) → IsCircuit netlist → IsGoodPart netlist part → length part.changes ≤ most_changes → IsScriptBy (length netlist.names) (start_of part.start) part.changes script → IsScriptFor netlist script
+script-fits : (netlist : Netlist) (part : Part) (script : ScriptOf) → IsCircuit netlist → IsGoodPart netlist part → length part.changes ≤ most_changes → IsScriptBy (length netlist.names) (start_statement part.start) part.changes script → IsScriptFor netlist script
 script-fits netlist part script circuit good few is =
     let nodes = length netlist.names in
     let all = part.start in
@@ -64,7 +64,7 @@ script-fits netlist part script circuit good few is =
     let long : length script.start ≡ nodes = ap length is.start ∙ length-map (range_with_len 0 nodes) (assigned_bit all) ∙ length-range_with_len 0 nodes in
     let within : primary ≤ nodes = omega (arith, circuit.nodes) in
     let many : length script.changes ≡ length later = sym (length-map script.changes (map assignment_to)) ∙ ap length is.changes ∙ length-map later (λ (numbered : Numbered ResolvedStatement). numbered.statement.assigned) in
-    let nothing : Numbered ResolvedStatement = record { line = 0; statement = start_of [] } in
+    let nothing : Numbered ResolvedStatement = record { line = 0; statement = start_statement [] } in
     record {
       nodes = long;
       inputs = λ k d l.
@@ -122,7 +122,7 @@ changes-good netlist (first ∷ later) clear =
         All-cons (λ (numbered : Numbered ResolvedStatement). IsGoodChange netlist.inputs numbered.statement) _ rest (record { known = clear.known; once = clear.once }) good
 
 -- where no primary input is left out, none is the least
-left-none : (primary : ℕ) (assigned : List Assigned) (answer : Option ℕ) → least_unassigned primary assigned ≡ answer → ((node : ℕ) → LeavesOut primary (Start assigned) node → ⊥) → answer ≡ None
+left-none : (primary : ℕ) (assigned : List Assigned) (answer : Option ℕ) → least_unassigned primary assigned ≡ answer → ((node : ℕ) → StartLeavesOut primary (Start assigned) node → ⊥) → answer ≡ None
 left-none primary assigned None e none = refl
 left-none primary assigned (Some node) e none =
     let is = unassigned-Some primary assigned node e in absurd (none node (is.below, is.unassigned))
@@ -147,13 +147,13 @@ parts-good netlist (first ∷ later) clear =
         good
 
 -- there are as many parts as starts
-pub parts-counted : (statements : List (Numbered ResolvedTimed)) → length (parts_in statements) ≡ length (filter (λ numbered. is_start numbered.statement) statements)
+pub parts-counted : (statements : List (Numbered ResolvedTimed)) → length (parts_in statements) ≡ length (filter (λ numbered. is_timed_start numbered.statement) statements)
 parts-counted [] = refl
 parts-counted (first ∷ later) = step first.statement (parts-counted later)
   where
     step :
-        (statement : ResolvedTimed) → length (parts_in later) ≡ length (filter (λ numbered. is_start numbered.statement) later) →
-        length (part_before statement (changes_up_to_start later) (parts_in later)) ≡ length (cond (is_start statement) (first ∷ filter (λ numbered. is_start numbered.statement) later) (filter (λ numbered. is_start numbered.statement) later))
+        (statement : ResolvedTimed) → length (parts_in later) ≡ length (filter (λ numbered. is_timed_start numbered.statement) later) →
+        length (part_before statement (changes_up_to_start later) (parts_in later)) ≡ length (cond (is_timed_start statement) (first ∷ filter (λ numbered. is_timed_start numbered.statement) later) (filter (λ numbered. is_timed_start numbered.statement) later))
     step (Ordered one other number) ih = ih
     step (Ideal wire) ih = ih
     step (Change assigned) ih = ih
@@ -162,14 +162,14 @@ parts-counted (first ∷ later) = step first.statement (parts-counted later)
 -- the changes of the parts are changes of the text
 pub changes-counted :
     (statements : List (Numbered ResolvedTimed)) →
-    length (changes_up_to_start statements) + sum_by (λ part. length part.changes) (parts_in statements) ≡ length (filter (λ numbered. is_change numbered.statement) statements)
+    length (changes_up_to_start statements) + sum_by (λ part. length part.changes) (parts_in statements) ≡ length (filter (λ numbered. is_timed_change numbered.statement) statements)
 changes-counted [] = refl
 changes-counted (first ∷ later) = step first.statement (changes-counted later)
   where
     step :
-        (statement : ResolvedTimed) → length (changes_up_to_start later) + sum_by (λ part. length part.changes) (parts_in later) ≡ length (filter (λ numbered. is_change numbered.statement) later) →
+        (statement : ResolvedTimed) → length (changes_up_to_start later) + sum_by (λ part. length part.changes) (parts_in later) ≡ length (filter (λ numbered. is_timed_change numbered.statement) later) →
         length (change_before first.line statement (changes_up_to_start later)) + sum_by (λ part. length part.changes) (part_before statement (changes_up_to_start later) (parts_in later))
-        ≡ length (cond (is_change statement) (first ∷ filter (λ numbered. is_change numbered.statement) later) (filter (λ numbered. is_change numbered.statement) later))
+        ≡ length (cond (is_timed_change statement) (first ∷ filter (λ numbered. is_timed_change numbered.statement) later) (filter (λ numbered. is_timed_change numbered.statement) later))
     step (Ordered one other number) ih = ih
     step (Ideal wire) ih = ih
     step (Change assigned) ih = omega (arith, ih)
@@ -181,7 +181,7 @@ pub parts-some : (statements : List (Numbered ResolvedTimed)) → has_start stat
 parts-some [] s = absurd (true-false (sym s))
 parts-some (first ∷ later) s = step first.statement s (parts-some later)
   where
-    step : (statement : ResolvedTimed) → (is_start statement || has_start later) ≡ true → (has_start later ≡ true → 1 ≤ length (parts_in later)) → 1 ≤ length (part_before statement (changes_up_to_start later) (parts_in later))
+    step : (statement : ResolvedTimed) → (is_timed_start statement || has_start later) ≡ true → (has_start later ≡ true → 1 ≤ length (parts_in later)) → 1 ≤ length (part_before statement (changes_up_to_start later) (parts_in later))
     step (Ordered one other number) s ih = ih s
     step (Ideal wire) s ih = ih s
     step (Change assigned) s ih = ih s

@@ -2,7 +2,7 @@
 use Rattle.std.proofs.Common.{◌≡◌, ◌∙◌, ℕ, ◌≤◌, Bool, true, false, cond, List, [], ◌∷◌, Option, Some, None, length, get_or, refl, sym, subst, inl, inr, arith}
 use Rattle.hz_timing.proofs.Words.{All, Netlist, IsCircuit, primary_inputs, IsLeastOf, option_map, Numbered, first_passing_line, Inputs, true-false, All-nil, All-cons, TimedFault}
 use Rattle.hz_timing.proofs.Words.{Wires, Number, Again, Ordered, Ideal, Start, Change, ResolvedTimed, TimedEntry, timed_resolution_of, numbered_timed_resolutions}
-use Rattle.hz_timing.proofs.Words.{resolved_timed_statements, names_unknown, lacks_bit, is_start, is_change, counted, has_begun, IsMissing, line_behind, is_unpaired, lacks_number}
+use Rattle.hz_timing.proofs.Words.{resolved_timed_statements, names_missing, assigns_no_bit, is_timed_start, is_timed_change, counted, has_begun, IsMissingInStarts, line_behind, is_unpaired, lacks_number}
 use Rattle.hz_timing.proofs.Words.{is_stated, HasTimedFault, IsTimedRefusal, timed_faults_that, names_node_twice, misplaced_behind, misplaced_from, first_out_of_order}
 use Rattle.hz_timing.proofs.Words.{first_line_behind, IsSoundTimed, Part, parts_in, AreScriptsOf, ScriptOf, most_changes}
 use Rattle.std.specs.Prelude.{◌||◌, filter}
@@ -16,7 +16,7 @@ use Rattle.hz_text.proofs.LeastFault.{unanswered, checked-none}
 use Rattle.hz_text.proofs.PassLaws.{none_parts, All-from_first_line, All-unmap, pairs-sound}
 use Rattle.hz_timing.specs.TimedStatement.{timed_statements_of}
 use Rattle.hz_timing.specs.TimedResolution.{resolve_timed_tokens, numbered_timed_resolution}
-use Rattle.hz_timing.specs.TimedFault.{assignments_in, is_order, is_ideal, has_start}
+use Rattle.hz_timing.specs.TimedFault.{timed_assignments, is_order, is_ideal, has_start}
 use Rattle.hz_timing.specs.TimedRules.{least_missing, first_beyond, timed_rules, first_assumption_fault}
 use Rattle.hz_timing.specs.TimedReading.{IsAcceptedTimed}
 use Rattle.hz_timing.specs.TimedText.{IsTimedScriptBy, IsTimedScriptFor}
@@ -30,43 +30,43 @@ use Rattle.hz_timing.proofs.OneStart.{behind-None, from-None, one-start, ordered
 
 -- no pass has an answer
 pub record IsClearTimed (again : Bool) (netlist : Netlist) (statements : List (Numbered ResolvedTimed)) : Type 0 where
-  pub unknown : first_passing_line (names_unknown netlist) statements ≡ None
+  pub unknown : first_passing_line (names_missing netlist) statements ≡ None
   pub twice : first_passing_line names_node_twice statements ≡ None
   pub missing : least_missing (primary_inputs netlist) (counted again statements) ≡ None
-  pub bit : first_passing_line lacks_bit statements ≡ None
+  pub bit : first_passing_line assigns_no_bit statements ≡ None
   pub order : first_out_of_order again statements ≡ None
   pub beyond : first_beyond statements ≡ None
 
 clear-from : (again : Bool) (netlist : Netlist) (statements : List (Numbered ResolvedTimed)) → first_fault_in (timed_rules again netlist) statements ≡ None → IsClearTimed again netlist statements
 clear-from again netlist statements h =
-    let a = none_parts Unknown (first_passing_line (names_unknown netlist) statements) _ h in
+    let a = none_parts Unknown (first_passing_line (names_missing netlist) statements) _ h in
     let b = none_parts Twice (first_passing_line names_node_twice statements) _ a.1 in
     let c = none_parts Missing (least_missing (primary_inputs netlist) (counted again statements)) _ b.1 in
-    let d = none_parts Bit (first_passing_line lacks_bit statements) _ c.1 in
+    let d = none_parts Bit (first_passing_line assigns_no_bit statements) _ c.1 in
     let e = none_parts Order (first_out_of_order again statements) _ d.1 in
     record { unknown = a.0; twice = b.0; missing = c.0; bit = d.0; order = e.0; beyond = (none_parts TooMany (first_beyond statements) _ e.1).0 }
 
 -- the limits are kept
 record AreFew (statements : List (Numbered ResolvedTimed)) : Type 0 where
-  starts : length (filter (λ numbered. is_start numbered.statement) statements) ≤ most_starts
-  changes : length (filter (λ numbered. is_change numbered.statement) statements) ≤ most_changes
+  starts : length (filter (λ numbered. is_timed_start numbered.statement) statements) ≤ most_starts
+  changes : length (filter (λ numbered. is_timed_change numbered.statement) statements) ≤ most_changes
 
 few-from : (statements : List (Numbered ResolvedTimed)) → first_beyond statements ≡ None → AreFew statements
 few-from statements h =
     let a = option_min-none (line_behind is_order most_orders statements) _ (sym (first_beyond-is statements) ∙ h) in
     let b = option_min-none (line_behind is_ideal most_ideals statements) _ a.1 in
-    let c = option_min-none (line_behind is_start most_starts statements) (line_behind is_change most_changes statements) b.1 in
-    record { starts = few-kind is_start most_starts statements c.0; changes = few-kind is_change most_changes statements c.1 }
+    let c = option_min-none (line_behind is_timed_start most_starts statements) (line_behind is_timed_change most_changes statements) b.1 in
+    record { starts = few-kind is_timed_start most_starts statements c.0; changes = few-kind is_timed_change most_changes statements c.1 }
 
 -- no start that counts leaves an input out
-none-missing : (primary : ℕ) (statements : List (Numbered ResolvedTimed)) → least_missing primary statements ≡ None → (node : ℕ) → IsMissing primary statements node → ⊥
-none-missing primary statements e = let P : Option ℕ → Type 0 = IsLeastOf (IsMissing primary statements) in subst P e (answers_missing primary statements)
+none-missing : (primary : ℕ) (statements : List (Numbered ResolvedTimed)) → least_missing primary statements ≡ None → (node : ℕ) → IsMissingInStarts primary statements node → ⊥
+none-missing primary statements e = let P : Option ℕ → Type 0 = IsLeastOf (IsMissingInStarts primary statements) in subst P e (answers_missing primary statements)
 
 all-clear : (again : Bool) (netlist : Netlist) (statements : List (Numbered ResolvedTimed)) → IsClearTimed again netlist statements → All (λ numbered. IsClearStatement netlist numbered.statement) statements
 all-clear again netlist statements h =
-    let known = All-from_first_line (names_unknown netlist) statements h.unknown in
+    let known = All-from_first_line (names_missing netlist) statements h.unknown in
     let once = All-from_first_line names_node_twice statements h.twice in
-    let bits = All-from_first_line lacks_bit statements h.bit in
+    let bits = All-from_first_line assigns_no_bit statements h.bit in
     let whole = ordered-whole again (primary_inputs netlist) statements (from-None again statements h.order) (none-missing (primary_inputs netlist) (counted again statements) h.missing) in
     λ k d l. record { known = known k d l; once = once k d l; bits = bits k d l; whole = whole k d l }
 
@@ -76,9 +76,9 @@ ordered-start again [] changed s e = absurd (true-false (sym s))
 ordered-start again (first ∷ later) changed s e = step first.statement s e (ordered-start again later)
   where
     step :
-        (statement : ResolvedTimed) → ((is_start statement || is_change statement) || has_begun later) ≡ true
-        → cond (misplaced_behind again false changed statement) (Some first.line) (misplaced_from again (false || is_start statement) (changed || is_change statement) later) ≡ None
-        → ((changed : Bool) → has_begun later ≡ true → misplaced_from again false changed later ≡ None → has_start later ≡ true) → (is_start statement || has_start later) ≡ true
+        (statement : ResolvedTimed) → ((is_timed_start statement || is_timed_change statement) || has_begun later) ≡ true
+        → cond (misplaced_behind again false changed statement) (Some first.line) (misplaced_from again (false || is_timed_start statement) (changed || is_timed_change statement) later) ≡ None
+        → ((changed : Bool) → has_begun later ≡ true → misplaced_from again false changed later ≡ None → has_start later ≡ true) → (is_timed_start statement || has_start later) ≡ true
     step (Ordered one other number) s e ih = ih (changed || false) s (behind-None changed first.line (misplaced_from again false (changed || false) later) e)
     step (Ideal wire) s e ih = ih (changed || false) s (behind-None changed first.line (misplaced_from again false (changed || false) later) e)
     step (Start assigned) s e ih = refl
@@ -108,7 +108,7 @@ usable : (again : Bool) (netlist : Netlist) (bytes : List ℕ) (script : TimedSc
 usable again netlist bytes script circuit whole h paired is =
     let statements = resolved_timed_statements netlist bytes in
     let few = few-from statements h.beyond in
-    let known = All-from_first_line (names_unknown netlist) statements h.unknown in
+    let known = All-from_first_line (names_missing netlist) statements h.unknown in
     let two = All-from_first_line (is_unpaired netlist) statements paired in
     let counted = changes-counted statements in
     let good = parts-good netlist statements (all-clear again netlist statements h) in
@@ -123,21 +123,21 @@ usable again netlist bytes script circuit whole h paired is =
     }
 
 -- the assignments of a statement without a fault
-statement-sound : (netlist : Netlist) (nodes : ℕ) (statement : ResolvedTimed) → names_unknown netlist statement ≡ false → lacks_bit statement ≡ false → names_node_twice statement ≡ false → AreBelow nodes (assignments_in statement) → IsSoundTimed nodes statement
+statement-sound : (netlist : Netlist) (nodes : ℕ) (statement : ResolvedTimed) → names_missing netlist statement ≡ false → assigns_no_bit statement ≡ false → names_node_twice statement ≡ false → AreBelow nodes (timed_assignments statement) → IsSoundTimed nodes statement
 statement-sound netlist nodes (Ordered first second number) known bits once below = record { pairs = All-nil _; fresh = refl }
 statement-sound netlist nodes (Ideal wire) known bits once below = record { pairs = All-nil _; fresh = refl }
 statement-sound netlist nodes (Start assigned) known bits once below = record { pairs = pairs-sound netlist.inputs nodes Nodes assigned known bits below; fresh = once }
 statement-sound netlist nodes (Change assigned) known bits once below = record { pairs = pairs-sound netlist.inputs nodes Inputs assigned known bits below; fresh = once }
 
 entries-sound :
-    (again : Bool) (netlist : Netlist) (nodes : ℕ) (entries : List TimedEntry) → IsClearTimed again netlist (numbered_timed_resolutions entries) → All (λ entry. AreBelow nodes (assignments_in (timed_resolution_of entry.held))) entries →
+    (again : Bool) (netlist : Netlist) (nodes : ℕ) (entries : List TimedEntry) → IsClearTimed again netlist (numbered_timed_resolutions entries) → All (λ entry. AreBelow nodes (timed_assignments (timed_resolution_of entry.held))) entries →
     All (λ entry. IsSoundTimed nodes (timed_resolution_of entry.held)) entries
 entries-sound again netlist nodes entries h below =
-    let U : Numbered ResolvedTimed → Type 0 = λ numbered. names_unknown netlist numbered.statement ≡ false in
-    let B : Numbered ResolvedTimed → Type 0 = λ numbered. lacks_bit numbered.statement ≡ false in
+    let U : Numbered ResolvedTimed → Type 0 = λ numbered. names_missing netlist numbered.statement ≡ false in
+    let B : Numbered ResolvedTimed → Type 0 = λ numbered. assigns_no_bit numbered.statement ≡ false in
     let T : Numbered ResolvedTimed → Type 0 = λ numbered. names_node_twice numbered.statement ≡ false in
-    let u = All-unmap U numbered_timed_resolution entries (All-from_first_line (names_unknown netlist) (numbered_timed_resolutions entries) h.unknown) in
-    let b = All-unmap B numbered_timed_resolution entries (All-from_first_line lacks_bit (numbered_timed_resolutions entries) h.bit) in
+    let u = All-unmap U numbered_timed_resolution entries (All-from_first_line (names_missing netlist) (numbered_timed_resolutions entries) h.unknown) in
+    let b = All-unmap B numbered_timed_resolution entries (All-from_first_line assigns_no_bit (numbered_timed_resolutions entries) h.bit) in
     let t = All-unmap T numbered_timed_resolution entries (All-from_first_line names_node_twice (numbered_timed_resolutions entries) h.twice) in
     λ k d l. statement-sound netlist nodes (timed_resolution_of (get_or entries k d).held) (u k d l) (b k d l) (t k d l) (below k d l)
 
@@ -152,7 +152,7 @@ paired-from netlist statements h = by_answer (first_passing_line (is_unpaired ne
 -- what a text is in which the passes find nothing
 pub accepted :
     (again : Bool) (netlist : Netlist) (bytes : List ℕ) (entries : List TimedEntry) → IsChecked (resolve_timed_tokens netlist) (timed_rules again netlist) bytes (numbered_timed_resolutions entries) →
-    All (λ entry. AreBelow (length netlist.names) (assignments_in (timed_resolution_of entry.held))) entries → first_assumption_fault netlist (numbered_timed_resolutions entries) ≡ None → IsAcceptedTimed again netlist bytes entries
+    All (λ entry. AreBelow (length netlist.names) (timed_assignments (timed_resolution_of entry.held))) entries → first_assumption_fault netlist (numbered_timed_resolutions entries) ≡ None → IsAcceptedTimed again netlist bytes entries
 accepted again netlist bytes entries h below none =
     let clear = clear-from again netlist (numbered_timed_resolutions entries) h.clear in
     let looked : numbered_timed_resolutions entries ≡ resolved_timed_statements netlist bytes = sym h.read.statements ∙ resolved_statements-read netlist bytes in

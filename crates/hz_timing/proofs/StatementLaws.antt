@@ -9,9 +9,9 @@ use Rattle.hz_text.specs.Decimal.{is_decimal}
 use Rattle.hz_run_text.specs.RunStatement.{Variable, Node, Pin, variables_of_tokens, with_first}
 use Rattle.hz_timing.specs.TimedKeyword as keyword
 use Rattle.hz_timing.specs.TimedStatement.{number_word}
-use Rattle.hz_timing.specs.TimedResolution.{nth_by, number_of, resolve_timed_keyword}
+use Rattle.hz_timing.specs.TimedResolution.{nth_by, order_number, resolve_timed_keyword}
 use Rattle.hz_timing.specs.Limits.{most_nth}
-use Rattle.hz_timing.specs.TimedFault.{assignments_in}
+use Rattle.hz_timing.specs.TimedFault.{timed_assignments}
 use Rattle.hz_text.specs.Rules.{AreBelow}
 use Rattle.std.specs.Option.{IfSome}
 use Rattle.hz_timing.specs.VariableRead.{ideal_by_variables}
@@ -52,7 +52,7 @@ order-of-two netlist first second (Some those) = by_word (number_word those)
   where
     by_word :
         (word : Option (Option (List ℕ))) →
-        option_map (resolve_timed netlist) (option_map (Ordered first second) word) ≡ option_map (Ordered (variable_named netlist first) (variable_named netlist second)) (option_map number_of word)
+        option_map (resolve_timed netlist) (option_map (Ordered first second) word) ≡ option_map (Ordered (variable_named netlist first) (variable_named netlist second)) (option_map order_number word)
     by_word None = refl
     by_word (Some word) = refl
 
@@ -147,5 +147,5 @@ pub nth-above : (number : ℕ) → most_nth < number → nth_by number ≡ None
 nth-above number above = let off : nat_le number most_nth ≡ false = grind (arith, nat_tests, above) in rw off (none-both (nat_le 1 number) number)
 
 -- a statement that assigns nothing assigns nodes below any bound
-pub below-none : (nodes : ℕ) (statement : ResolvedTimed) → assignments_in statement ≡ [] → AreBelow nodes (assignments_in statement)
+pub below-none : (nodes : ℕ) (statement : ResolvedTimed) → timed_assignments statement ≡ [] → AreBelow nodes (timed_assignments statement)
 below-none nodes statement is = subst (AreBelow nodes) (sym is) (All-nil (λ (assigned : Assigned). IfSome assigned.node (λ node. node < nodes)))

@@ -9,8 +9,8 @@ pub use Rattle.hz_script.specs.ScriptValue.{ScriptOf}
 pub use Rattle.hz_text.proofs.PassLaws.{true-false}
 pub use Rattle.hz_text.specs.Assignment.{Assigned, Inputs, assignment_to}
 pub use Rattle.hz_text.specs.declared.fault.TextFault.{TextFault}
-pub use Rattle.hz_timing.specs.TimedFault.{HasTimedFault, IsLeastTimedFault, IsMissing, IsTimedRefusal, LeavesOut, counted, has_begun, is_change, is_start, is_stated, is_unpaired}
-pub use Rattle.hz_timing.specs.TimedFault.{lacks_bit, lacks_number, line_behind, names_unknown, resolved_timed_statements, timed_faults_that}
+pub use Rattle.hz_timing.specs.TimedFault.{HasTimedFault, IsLeastTimedFault, IsMissingInStarts, IsTimedRefusal, StartLeavesOut, counted, has_begun, is_timed_change, is_timed_start, is_stated, is_unpaired}
+pub use Rattle.hz_timing.specs.TimedFault.{assigns_no_bit, lacks_number, line_behind, names_missing, resolved_timed_statements, timed_faults_that}
 pub use Rattle.hz_timing.specs.TimedReading.{IsSoundTimed}
 pub use Rattle.hz_timing.specs.TimedResolution.{ResolvedTimed, TimedEntry, numbered_timed_resolutions, resolve_timed, timed_resolution_of}
 pub use Rattle.hz_timing.specs.TimedRules.{first_line_behind, first_out_of_order, misplaced_behind, misplaced_from, names_node_twice}

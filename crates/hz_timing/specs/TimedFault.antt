@@ -24,10 +24,10 @@ abbrev pub resolved_timed_statements : Netlist → List ℕ → List (Numbered R
 resolved_timed_statements netlist text = map (resolve_numbered_timed netlist) (timed_statements_of text)
 
 -- what a statement assigns
-abbrev pub assignments_in : {A V N : Type 0} → TimedStatementOf A V N → List A
-assignments_in (Start assignments) = assignments
-assignments_in (Change assignments) = assignments
-assignments_in _ = []
+abbrev pub timed_assignments : {A V N : Type 0} → TimedStatementOf A V N → List A
+timed_assignments (Start assignments) = assignments
+timed_assignments (Change assignments) = assignments
+timed_assignments _ = []
 
 -- the gate into which a variable goes, if it is a wire
 abbrev pub gate_by : Option VarKind → Option ℕ
@@ -47,20 +47,20 @@ are_same (Some one) (Some other) = nat_eq one other
 are_same _ _ = false
 
 -- A statement names what is not there: a start no node, a change no input, an order or a wire without delay no wire.
-abbrev pub names_unknown : Netlist → ResolvedTimed → Bool
-names_unknown netlist (Ordered first second number) =
+abbrev pub names_missing : Netlist → ResolvedTimed → Bool
+names_missing netlist (Ordered first second number) =
     is_none (gate_into netlist first) || is_none (gate_into netlist second)
-names_unknown netlist (Ideal wire) = is_none (gate_into netlist wire)
-names_unknown netlist (Start assigned) = any_unknown netlist.inputs Nodes assigned
-names_unknown netlist (Change assigned) = any_unknown netlist.inputs Inputs assigned
+names_missing netlist (Ideal wire) = is_none (gate_into netlist wire)
+names_missing netlist (Start assigned) = any_unknown netlist.inputs Nodes assigned
+names_missing netlist (Change assigned) = any_unknown netlist.inputs Inputs assigned
 
 -- the statement assigns a name twice
-abbrev pub names_twice : TimedStatement → Bool
-names_twice statement = any_twice (assignments_in statement)
+abbrev pub assigns_name_twice : TimedStatement → Bool
+assigns_name_twice statement = any_twice (timed_assignments statement)
 
 -- the statement assigns a word that is no bit
-abbrev pub lacks_bit : ResolvedTimed → Bool
-lacks_bit statement = any_bitless (assignments_in statement)
+abbrev pub assigns_no_bit : ResolvedTimed → Bool
+assigns_no_bit statement = any_bitless (timed_assignments statement)
 
 -- the kinds of statements
 abbrev pub is_order : {A V N : Type 0} → TimedStatementOf A V N → Bool
@@ -71,18 +71,18 @@ abbrev pub is_ideal : {A V N : Type 0} → TimedStatementOf A V N → Bool
 is_ideal (Ideal wire) = true
 is_ideal _ = false
 
-abbrev pub is_start : {A V N : Type 0} → TimedStatementOf A V N → Bool
-is_start (Start assignments) = true
-is_start _ = false
+abbrev pub is_timed_start : {A V N : Type 0} → TimedStatementOf A V N → Bool
+is_timed_start (Start assignments) = true
+is_timed_start _ = false
 
-abbrev pub is_change : {A V N : Type 0} → TimedStatementOf A V N → Bool
-is_change (Change assignments) = true
-is_change _ = false
+abbrev pub is_timed_change : {A V N : Type 0} → TimedStatementOf A V N → Bool
+is_timed_change (Change assignments) = true
+is_timed_change _ = false
 
 -- the statement is a start that leaves this one of so many primary inputs out
-abbrev pub LeavesOut : ℕ → ResolvedTimed → ℕ → Type 0
-LeavesOut primary (Start assigned) node = (node < primary) × (assigns assigned node ≡ false)
-LeavesOut primary _ node = ⊥
+abbrev pub StartLeavesOut : ℕ → ResolvedTimed → ℕ → Type 0
+StartLeavesOut primary (Start assigned) node = (node < primary) × (assigns assigned node ≡ false)
+StartLeavesOut primary _ node = ⊥
 
 -- whether a start behind this statement may be what leaves an input out: where a start may not stand again, it may behind
 -- assumptions alone
@@ -99,10 +99,10 @@ counted again (first ∷ later) =
     first ∷ (if counts_behind again first.statement then counted again later else [])
 
 -- some start leaves this one of so many primary inputs out
-abbrev pub IsMissing : ℕ → List (Numbered ResolvedTimed) → ℕ → Type 0
-IsMissing primary [] node = ⊥
-IsMissing primary (first ∷ later) node =
-    LeavesOut primary first.statement node ⊎ IsMissing primary later node
+abbrev pub IsMissingInStarts : ℕ → List (Numbered ResolvedTimed) → ℕ → Type 0
+IsMissingInStarts primary [] node = ⊥
+IsMissingInStarts primary (first ∷ later) node =
+    StartLeavesOut primary first.statement node ⊎ IsMissingInStarts primary later node
 
 -- some of these statements is on this line, and passes a test that sees the statements before it too; these came before all
 abbrev pub PassesBehind : {S : Type 0} → (List S → S → Bool) → List S → List (Numbered S) → ℕ → Type 0
@@ -114,23 +114,23 @@ PassesBehind test before (first ∷ later) line =
 -- behind these statements a statement is out of order: a change before any start, an assumption behind a change, a start
 -- behind a start if it may not stand again
 abbrev pub is_misplaced : (again : Bool) → List ResolvedTimed → ResolvedTimed → Bool
-is_misplaced again before (Ordered first second number) = list_any is_change before
-is_misplaced again before (Ideal wire) = list_any is_change before
-is_misplaced again before (Start assigned) = not again && list_any is_start before
-is_misplaced again before (Change assigned) = not (list_any is_start before)
+is_misplaced again before (Ordered first second number) = list_any is_timed_change before
+is_misplaced again before (Ideal wire) = list_any is_timed_change before
+is_misplaced again before (Start assigned) = not again && list_any is_timed_start before
+is_misplaced again before (Change assigned) = not (list_any is_timed_start before)
 
 -- some statement is a start
 abbrev pub has_start : List (Numbered ResolvedTimed) → Bool
-has_start statements = list_any (λ numbered. is_start numbered.statement) statements
+has_start statements = list_any (λ numbered. is_timed_start numbered.statement) statements
 
 -- some statement is a start or a change
 abbrev pub has_begun : List (Numbered ResolvedTimed) → Bool
 has_begun statements =
-    list_any (λ numbered. is_start numbered.statement || is_change numbered.statement) statements
+    list_any (λ numbered. is_timed_start numbered.statement || is_timed_change numbered.statement) statements
 
 -- the statement on this line is out of order; line 0 if there is neither a start nor a change
-abbrev pub BreaksOrder : (again : Bool) → List (Numbered ResolvedTimed) → ℕ → Type 0
-BreaksOrder again statements line =
+abbrev pub BreaksTimedOrder : (again : Bool) → List (Numbered ResolvedTimed) → ℕ → Type 0
+BreaksTimedOrder again statements line =
     ((has_begun statements ≡ false) × (line ≡ 0))
     ⊎ PassesBehind (is_misplaced again) [] statements line
 
@@ -141,12 +141,12 @@ line_behind kind most statements =
     (slice_get (filter (λ numbered. kind numbered.statement) statements) most)
 
 -- the line of the order 1,001, of the wire without delay 257, of the start 257, or of the change 10,001
-abbrev pub IsBeyond : List (Numbered ResolvedTimed) → ℕ → Type 0
-IsBeyond statements line =
+abbrev pub IsBeyondLimits : List (Numbered ResolvedTimed) → ℕ → Type 0
+IsBeyondLimits statements line =
     (line_behind is_order most_orders statements ≡ Some line)
     ⊎ ((line_behind is_ideal most_ideals statements ≡ Some line)
-    ⊎ ((line_behind is_start most_starts statements ≡ Some line)
-    ⊎ (line_behind is_change most_changes statements ≡ Some line)))
+    ⊎ ((line_behind is_timed_start most_starts statements ≡ Some line)
+    ⊎ (line_behind is_timed_change most_changes statements ≡ Some line)))
 
 -- the statement is an order whose wires are not two wires of one gate
 abbrev pub is_unpaired : Netlist → ResolvedTimed → Bool
@@ -174,16 +174,16 @@ is_stated before statement = list_any (are_one_assumption statement) before
 abbrev pub HasTimedFault : (again : Bool) → Netlist → List ℕ → TimedFault → Type 0
 HasTimedFault again netlist bytes (Text (text.Form line)) = meaning_at timed_statement_of bytes line ≡ Malformed
 HasTimedFault again netlist bytes (Text (text.Unknown line)) =
-    PassesOn (names_unknown netlist) (resolved_timed_statements netlist bytes) line
-HasTimedFault again netlist bytes (Text (text.Twice line)) = PassesOn names_twice (timed_statements_of bytes) line
+    PassesOn (names_missing netlist) (resolved_timed_statements netlist bytes) line
+HasTimedFault again netlist bytes (Text (text.Twice line)) = PassesOn assigns_name_twice (timed_statements_of bytes) line
 HasTimedFault again netlist bytes (Text (text.Missing node)) =
-    IsMissing (primary_inputs netlist) (counted again (resolved_timed_statements netlist bytes)) node
+    IsMissingInStarts (primary_inputs netlist) (counted again (resolved_timed_statements netlist bytes)) node
 HasTimedFault again netlist bytes (Text (text.Bit line)) =
-    PassesOn lacks_bit (resolved_timed_statements netlist bytes) line
+    PassesOn assigns_no_bit (resolved_timed_statements netlist bytes) line
 HasTimedFault again netlist bytes (Text (text.Order line)) =
-    BreaksOrder again (resolved_timed_statements netlist bytes) line
+    BreaksTimedOrder again (resolved_timed_statements netlist bytes) line
 HasTimedFault again netlist bytes (Text (text.TooMany line)) =
-    IsBeyond (resolved_timed_statements netlist bytes) line
+    IsBeyondLimits (resolved_timed_statements netlist bytes) line
 HasTimedFault again netlist bytes (Text text.Memory) = ⊥
 HasTimedFault again netlist bytes (Text (text.Mismatch line told real)) = ⊥
 HasTimedFault again netlist bytes (Wires line) =

@@ -9,18 +9,18 @@ use Rattle.hz_script.specs.Resolution.{ResolvedStatement}
 use Rattle.hz_script.specs.ScriptValue.{ScriptOf}
 use Rattle.hz_timing.specs.TimedStatement.{Change}
 use Rattle.hz_timing.specs.TimedResolution.{ResolvedTimed, TimedEntry, timed_resolution_of, numbered_timed_resolutions}
-use Rattle.hz_timing.specs.TimedFault.{resolved_timed_statements, assignments_in, is_change, IsTimedFaultless}
+use Rattle.hz_timing.specs.TimedFault.{resolved_timed_statements, timed_assignments, is_timed_change, IsTimedFaultless}
 use Rattle.hz_timing.specs.TimedText.{part_before, AreScriptsOf, IsTimedScriptBy, IsTimedScriptFor}
 use Rattle.hz_timing.specs.TimedValue.{TimedScriptOf}
 
 -- a statement that assigns bits to nodes, to each at most once
 abbrev pub IsSoundTimed : ℕ → ResolvedTimed → Type 0
-IsSoundTimed nodes statement = ArePairs nodes (assignments_in statement)
+IsSoundTimed nodes statement = ArePairs nodes (timed_assignments statement)
 
 -- there are no more changes than scripts may have
 abbrev pub AreFewChanges : List (Numbered ResolvedTimed) → Type 0
 AreFewChanges statements =
-    length (filter (λ numbered. is_change numbered.statement) statements) ≤ most_changes
+    length (filter (λ numbered. is_timed_change numbered.statement) statements) ≤ most_changes
 
 -- the statements of a text in which no fault stands; a start may stand in it again or not
 pub record IsAcceptedTimed (again : Bool) (netlist : Netlist) (text : List ℕ)

@@ -27,9 +27,9 @@ abbrev pub nth_of : List ℕ → Option ℕ
 nth_of word = if is_decimal word then nth_by (number_by word) else None
 
 -- the number of an order, which is 1 if its word is left out
-abbrev pub number_of : Option (List ℕ) → Option ℕ
-number_of None = Some 1
-number_of (Some word) = nth_of word
+abbrev pub order_number : Option (List ℕ) → Option ℕ
+order_number None = Some 1
+order_number (Some word) = nth_of word
 
 -- a statement by its nodes and bits, its variables and its number
 abbrev pub ResolvedTimed : Type 0
@@ -38,7 +38,7 @@ ResolvedTimed = TimedStatementOf Assigned (Option ℕ) (Option ℕ)
 -- a statement, looked up
 abbrev pub resolve_timed : Netlist → TimedStatement → ResolvedTimed
 resolve_timed netlist (Ordered first second number) =
-    Ordered (variable_named netlist first) (variable_named netlist second) (number_of number)
+    Ordered (variable_named netlist first) (variable_named netlist second) (order_number number)
 resolve_timed netlist (Ideal wire) = Ideal (variable_named netlist wire)
 resolve_timed netlist (Start assignments) = Start (map (assigned_of netlist) assignments)
 resolve_timed netlist (Change assignments) = Change (map (assigned_of netlist) assignments)

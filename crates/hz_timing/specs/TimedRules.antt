@@ -13,12 +13,12 @@ use Rattle.hz_timing.specs.TimedKeyword.{TimedKeyword}
 use Rattle.hz_timing.specs.TimedKeyword as keyword
 use Rattle.hz_timing.specs.TimedStatement.{Ordered, Ideal, Start, Change}
 use Rattle.hz_timing.specs.TimedResolution.{ResolvedTimed}
-use Rattle.hz_timing.specs.TimedFault.{assignments_in, names_unknown, lacks_bit, is_order, is_ideal, is_start, is_change, counted, has_begun, is_unpaired, lacks_number, is_stated}
+use Rattle.hz_timing.specs.TimedFault.{timed_assignments, names_missing, assigns_no_bit, is_order, is_ideal, is_timed_start, is_timed_change, counted, has_begun, is_unpaired, lacks_number, is_stated}
 use Rattle.hz_timing.specs.Limits.{most_orders, most_ideals, most_starts}
 
 -- the statement assigns a node twice
 abbrev pub names_node_twice : ResolvedTimed → Bool
-names_node_twice statement = repeats_node (assignments_in statement)
+names_node_twice statement = repeats_node (timed_assignments statement)
 
 -- a number, if it is there, in place of the one that is known
 abbrev pub or_known : ℕ → Option ℕ → ℕ
@@ -55,8 +55,8 @@ abbrev pub misplaced_from : (again : Bool) → Bool → Bool → List (Numbered 
 misplaced_from again started changed [] = None
 misplaced_from again started changed (first ∷ later) =
     if misplaced_behind again started changed first.statement then Some first.line
-    else misplaced_from again (started || is_start first.statement)
-    (changed || is_change first.statement) later
+    else misplaced_from again (started || is_timed_start first.statement)
+    (changed || is_timed_change first.statement) later
 
 -- the line that breaks the order
 abbrev pub first_out_of_order : (again : Bool) → List (Numbered ResolvedTimed) → Option ℕ
@@ -67,8 +67,8 @@ first_out_of_order again statements =
 abbrev pub is_of : TimedKeyword → ResolvedTimed → Bool
 is_of keyword.Order = is_order
 is_of keyword.Ideal = is_ideal
-is_of keyword.Start = is_start
-is_of keyword.Change = is_change
+is_of keyword.Start = is_timed_start
+is_of keyword.Change = is_timed_change
 
 -- the line of the first statement of a kind behind so many more of it
 abbrev pub line_from : (ResolvedTimed → Bool) → ℕ → List (Numbered ResolvedTimed) → Option ℕ
@@ -82,15 +82,15 @@ abbrev pub first_beyond : List (Numbered ResolvedTimed) → Option ℕ
 first_beyond statements =
     option_min (line_from is_order most_orders statements)
     (option_min (line_from is_ideal most_ideals statements)
-    (option_min (line_from is_start most_starts statements)
-    (line_from is_change most_changes statements)))
+    (option_min (line_from is_timed_start most_starts statements)
+    (line_from is_timed_change most_changes statements)))
 
 -- the passes over a script with assumptions of a network, in which a start may stand again or not
 abbrev pub timed_rules : (again : Bool) → Netlist → Rules ResolvedTimed
 timed_rules again netlist = record {
-  unknown = names_unknown netlist;
-  assigned = assignments_in;
-  bitless = lacks_bit;
+  unknown = names_missing netlist;
+  assigned = timed_assignments;
+  bitless = assigns_no_bit;
   missing = λ statements. least_missing (primary_inputs netlist) (counted again statements);
   order = first_out_of_order again;
   beyond = first_beyond;

@@ -61,12 +61,12 @@ parts_in (first ∷ later) =
     part_before first.statement (changes_up_to_start later) (parts_in later)
 
 -- a start as a statement of scripts
-abbrev pub start_of : List Assigned → ResolvedStatement
-start_of assigned = record { keyword = script.Start; assigned = assigned }
+abbrev pub start_statement : List Assigned → ResolvedStatement
+start_statement assigned = record { keyword = script.Start; assigned = assigned }
 
 -- the script of a part of a text, on a network with so many nodes
 abbrev pub IsScriptOfPart : ℕ → Part → ScriptOf → Type 0
-IsScriptOfPart nodes part script = IsScriptBy nodes (start_of part.start) part.changes script
+IsScriptOfPart nodes part script = IsScriptBy nodes (start_statement part.start) part.changes script
 
 -- the scripts of parts, one for each
 abbrev pub AreScriptsOf : ℕ → List Part → List ScriptOf → Type 0

@@ -3,7 +3,7 @@ use Rattle.std.specs.Prelude.{◌≡◌, ℕ, false, List, [], ◌∷◌, IsTrue
 use Rattle.std.specs.Option.{option_map}
 use Rattle.hz_core.specs.Netlist.{Netlist}
 use Rattle.hz_timing.specs.TimedStatement.{number_word, ordered_by, ideal_by, by_variables}
-use Rattle.hz_timing.specs.TimedResolution.{ResolvedTimed, number_of, resolve_timed}
+use Rattle.hz_timing.specs.TimedResolution.{ResolvedTimed, order_number, resolve_timed}
 use Rattle.std.specs.Borrow.{Bor}
 use Rattle.std.specs.List.{list_all}
 use Rattle.hz_line.specs.Reading.{by_tokens}
@@ -60,7 +60,7 @@ IsVariableAlone tokens (Some written) =
 -- the number of an order, by the variables behind its wires, looked up
 abbrev pub number_by_variables : Option (List Variable) → Option (Option ℕ)
 number_by_variables variables =
-    by_variables (λ those. option_map number_of (number_word those)) variables
+    by_variables (λ those. option_map order_number (number_word those)) variables
 
 -- an order and a wire without delay, by their variables, looked up
 abbrev pub order_by_variables : Netlist → Option (List Variable) → Option ResolvedTimed

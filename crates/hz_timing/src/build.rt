@@ -5,7 +5,7 @@ ghost use Rattle.hz_text.specs.Assignment.{assignment_to};
 ghost use Rattle.hz_text.specs.Bits.{ArePairs};
 ghost use Rattle.hz_timing.specs.TimedResolution.{timed_resolution_of, numbered_timed_resolutions};
 ghost use Rattle.hz_script.specs.Limits.{most_changes};
-ghost use Rattle.hz_timing.specs.TimedFault.{is_change};
+ghost use Rattle.hz_timing.specs.TimedFault.{is_timed_change};
 ghost use Rattle.hz_timing.specs.TimedReading.{IsSoundTimed, AreFewChanges, ArePartsPushed, changes_of};
 ghost use Rattle.hz_timing.specs.TimedText.{assumption_of, assumptions_in, changes_up_to_start, parts_in, AreScriptsOf, IsScriptOfPart, IsTimedScriptBy};
 
@@ -167,7 +167,7 @@ fn add_if_change(
     held: &TimedHeld,
     pairs: &mut Vec<(u32, bool)>,
 ) -> Result<(), Memory>
-    requires few { is_change (timed_resolution_of held.now) ≡ true →
+    requires few { is_timed_change (timed_resolution_of held.now) ≡ true →
         length script.old.changes < most_changes }
     requires sound { IsSoundTimed (length script.old.start) (timed_resolution_of held.now) }
     ensures start { OnOk result (script.new.start ≡ script.old.start) }

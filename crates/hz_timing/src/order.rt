@@ -3,7 +3,7 @@
 
 ghost use Rattle.std.specs.Prelude.{◌≡◌, false};
 ghost use Rattle.hz_timing.specs.TimedResolution.{timed_resolution_of, numbered_timed_resolutions};
-ghost use Rattle.hz_timing.specs.TimedFault.{is_start, is_change, has_begun};
+ghost use Rattle.hz_timing.specs.TimedFault.{is_timed_start, is_timed_change, has_begun};
 ghost use Rattle.hz_timing.specs.TimedRules.{misplaced_behind, misplaced_from, first_out_of_order};
 
 use crate::statement::{TimedEntry, TimedHeld};
@@ -61,14 +61,14 @@ fn is_misplaced(held: &TimedHeld, again: bool, started: bool, changed: bool) -> 
 
 // Whether the statement is a start.
 pub(crate) fn is_start(held: &TimedHeld) -> bool
-    ensures { result ≡ is_start (timed_resolution_of held.now) }
+    ensures { result ≡ is_timed_start (timed_resolution_of held.now) }
 {
     matches!(held, TimedHeld::Start(_))
 }
 
 // Whether the statement is a change.
 pub(crate) fn is_change(held: &TimedHeld) -> bool
-    ensures { result ≡ is_change (timed_resolution_of held.now) }
+    ensures { result ≡ is_timed_change (timed_resolution_of held.now) }
 {
     matches!(held, TimedHeld::Change(_))
 }

@@ -2,7 +2,7 @@
 
 ghost use Rattle.std.specs.Prelude.{◌≡◌, ◌≤◌, ◌-◌, true, Some, IfOk, if◌then◌else◌};
 ghost use Rattle.hz_timing.specs.TimedResolution.{timed_keyword_by, timed_resolution_of, numbered_timed_resolutions};
-ghost use Rattle.hz_timing.specs.TimedFault.{assignments_in, counted, counts_behind, gate_into, names_unknown};
+ghost use Rattle.hz_timing.specs.TimedFault.{timed_assignments, counted, counts_behind, gate_into, names_missing};
 ghost use Rattle.hz_timing.specs.TimedRules.{left_out, left_out_by_any, least_missing, is_of, line_from, first_beyond};
 
 use crate::keyword::TimedKeyword;
@@ -26,7 +26,7 @@ const MAX_STARTS: usize = 256;
 
 // What a statement assigns.
 pub(crate) fn assignments_in<'h>(held: &'h TimedHeld) -> &'h [Assigned]
-    ensures { result.now ≡ assignments_in (timed_resolution_of held.now) }
+    ensures { result.now ≡ timed_assignments (timed_resolution_of held.now) }
 {
     match held {
         TimedHeld::Start(assigned) => assigned.as_slice(),
@@ -37,7 +37,7 @@ pub(crate) fn assignments_in<'h>(held: &'h TimedHeld) -> &'h [Assigned]
 
 // Whether the statement names what is not there.
 pub(crate) fn names_unknown(net: &Net, held: &TimedHeld) -> bool
-    ensures { result ≡ names_unknown net.now (timed_resolution_of held.now) }
+    ensures { result ≡ names_missing net.now (timed_resolution_of held.now) }
 {
     let inputs = net.circuit().inputs();
     match held {

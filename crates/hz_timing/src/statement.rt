@@ -11,9 +11,9 @@ ghost use Rattle.hz_run_text.specs.RunResolution.{variable_named};
 ghost use Rattle.hz_text.specs.Rules.{AreBelow};
 ghost use Rattle.hz_timing.specs.TimedKeyword.{Order as OrderWord, Ideal as IdealWord};
 ghost use Rattle.hz_timing.specs.TimedStatement.{Ordered, timed_keyword_of, number_word};
-ghost use Rattle.hz_timing.specs.TimedResolution.{resolve_timed_tokens, resolve_timed_keyword, timed_resolution_of, timed_keyword_by, nth_by, nth_of, number_of};
+ghost use Rattle.hz_timing.specs.TimedResolution.{resolve_timed_tokens, resolve_timed_keyword, timed_resolution_of, timed_keyword_by, nth_by, nth_of, order_number};
 ghost use Rattle.hz_timing.specs.VariableRead.{variable_written, number_by_variables, order_by_variables};
-ghost use Rattle.hz_timing.specs.TimedFault.{assignments_in};
+ghost use Rattle.hz_timing.specs.TimedFault.{timed_assignments};
 ghost use Rattle.hz_timing.specs.TimedRules.{timed_rules};
 
 use crate::keyword::TimedKeyword;
@@ -140,7 +140,7 @@ fn read_statement_of(
         (λ why. IsUnread (by_tokens (resolve_timed_keyword net.now (Some (timed_keyword_by keyword)))
         (tokens_of rest.now)) why) }
     ensures below { IfOk result
-        (λ held. AreBelow (length net.now.names) (assignments_in (timed_resolution_of held))) }
+        (λ held. AreBelow (length net.now.names) (timed_assignments (timed_resolution_of held))) }
 {
     match keyword {
         TimedKeyword::Order => order_statement(net, rest),
@@ -164,7 +164,7 @@ fn order_statement(net: &Net, line: &[u8]) -> Result<TimedHeld, StatementFault>
         (λ why. IsUnread
         (by_tokens (resolve_timed_keyword net.now (Some OrderWord)) (tokens_of line.now)) why) }
     ensures below { IfOk result
-        (λ held. AreBelow (length net.now.names) (assignments_in (timed_resolution_of held))) }
+        (λ held. AreBelow (length net.now.names) (timed_assignments (timed_resolution_of held))) }
 {
     match read_order(net, line) {
         None => Err(StatementFault::Form),
@@ -180,7 +180,7 @@ fn ideal_statement(net: &Net, line: &[u8]) -> Result<TimedHeld, StatementFault>
         (λ why. IsUnread
         (by_tokens (resolve_timed_keyword net.now (Some IdealWord)) (tokens_of line.now)) why) }
     ensures below { IfOk result
-        (λ held. AreBelow (length net.now.names) (assignments_in (timed_resolution_of held))) }
+        (λ held. AreBelow (length net.now.names) (timed_assignments (timed_resolution_of held))) }
 {
     match read_ideal(net, line) {
         None => Err(StatementFault::Form),
@@ -192,7 +192,7 @@ fn ideal_statement(net: &Net, line: &[u8]) -> Result<TimedHeld, StatementFault>
 fn read_order(net: &Net, line: &[u8]) -> Option<TimedHeld>
     ensures read { by_tokens (resolve_timed_keyword net.now (Some OrderWord)) (tokens_of line.now)
         ≡ option_map timed_resolution_of result }
-    ensures none { IfSome result (λ held. assignments_in (timed_resolution_of held) ≡ []) }
+    ensures none { IfSome result (λ held. timed_assignments (timed_resolution_of held) ≡ []) }
 {
     match first_written(line) {
         None => None,
@@ -205,7 +205,7 @@ fn read_second(net: &Net, first: Option<u32>, line: &[u8]) -> Option<TimedHeld>
     ensures read { (one : Variable) → variable_named net.now one ≡ first →
         order_by_variables net.now (with_first one (by_tokens variables_of_tokens (tokens_of line.now)))
         ≡ option_map timed_resolution_of result }
-    ensures none { IfSome result (λ held. assignments_in (timed_resolution_of held) ≡ []) }
+    ensures none { IfSome result (λ held. timed_assignments (timed_resolution_of held) ≡ []) }
 {
     match first_written(line) {
         None => None,
@@ -218,7 +218,7 @@ fn read_third(first: Option<u32>, second: Option<u32>, line: &[u8]) -> Option<Ti
     ensures read { option_map timed_resolution_of result
         ≡ option_map (Ordered first second)
         (number_by_variables (by_tokens variables_of_tokens (tokens_of line.now))) }
-    ensures none { IfSome result (λ held. assignments_in (timed_resolution_of held) ≡ []) }
+    ensures none { IfSome result (λ held. timed_assignments (timed_resolution_of held) ≡ []) }
 {
     match read_number(line) {
         None => None,
@@ -230,7 +230,7 @@ fn read_third(first: Option<u32>, second: Option<u32>, line: &[u8]) -> Option<Ti
 fn read_ideal(net: &Net, line: &[u8]) -> Option<TimedHeld>
     ensures read { by_tokens (resolve_timed_keyword net.now (Some IdealWord)) (tokens_of line.now)
         ≡ option_map timed_resolution_of result }
-    ensures none { IfSome result (λ held. assignments_in (timed_resolution_of held) ≡ []) }
+    ensures none { IfSome result (λ held. timed_assignments (timed_resolution_of held) ≡ []) }
 {
     match only_written(line) {
         None => None,
@@ -253,7 +253,7 @@ fn read_number(line: &[u8]) -> Option<Option<u32>>
 
 // The number of an order, by the variable that stands behind its wires.
 fn number_written(written: Written) -> Option<Option<u32>>
-    ensures { result ≡ option_map number_of (number_word (variable_written written.entry ∷ [])) }
+    ensures { result ≡ option_map order_number (number_word (variable_written written.entry ∷ [])) }
 {
     match written {
         Written::Node(word) => Some(nth_of(word)),

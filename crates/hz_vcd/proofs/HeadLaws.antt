@@ -1,6 +1,6 @@
 -- Reading the words of a head.
 use Rattle.std.proofs.Common.{◌≡◌, ◌≢◌, ◌∙◌, ℕ, suc, ◌+◌, ◌-◌, ◌<◌, Bool, true, false, not, List, [], ◌∷◌, ◌++◌, map, refl, sym, ap, subst, arith, append_assoc}
-use Rattle.hz_vcd.proofs.Words.{flat_map, range_with_len, All, All-nil, All-cons, All-head, All-tail, Netlist, IsCircuit, words_of, words_line, declaration_line, end_word, Place}
+use Rattle.hz_vcd.proofs.Words.{flat_map, range_with_len, All, All-nil, All-cons, All-head, All-tail, Netlist, IsCircuit, words_of, dump_line, declaration_line, end_word, Place}
 use Rattle.hz_vcd.proofs.Words.{head_places, declaration_of, variables_of, WordsLeft, Ending, Word, BlockEnd, Blocks, Comes, Goes, Past, Stuck, all_words}
 use Rattle.std.specs.Prelude.{codes}
 use Rattle.std.specs.Str.{bytes_eq}
@@ -211,7 +211,7 @@ head-is netlist next =
 -- the words of a declaration's line
 pub declaration-is : (netlist : Netlist) (var : ℕ) → IsCircuit netlist → var < variables_of netlist → words_of (declaration_line netlist var) ≡ declaration_of netlist var
 declaration-is netlist var circuit there =
-    Spells-words (words_line (declaration_of netlist var)) (declaration_of netlist var) (Spells-line (declaration_of netlist var) (declaration-words netlist var circuit there))
+    Spells-words (dump_line (declaration_of netlist var)) (declaration_of netlist var) (Spells-line (declaration_of netlist var) (declaration-words netlist var circuit there))
 
 -- one number of a range
 pub range-next : (place count : ℕ) → place < count → range_with_len place (count - place) ≡ place ∷ range_with_len (place + 1) (count - (place + 1))

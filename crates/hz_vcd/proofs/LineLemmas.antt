@@ -1,19 +1,19 @@
 -- The lines of a dump, by what is given to the writer.
 use Rattle.std.proofs.Common.{◌≡◌, ◌∙◌, ℕ, suc, ◌+◌, ◌<◌, Bool, not, List, [], ◌∷◌, ◌++◌, map, take, length, get_or, refl, sym, ap, arith, codes, decimal, append_assoc}
-use Rattle.hz_vcd.proofs.Words.{flat_map, range_with_len, append-nil, bit_at, state_after, end_of, end_word, value_word, time_word, state_words, steps_words, words_line}
+use Rattle.hz_vcd.proofs.Words.{flat_map, range_with_len, append-nil, bit_at, state_after, end_of, end_word, value_word, time_word, state_words, steps_words, dump_line}
 use Rattle.hz_vcd.proofs.Words.{word_lines, value_line}
 use Rattle.std.proofs.lemmas.Fmt.{decimal_digit}
 use Rattle.std.proofs.lemmas.List.{take_more, length-take}
 use Rattle.std.proofs.lemmas.List.Concat.{flat_map-append}
 use Rattle.std.proofs.lemmas.List.Folds.{flat_map-map}
-use Rattle.hz_vcd.specs.Dump.{step_words}
+use Rattle.hz_vcd.specs.Dump.{dump_step}
 use Rattle.hz_vcd.specs.Printed.{word_line}
 use Rattle.hz_vcd.specs.Inside.{change_line}
 
 -- the line of a declaration
 pub declaration-line : (code name : List ℕ) →
     (((codes "$var wire 1 " ++ code) ++ codes " \\") ++ name) ++ codes " $end\n"
-    ≡ words_line (codes "$var" ∷ codes "wire" ∷ codes "1" ∷ code ∷ (92 ∷ name) ∷ end_word ∷ [])
+    ≡ dump_line (codes "$var" ∷ codes "wire" ∷ codes "1" ∷ code ∷ (92 ∷ name) ∷ end_word ∷ [])
 declaration-line code name = simp append_assoc
 
 -- the lines of a state
@@ -31,7 +31,7 @@ state-lines state =
 
 -- the lines of a step
 pub step-lines : (time : ℕ) (state : List Bool) (flips : List ℕ) →
-    (codes "#" ++ (decimal time ++ []) ++ codes "\n") ++ flat_map (change_line state) flips ≡ word_lines (step_words time state flips)
+    (codes "#" ++ (decimal time ++ []) ++ codes "\n") ++ flat_map (change_line state) flips ≡ word_lines (dump_step time state flips)
 step-lines time state flips =
     let change : ℕ → List ℕ = λ var. value_word var (not (bit_at state var)) in
     ap (λ (digits : List ℕ). (35 ∷ digits ++ 10 ∷ []) ++ flat_map (change_line state) flips) (append-nil (decimal time))
@@ -42,10 +42,10 @@ pub steps_words-append : (time : ℕ) (state : List Bool) (first later : List (L
     steps_words time state (first ++ later) ≡ steps_words time state first ++ steps_words (time + length first) (end_of state first) later
 steps_words-append time state [] later = ap (λ (at : ℕ). steps_words at state later) (omega arith)
 steps_words-append time state (flips ∷ first) later =
-    ap (λ (words : List (List ℕ)). step_words time state flips ++ words)
+    ap (λ (words : List (List ℕ)). dump_step time state flips ++ words)
     (steps_words-append (suc time) (state_after flips state) first later
     ∙ ap (λ (at : ℕ). steps_words (suc time) (state_after flips state) first ++ steps_words at (end_of (state_after flips state) first) later) (omega arith))
-    ∙ sym (append_assoc (step_words time state flips) (steps_words (suc time) (state_after flips state) first) _)
+    ∙ sym (append_assoc (dump_step time state flips) (steps_words (suc time) (state_after flips state) first) _)
 
 pub end_of-append : (state : List Bool) (first later : List (List ℕ)) → end_of state (first ++ later) ≡ end_of (end_of state first) later
 end_of-append state [] later = refl
@@ -56,7 +56,7 @@ word_lines-append first later = flat_map-append word_line first later
 
 -- one step more
 pub steps-more : (time : ℕ) (state : List Bool) (steps : List (List ℕ)) (number : ℕ) (flips : List ℕ) → number < length steps → get_or steps number [] ≡ flips →
-    word_lines (steps_words time state (take number steps)) ++ word_lines (step_words (time + number) (end_of state (take number steps)) flips)
+    word_lines (steps_words time state (take number steps)) ++ word_lines (dump_step (time + number) (end_of state (take number steps)) flips)
     ≡ word_lines (steps_words time state (take (number + 1) steps))
 steps-more time state steps number flips there is =
     let front = take number steps in
@@ -66,7 +66,7 @@ steps-more time state steps number flips there is =
     ∙ ap word_lines (steps_words-append time state front (flips ∷ []))
     ∙ word_lines-append (steps_words time state front) (steps_words (time + length front) (end_of state front) (flips ∷ []))
     ∙ ap (λ (words : List (List ℕ)). word_lines (steps_words time state front) ++ word_lines words)
-    (append-nil (step_words (time + length front) (end_of state front) flips) ∙ ap (λ (at : ℕ). step_words (time + at) (end_of state front) flips) long)
+    (append-nil (dump_step (time + length front) (end_of state front) flips) ∙ ap (λ (at : ℕ). dump_step (time + at) (end_of state front) flips) long)
     )
 
 pub end-more : (state : List Bool) (steps : List (List ℕ)) (number : ℕ) (flips : List ℕ) → number < length steps → get_or steps number [] ≡ flips →

@@ -1,6 +1,6 @@
 -- The words of a text that was written line by line.
 use Rattle.std.proofs.Common.{◌≡◌, ◌∙◌, ℕ, ◌≤◌, ◌==◌, Bool, true, false, cond, List, [], ◌∷◌, ◌++◌, refl, sym, ap, arith, append_assoc}
-use Rattle.hz_vcd.proofs.Words.{list_all, flat_map, All, and_parts, append-nil, All-head, All-tail, is_dark, is_filled, words_of, words_line, word_lines}
+use Rattle.hz_vcd.proofs.Words.{list_all, flat_map, All, and_parts, append-nil, All-head, All-tail, is_dark, is_filled, words_of, dump_line, word_lines}
 use Rattle.std.specs.List.{filter, slice_split, onto_first}
 use Rattle.std.proofs.lemmas.Bool.{not-true}
 use Rattle.std.proofs.lemmas.Bool.Decides.{nat_tests}
@@ -117,7 +117,7 @@ Spells-later (word ∷ words) are = λ rest.
     ∙ ap (λ (later : List (List ℕ)). word ∷ later) (Spells-later words (All-tail IsWord word words are) rest)
 
 -- a line of words
-pub Spells-line : (words : List (List ℕ)) → All IsWord words → Spells (words_line words) words
+pub Spells-line : (words : List (List ℕ)) → All IsWord words → Spells (dump_line words) words
 Spells-line [] are = λ rest. words-white 10 rest refl
 Spells-line (word ∷ words) are = λ rest.
     ap words_of (ap (λ (text : List ℕ). text ++ rest) (append_assoc word (flat_map (λ word. 32 ∷ word) words) (10 ∷ [])) ∙ append_assoc word (later_words words) rest)

@@ -7,7 +7,7 @@ pub use Rattle.hz_net.specs.Network.{bit_at}
 pub use Rattle.hz_vcd.specs.Code.{code_of}
 pub use Rattle.hz_vcd.specs.Dump.{AreFlips, Place, declaration_of, end_word, head_places, state_words, steps_words, time_word, value_word, variables_of}
 pub use Rattle.hz_vcd.specs.Inside.{value_line}
-pub use Rattle.hz_vcd.specs.Printed.{declaration_line, word_lines, words_line}
+pub use Rattle.hz_vcd.specs.Printed.{declaration_line, word_lines, dump_line}
 pub use Rattle.hz_vcd.specs.Reading.{AreAt, BlockEnd, Blocks, Changes, Comes, Ending, Fails, Goes, Means, Past, Steps, Stuck, Values, Word, WordsLeft, all_words, state_head}
 pub use Rattle.hz_vcd.specs.Word.{is_dark, is_filled, words_of}
 pub use Rattle.hz_write.proofs.Writers.{writes_same, writes_then}

@@ -1,12 +1,12 @@
 -- What is written is a dump.
 use Rattle.std.proofs.Common.{◌≡◌, ◌∙◌, ℕ, suc, ◌+◌, ◌<◌, ◌^◌, Bool, true, false, not, List, [], ◌∷◌, ◌++◌, map, length, get_or, refl, sym, ap, subst, arith, codes}
 use Rattle.hz_vcd.proofs.Words.{flat_map, range_with_len, All, All-nil, All-cons, All-append, Netlist, IsCircuit, bit_at, state_after, code_of, words_of, variables_of, end_word}
-use Rattle.hz_vcd.proofs.Words.{declaration_of, Place, head_places, value_word, time_word, state_words, steps_words, AreFlips, words_line, word_lines}
+use Rattle.hz_vcd.proofs.Words.{declaration_of, Place, head_places, value_word, time_word, state_words, steps_words, AreFlips, dump_line, word_lines}
 use Rattle.std.proofs.lemmas.List.{map-append}
 use Rattle.std.proofs.lemmas.List.Elements.{All-from_get_or}
 use Rattle.std.proofs.lemmas.List.FromFn.{length-range_with_len, get_or-range_with_len}
 use Rattle.hz_vcd.specs.Dump.{reference_of, fixed, command, MayStand, StandAt, IsDump, IsBlock}
-use Rattle.hz_vcd.specs.Printed.{head_text, dump_text}
+use Rattle.hz_vcd.specs.Printed.{dump_head, dump_text}
 use Rattle.hz_vcd.proofs.WordLemmas.{IsWord, Spells, Spells-append, Spells-each, Spells-line, Spells-word_lines, Spells-words}
 use Rattle.hz_vcd.proofs.WrittenWords.{IsWord-code, IsWord-value, IsWord-time, IsWord-reference}
 
@@ -53,11 +53,11 @@ range-below count =
     let within : i < count = omega (arith, inside, length-range_with_len 0 count) in
     omega (arith, get_or-range_with_len 0 count i 0 within, within))
 
-head-spells : (netlist : Netlist) → IsCircuit netlist → Spells (head_text netlist) (plain (head_places netlist))
-unfolding head_text head_places
+head-spells : (netlist : Netlist) → IsCircuit netlist → Spells (dump_head netlist) (plain (head_places netlist))
+unfolding dump_head head_places
 head-spells netlist circuit =
     let numbers = range_with_len 0 (variables_of netlist) in
-    let P : ℕ → Type 0 = λ var. Spells (words_line (declaration_of netlist var)) (declaration_of netlist var) in
+    let P : ℕ → Type 0 = λ var. Spells (dump_line (declaration_of netlist var)) (declaration_of netlist var) in
     let unit = codes "$timescale" ∷ codes "1" ∷ codes "ns" ∷ end_word ∷ [] in
     let scope = codes "$scope" ∷ codes "module" ∷ codes "hazard" ∷ end_word ∷ [] in
     let declarations = flat_map (declaration_of netlist) numbers in
@@ -66,15 +66,15 @@ head-spells netlist circuit =
     let unit_line = Spells-line unit (four-words (codes "$timescale") (codes "1") (codes "ns") end_word (record { filled = refl; dark = refl }) (record { filled = refl; dark = refl }) (record { filled = refl; dark = refl }) (record { filled = refl; dark = refl })) in
     let scope_line = Spells-line scope (four-words (codes "$scope") (codes "module") (codes "hazard") end_word (record { filled = refl; dark = refl }) (record { filled = refl; dark = refl }) (record { filled = refl; dark = refl }) (record { filled = refl; dark = refl })) in
     let each : All P numbers = λ k d inside. Spells-line (declaration_of netlist (get_or numbers k d)) (declaration-words netlist (get_or numbers k d) circuit (range-below (variables_of netlist) k d inside)) in
-    let lines = Spells-each (λ var. words_line (declaration_of netlist var)) (declaration_of netlist) numbers each in
+    let lines = Spells-each (λ var. dump_line (declaration_of netlist var)) (declaration_of netlist) numbers each in
     let up_line = Spells-line up (two-words (codes "$upscope") end_word (record { filled = refl; dark = refl }) (record { filled = refl; dark = refl })) in
     let last_line = Spells-line last (two-words (codes "$enddefinitions") end_word (record { filled = refl; dark = refl }) (record { filled = refl; dark = refl })) in
-    let lines_text = flat_map (λ var. words_line (declaration_of netlist var)) numbers in
-    let one = Spells-append (words_line unit) (words_line scope) unit scope unit_line scope_line in
-    let two = Spells-append (words_line unit ++ words_line scope) lines_text (unit ++ scope) declarations one lines in
-    let three = Spells-append (words_line unit ++ words_line scope ++ lines_text) (words_line up) (unit ++ scope ++ declarations) up two up_line in
-    let whole = Spells-append (words_line unit ++ words_line scope ++ lines_text ++ words_line up) (words_line last) (unit ++ scope ++ declarations ++ up) last three last_line in
-    subst (Spells (head_text netlist)) (sym (words-are declarations)) whole
+    let lines_text = flat_map (λ var. dump_line (declaration_of netlist var)) numbers in
+    let one = Spells-append (dump_line unit) (dump_line scope) unit scope unit_line scope_line in
+    let two = Spells-append (dump_line unit ++ dump_line scope) lines_text (unit ++ scope) declarations one lines in
+    let three = Spells-append (dump_line unit ++ dump_line scope ++ lines_text) (dump_line up) (unit ++ scope ++ declarations) up two up_line in
+    let whole = Spells-append (dump_line unit ++ dump_line scope ++ lines_text ++ dump_line up) (dump_line last) (unit ++ scope ++ declarations ++ up) last three last_line in
+    subst (Spells (dump_head netlist)) (sym (words-are declarations)) whole
   where
     words-are : (declarations : List (List ℕ)) →
         plain (command (codes "$timescale") (codes "1" ∷ codes "ns" ∷ end_word ∷ [])
@@ -124,8 +124,8 @@ written_is_dump netlist state steps circuit long flips few =
     let head = plain (head_places netlist) in
     let values = state_words state in
     let changes = steps_words 1 state steps in
-    let front = Spells-append (head_text netlist) (word_lines values) head values (head-spells netlist circuit) (Spells-word_lines values (state-words state)) in
-    let whole = Spells-append (head_text netlist ++ word_lines values) (word_lines changes) (head ++ values) changes front
+    let front = Spells-append (dump_head netlist) (word_lines values) head values (head-spells netlist circuit) (Spells-word_lines values (state-words state)) in
+    let whole = Spells-append (dump_head netlist ++ word_lines values) (word_lines changes) (head ++ values) changes front
     (Spells-word_lines changes (steps-are-words 1 state steps (omega (arith, few)))) in
     record {
       head = head;

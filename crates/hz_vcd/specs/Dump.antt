@@ -90,15 +90,15 @@ state_words state =
     ++ end_word ∷ []
 
 -- the words of a step from a state at a time: each variable that changes has the bit that it did not have
-abbrev pub step_words : ℕ → List Bool → List ℕ → List (List ℕ)
-step_words time state flips =
+abbrev pub dump_step : ℕ → List Bool → List ℕ → List (List ℕ)
+dump_step time state flips =
     time_word time ∷ map (λ var. value_word var (not (bit_at state var))) flips
 
 -- the words of steps, one after the other, from a state at a time on
 abbrev pub steps_words : ℕ → List Bool → List (List ℕ) → List (List ℕ)
 steps_words time state [] = []
 steps_words time state (flips ∷ steps) =
-    step_words time state flips ++ steps_words (suc time) (state_after flips state) steps
+    dump_step time state flips ++ steps_words (suc time) (state_after flips state) steps
 
 -- what a step of a dump over so many variables changes: at least one of them, and none twice
 pub record AreFlips (variables : ℕ) (flips : List ℕ) : Type 0 where

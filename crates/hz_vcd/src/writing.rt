@@ -7,8 +7,8 @@ ghost use Rattle.hz_core.specs.Limits.{most_variables};
 ghost use Rattle.hz_write.specs.Writer.{Writes, NoneWaits};
 ghost use Rattle.hz_text.specs.Printed.{letter_of};
 ghost use Rattle.hz_vcd.specs.Word.{words_of};
-ghost use Rattle.hz_vcd.specs.Dump.{AreFlips, IsDump, variables_of, value_word, state_words, step_words, steps_words};
-ghost use Rattle.hz_vcd.specs.Printed.{declaration_line, word_line, word_lines, head_text, dump_text};
+ghost use Rattle.hz_vcd.specs.Dump.{AreFlips, IsDump, variables_of, value_word, state_words, dump_step, steps_words};
+ghost use Rattle.hz_vcd.specs.Printed.{declaration_line, word_line, word_lines, dump_head, dump_text};
 ghost use Rattle.hz_vcd.specs.Inside.{value_line, change_line};
 ghost use Rattle.hz_vcd.specs.Steps.{steps_of_cycle, steps_of_run};
 
@@ -86,9 +86,9 @@ pub fn write_within<K: Sink>(
 }
 
 // Gives the lines of the head.
-#[tactic(auto, using(hz_write::proofs::Writers::writes_then), unfolding(crate::specs::Printed::head_text))]
+#[tactic(auto, using(hz_write::proofs::Writers::writes_then), unfolding(crate::specs::Printed::dump_head))]
 fn write_head<K: Sink>(writer: &mut Writer<'_, K>, net: &Net)
-    ensures gave { Writes K.output K.faults (head_text net.now) writer.old writer.new }
+    ensures gave { Writes K.output K.faults (dump_head net.now) writer.old writer.new }
     ensures none_waits { NoneWaits writer.new }
 {
     writer.line(&[Text(b"$timescale 1 ns $end")]);
@@ -214,7 +214,7 @@ fn write_step<K: Sink>(writer: &mut Writer<'_, K>, state: &[bool], time: usize, 
     requires state { length state.now ≤ most_variables }
     requires flips { AreFlips (length state.now) flips.now }
     ensures gave { Writes K.output K.faults
-        (word_lines (step_words time state.now flips.now)) writer.old writer.new }
+        (word_lines (dump_step time state.now flips.now)) writer.old writer.new }
     ensures none_waits { NoneWaits writer.new }
 {
     writer.line(&[Text(b"#"), Count(time)]);

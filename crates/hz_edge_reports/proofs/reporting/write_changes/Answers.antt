@@ -1,12 +1,12 @@
 -- One change after the other.
 use Rattle.std.proofs.Common.{◌≡◌, ◌∙◌, ◌+◌, ◌<◌, ℕ, Bool, true, false, List, [], ◌∷◌, ◌++◌, length, take, drop, get_or, is_some, refl, sym, ap, subst, arith, add-one}
 use Rattle.hz_edge_reports.proofs.Words.{length-take-le, get_or_from_slice_get, take-suc, take-length, IsStableStart, Writes, NoneWaits, writes_nothing, writes_then}
-use Rattle.hz_edge_reports.proofs.Words.{writes_failed, EdgeAnalysis, AreEdgeAnalyses, analyses_text, IsChangeRoom}
+use Rattle.hz_edge_reports.proofs.Words.{writes_failed, EdgeAnalysis, AreEdgeAnalyses, edge_changes_text, IsChangeRoom}
 use Rattle.std.proofs.lemmas.List.{take-append-drop}
 use Rattle.hz_text.specs.Bits.{IsChange}
 use Rattle.hz_write.specs.Writer.{has_failed}
 use Rattle.hz_changes.proofs.Writable.{IsStopInside}
-use Rattle.hz_edge_reports.specs.EdgeText.{analysis_text}
+use Rattle.hz_edge_reports.specs.EdgeText.{edge_change_text}
 use Rattle.hz_edge_reports.proofs.FirstEdges.{AreSoFar, none-yet, all-edges, goes-on, later-exist}
 use Rattle.hz_edge_reports.proofs.ReportLines.{text-append, text-more}
 use Rattle.hz_edge_reports.proofs.reporting.write_changes.Goals as goal
@@ -60,14 +60,14 @@ loop-place-preserved g c =
     rw add-one (take-suc changes place [] few)
     ∙ ap (λ (one : List (ℕ × Bool)). take place changes ++ one ∷ []) (get_or_from_slice_get changes place change [] c.change.ensures.change) in
     let at : number + place ≡ number + length (take place changes) = omega (arith, long) in
-    let lines : Writes g.K.Sink.output g.K.Sink.faults (analysis_text netlist show assumptions (number + length (take place changes)) change made.0) c.loop-place.writer c.write_next.new.writer =
-    subst (λ (n : ℕ). Writes g.K.Sink.output g.K.Sink.faults (analysis_text netlist show assumptions n change made.0) c.loop-place.writer c.write_next.new.writer) at made.2 in
+    let lines : Writes g.K.Sink.output g.K.Sink.faults (edge_change_text netlist show assumptions (number + length (take place changes)) change made.0) c.loop-place.writer c.write_next.new.writer =
+    subst (λ (n : ℕ). Writes g.K.Sink.output g.K.Sink.faults (edge_change_text netlist show assumptions n change made.0) c.loop-place.writer c.write_next.new.writer) at made.2 in
     let before : AreSoFar netlist cap assumptions start (take place changes) so_far.0 false c.loop-place.room =
     subst (λ (failed : Bool). AreSoFar netlist cap assumptions start (take place changes) so_far.0 failed c.loop-place.room) fine so_far.1 in
     subst (λ (list : List (List (ℕ × Bool))).
     (analyses : List EdgeAnalysis)
     × AreSoFar netlist cap assumptions start list analyses (has_failed c.write_next.new.writer) c.write_next.new.room
-    × Writes g.K.Sink.output g.K.Sink.faults (analyses_text netlist show assumptions number list analyses) c.args.writer.now c.write_next.new.writer
+    × Writes g.K.Sink.output g.K.Sink.faults (edge_changes_text netlist show assumptions number list analyses) c.args.writer.now c.write_next.new.writer
     × NoneWaits c.write_next.new.writer
     × IsChangeRoom netlist c.write_next.new.room) (sym taken) (
       so_far.0 ++ made.0 ∷ [],
@@ -95,12 +95,12 @@ returns-then-has_failed-clause-gave g c =
     (drop place changes) so_far.1.at so_far.1.stopped first.stable in
     let whole : take place changes ++ drop place changes ≡ changes = take-append-drop place changes in
     let failed : is_some c.loop-place.writer.fault ≡ true = sym c.has_failed.ensures ∙ c.if-has_failed.true in
-    let lines : Writes g.K.Sink.output g.K.Sink.faults (analyses_text netlist show assumptions number (take place changes ++ drop place changes) (so_far.0 ++ rest.0)) c.args.writer.now c.loop-place.writer =
-    writes_then so_far.2 (writes_failed (analyses_text netlist show assumptions (number + length (take place changes)) (drop place changes) rest.0) failed)
+    let lines : Writes g.K.Sink.output g.K.Sink.faults (edge_changes_text netlist show assumptions number (take place changes ++ drop place changes) (so_far.0 ++ rest.0)) c.args.writer.now c.loop-place.writer =
+    writes_then so_far.2 (writes_failed (edge_changes_text netlist show assumptions (number + length (take place changes)) (drop place changes) rest.0) failed)
     (text-append netlist show assumptions number (take place changes) so_far.0 (drop place changes) rest.0 first.long) in (
       so_far.0 ++ rest.0,
       subst (λ (list : List (List (ℕ × Bool))). AreEdgeAnalyses netlist cap assumptions start list (so_far.0 ++ rest.0)) whole (first.with_later (drop place changes) rest.0 rest.1),
-      subst (λ (list : List (List (ℕ × Bool))). Writes g.K.Sink.output g.K.Sink.faults (analyses_text netlist show assumptions number list (so_far.0 ++ rest.0)) c.args.writer.now c.loop-place.writer) whole lines,
+      subst (λ (list : List (List (ℕ × Bool))). Writes g.K.Sink.output g.K.Sink.faults (edge_changes_text netlist show assumptions number list (so_far.0 ++ rest.0)) c.args.writer.now c.loop-place.writer) whole lines,
     )
 
 pub returns-clause-gave : goal.returns-clause-gave
@@ -117,5 +117,5 @@ returns-clause-gave g c =
       so_far.0,
       subst (λ (list : List (List (ℕ × Bool))). AreEdgeAnalyses netlist cap assumptions c.args.room.now.start.items list so_far.0) whole
           (all-edges netlist cap assumptions c.requires.making.circuit c.requires.making.assumptions c.args.room.now.start.items (take place changes) so_far.0 (has_failed c.loop-place.writer) c.loop-place.room so_far.1),
-      subst (λ (list : List (List (ℕ × Bool))). Writes g.K.Sink.output g.K.Sink.faults (analyses_text netlist c.args.show assumptions c.args.number list so_far.0) c.args.writer.now c.loop-place.writer) whole so_far.2,
+      subst (λ (list : List (List (ℕ × Bool))). Writes g.K.Sink.output g.K.Sink.faults (edge_changes_text netlist c.args.show assumptions c.args.number list so_far.0) c.args.writer.now c.loop-place.writer) whole so_far.2,
     )

@@ -1,6 +1,6 @@
 -- The start of a part, and its changes. If memory runs out, the start is the one that is known.
 use Rattle.std.proofs.Common.{◌∙◌, ◌++◌, Bool, List, refl, sym, subst, arith}
-use Rattle.hz_edge_reports.proofs.Words.{IsStableStart, Writes, writes_then, writes_failed, start_line, AreEdgeAnalyses, analyses_text}
+use Rattle.hz_edge_reports.proofs.Words.{IsStableStart, Writes, writes_then, writes_failed, start_line, AreEdgeAnalyses, edge_changes_text}
 use Rattle.hz_changes.proofs.AcceptedStarts.{ListsInputs-front, start-accepted}
 use Rattle.hz_edge_reports.proofs.FirstEdges.{edges-exist}
 use Rattle.hz_edge_reports.proofs.PartEdges.{accepted-stable}
@@ -52,5 +52,5 @@ returns-in-Err-clause-gave g c =
       begin.1,
       made.1,
       writes_then c.give_up.ensures.gave
-          (writes_failed (start_line netlist begin.0 ++ analyses_text netlist c.args.show making.assumptions.now c.args.number part.changes made.0) c.give_up.ensures.failed) refl,
+          (writes_failed (start_line netlist begin.0 ++ edge_changes_text netlist c.args.show making.assumptions.now c.args.number part.changes made.0) c.give_up.ensures.failed) refl,
     )

@@ -1,7 +1,7 @@
 -- One part after the other.
 use Rattle.std.proofs.Common.{◌≡◌, ◌∙◌, ◌+◌, ◌<◌, ◌≤◌, ℕ, Bool, List, [], ◌∷◌, ◌++◌, length, take, drop, sum_by, is_some, true, sym, ap, subst, arith, add-one}
 use Rattle.hz_edge_reports.proofs.Words.{get_or_from_slice_get, take-suc, take-length, ScriptOf, AreAcceptedStarts, Writes, NoneWaits, writes_nothing, writes_then, writes_failed}
-use Rattle.hz_edge_reports.proofs.Words.{start_line, EdgeAnalysis, ArePartAnalyses, analyses_text, parts_text, IsChangeRoom}
+use Rattle.hz_edge_reports.proofs.Words.{start_line, EdgeAnalysis, ArePartAnalyses, edge_changes_text, parts_text, IsChangeRoom}
 use Rattle.std.proofs.lemmas.List.{take-append-drop}
 use Rattle.std.proofs.lemmas.List.Sums.{sum_by_more_le, sum_by_push}
 use Rattle.hz_net.specs.Starts.{IsAcceptedStart}
@@ -59,8 +59,8 @@ loop-place-preserved g c =
     rw add-one (take-suc parts place part few)
     ∙ ap (λ (one : ScriptOf). take place parts ++ one ∷ []) (get_or_from_slice_get parts place part part c.part-part.ensures) in
     let number : c.loop-place.number ≡ 1 + sum_by changes_of (take place parts) = so_far.7 in
-    let lines : Writes g.K.Sink.output g.K.Sink.faults (start_line netlist made.0 ++ analyses_text netlist show assumptions (1 + sum_by changes_of (take place parts)) part.changes made.1) c.loop-place.writer c.write_part.new.writer =
-    subst (λ (n : ℕ). Writes g.K.Sink.output g.K.Sink.faults (start_line netlist made.0 ++ analyses_text netlist show assumptions n part.changes made.1) c.loop-place.writer c.write_part.new.writer) number made.4 in
+    let lines : Writes g.K.Sink.output g.K.Sink.faults (start_line netlist made.0 ++ edge_changes_text netlist show assumptions (1 + sum_by changes_of (take place parts)) part.changes made.1) c.loop-place.writer c.write_part.new.writer =
+    subst (λ (n : ℕ). Writes g.K.Sink.output g.K.Sink.faults (start_line netlist made.0 ++ edge_changes_text netlist show assumptions n part.changes made.1) c.loop-place.writer c.write_part.new.writer) number made.4 in
     let longer : c.loop-place.number + length part.changes ≡ 1 + sum_by changes_of (take place parts ++ part ∷ []) = omega (arith, number, sum_by_push changes_of (take place parts) part) in
     subst (λ (list : List ScriptOf).
     (starts : List (List Bool)) × (analyses : List (List EdgeAnalysis))

@@ -3,7 +3,7 @@ use Rattle.std.proofs.Common.{◌∙◌, ℕ, ◌<◌, Bool, List, length, ◌++
 use Rattle.hz_vcd.proofs.Words.{All, All-append, writes_then, writes_same, AreFlips, variables_of, state_words, steps_words, word_lines}
 use Rattle.hz_net.specs.Variables.{expansion_of}
 use Rattle.hz_net.proofs.Places.{length-expansion_of}
-use Rattle.hz_vcd.specs.Printed.{head_text, dump_text}
+use Rattle.hz_vcd.specs.Printed.{dump_head, dump_text}
 use Rattle.hz_vcd.specs.Steps.{steps_of_cycle}
 use Rattle.hz_vcd.proofs.WrittenLaws.{written_is_dump}
 use Rattle.hz_vcd.proofs.writing.write_within.Goals as goal
@@ -34,7 +34,7 @@ returns-clause-gave g c =
     let run = writes_same c.write_run.ensures.gave
     (ap (λ (bits : List Bool). word_lines (state_words bits) ++ word_lines (steps_words 1 bits steps)) c.expand.ensures) in
     writes_then c.write_head.ensures.gave run
-    (sym (append_assoc (head_text netlist) (word_lines (state_words state)) (word_lines (steps_words 1 state steps))))
+    (sym (append_assoc (dump_head netlist) (word_lines (state_words state)) (word_lines (steps_words 1 state steps))))
 
 pub returns-clause-dump : goal.returns-clause-dump
 returns-clause-dump g c =
