@@ -1,14 +1,23 @@
 -- The words agree with the passes: a word ends with B's value, and it has a change exactly where A is X.
 use Rattle.std.proofs.Common.{◌≡◌, ℕ, zero, suc, ◌+◌, ◌-◌, ◌<◌, Bool, true, false, List, [], map, length, get_or, refl, sym, ap, ◌∙◌, subst, arith}
-use Rattle.hz_free.proofs.Words.{slice_range, ext_get_or, length-map, get_or-map, Tri, tri_of, Netlist, IsCircuit, Driver, External, Function, Source, network_of, driver_at}
-use Rattle.hz_free.proofs.Words.{driver_value3, bit_at, value_at, Reads, wired-network_of, length-part, at-part, last_letter, IsFeedbackFree, IsDrivenWord, input_word}
-use Rattle.hz_free.proofs.Words.{AreVariableWords}
+use Rattle.std.specs.Prelude.{slice_range}
+use Rattle.std.proofs.lemmas.List.{ext_get_or, length-map, get_or-map}
+use Rattle.hz_core.specs.declared.tri.Tri.{Tri}
 use Rattle.hz_core.specs.declared.tri.Tri.TheVariants.{Zero}
+use Rattle.hz_core.specs.Ternary.{tri_of}
 use Rattle.hz_core.specs.Extension.{extension}
+use Rattle.hz_core.specs.Netlist.{Netlist, IsCircuit}
 use Rattle.hz_core.proofs.Extensions.{extension-map}
+use Rattle.hz_net.specs.Network.{Driver, External, Function, Source, network_of, driver_at, driver_value3, bit_at, value_at}
 use Rattle.hz_net.specs.Passes.{excitations, algorithm_b, AreRounds}
+use Rattle.hz_net.specs.Reads.{Reads}
+use Rattle.hz_net.proofs.Wired.{wired-network_of}
 use Rattle.hz_net.proofs.Excitations.{at-excitations}
 use Rattle.hz_net.proofs.Sequences.{length-algorithm_b}
+use Rattle.hz_lists.proofs.PartLemmas.{length-part, at-part}
+use Rattle.hz_word.specs.Word.{last_letter}
+use Rattle.hz_free.specs.Chains.{IsFeedbackFree}
+use Rattle.hz_free.specs.VariableWords.{IsDrivenWord, input_word, AreVariableWords}
 use Rattle.hz_free.proofs.Chains.{free-induction, reads-inside}
 use Rattle.hz_free.proofs.LastLetters.{last-IsWordOf}
 

@@ -1,11 +1,21 @@
 -- The words one after the other: one more, and all.
 use Rattle.std.proofs.Common.{◌≡◌, ℕ, zero, suc, ◌+◌, ◌<◌, ◌≤◌, ◌≢◌, Bool, true, false, List, [], ◌∷◌, ◌++◌, length, take, get_or, set, Option, Some, None, IsTrue, refl, sym, ap, ◌∙◌, subst, arith, inl, inr, add-one, get_or-set_same, get_or-set_other, length-set}
-use Rattle.hz_free.proofs.Words.{cases_Bool, cases_eq, both_ways, take-suc, Netlist, Driver, External, Function, Source, network_of, driver_at, bit_at, Reads, is_listed}
-use Rattle.hz_free.proofs.Words.{IsRepeatFree, Word, IsWord, IsWordOf, capped_word, IsFeedbackFree, FreePart, AreMarks, IsDrivenWord, AreCappedWords, listed-cases, listed-left}
-use Rattle.hz_free.proofs.Words.{listed-one, pushed-last, listed-at}
+use Rattle.std.proofs.lemmas.Bool.{cases_Bool, cases_eq, both_ways}
 use Rattle.std.proofs.lemmas.Option.{slice_get-get_or}
+use Rattle.std.proofs.Math.Seq.{take-suc}
+use Rattle.hz_core.specs.Netlist.{Netlist}
+use Rattle.hz_net.specs.Network.{Driver, External, Function, Source, network_of, driver_at, bit_at}
+use Rattle.hz_net.specs.Reads.{Reads}
 use Rattle.hz_lists.proofs.PartLemmas.{same-parts}
-use Rattle.hz_lists.proofs.ListedLemmas.{unlisted-before}
+use Rattle.hz_lists.specs.Listed.{is_listed, IsRepeatFree}
+use Rattle.hz_word.specs.declared.word.Word.{Word}
+use Rattle.hz_word.specs.Word.{IsWord}
+use Rattle.hz_word.specs.Walk.{IsWordOf}
+use Rattle.hz_word.specs.Capped.{capped_word}
+use Rattle.hz_free.specs.Chains.{IsFeedbackFree}
+use Rattle.hz_free.specs.FreePart.{FreePart, AreMarks}
+use Rattle.hz_free.specs.VariableWords.{IsDrivenWord, AreCappedWords}
+use Rattle.hz_lists.proofs.ListedLemmas.{listed-cases, listed-left, listed-one, unlisted-before, pushed-last, listed-at}
 use Rattle.hz_free.proofs.Kahn.{listed-push-other}
 
 -- the word of a variable depends on the words of those that it reads

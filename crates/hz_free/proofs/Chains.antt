@@ -1,10 +1,13 @@
 -- Chains of readers: what reads only feedback-free variables is feedback-free, what reads one that is not is not, and what holds
 -- of a feedback-free variable if it holds of those that it reads.
 use Rattle.std.proofs.Common.{◌≡◌, ℕ, zero, suc, ◌<◌, ◌≤◌, true, false, List, [], ◌∷◌, ◌++◌, length, refl, sym, ap, ◌∙◌, subst, arith, inl, inr, eqb}
-use Rattle.hz_free.proofs.Words.{cases_Bool, or_cases, both_ways, eqb-true, cases_lt, Driver, External, Function, Source, driver_at, Reads, IsWired, is_listed, IsFeedbackFree}
-use Rattle.hz_free.proofs.Words.{is_repeat_free-bound, pushed-last, get_or_past}
-use Rattle.hz_net.specs.Reads.{IsWireInto}
-use Rattle.hz_free.specs.Chains.{IsChain}
+use Rattle.std.proofs.lemmas.Bool.{cases_Bool, or_cases, both_ways, eqb-true, cases_lt}
+use Rattle.hz_net.specs.Network.{Driver, External, Function, Source, driver_at}
+use Rattle.hz_net.specs.Reads.{Reads, IsWireInto, IsWired}
+use Rattle.hz_lists.specs.Listed.{is_listed}
+use Rattle.hz_free.specs.Chains.{IsChain, IsFeedbackFree}
+use Rattle.hz_lists.proofs.ListedLemmas.{is_repeat_free-bound, pushed-last}
+use Rattle.std.proofs.lemmas.List.{get_or_past}
 
 -- a chain may go on from a variable on it to what that reads
 chain-on : (net : List Driver) (j : ℕ) (rest : List ℕ) (i k : ℕ) → IsChain net j rest → is_listed (j ∷ rest) i ≡ true → Reads (driver_at net i) k → (front : List ℕ) × IsChain net j (front ++ k ∷ [])

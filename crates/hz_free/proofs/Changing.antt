@@ -1,24 +1,30 @@
 -- A word has a change exactly if Algorithm A makes its variable X.
 use Rattle.std.proofs.Common.{◌≡◌, ◌≢◌, ◌↔◌, ℕ, zero, suc, ◌+◌, ◌<◌, ◌≤◌, ◌⊎◌, Bool, true, false, List, [], ◌∷◌, length, drop, get_or, IsTrue, refl, sym, ap, ◌∙◌, subst, arith, inl, inr}
-use Rattle.hz_free.proofs.Words.{slice_range, cases_Bool, cases_lt, false≢true, length-map, get_or-map, Kind, Tri, Unknown, tri_of, takes, gate_value, Netlist, IsCircuit, IsWhole}
-use Rattle.hz_free.proofs.Words.{Driver, External, Function, Source, network_of, driver_at, driver_value3, bit_at, value_at, algorithm_a, Reads, wired-network_of, length-part}
-use Rattle.hz_free.proofs.Words.{at-part, IsWord, AreWords, first_letter, change_count, current_letters, after_move, change_between, walk_changes, IsWordOf, takes-HasPins}
-use Rattle.hz_free.proofs.Words.{IsFeedbackFree, IsDrivenWord, input_word, AreVariableWords}
-use Rattle.std.specs.Prelude.{take}
-use Rattle.std.proofs.lemmas.Bool.{true≢false}
-use Rattle.hz_core.specs.declared.tri.Tri.TheVariants.{Zero, One}
-use Rattle.hz_core.specs.Ternary.{join_of, admits, Refines, IsJoinOf}
-use Rattle.hz_core.specs.Gate.{some_pin}
+use Rattle.std.specs.Prelude.{slice_range, take}
+use Rattle.std.proofs.lemmas.Bool.{cases_Bool, cases_lt, false≢true, true≢false}
+use Rattle.std.proofs.lemmas.List.{length-map, get_or-map}
+use Rattle.hz_core.specs.declared.kind.Kind.{Kind}
+use Rattle.hz_core.specs.declared.tri.Tri.{Tri}
+use Rattle.hz_core.specs.declared.tri.Tri.TheVariants.{Zero, One, Unknown}
+use Rattle.hz_core.specs.Ternary.{tri_of, join_of, admits, Refines, IsJoinOf}
+use Rattle.hz_core.specs.Gate.{takes, gate_value, some_pin}
 use Rattle.hz_core.specs.Extension.{extension, IsValueOver}
+use Rattle.hz_core.specs.Netlist.{Netlist, IsCircuit, IsWhole}
 use Rattle.hz_core.proofs.Extensions.{IsExtension-extension, gate_value-known}
 use Rattle.hz_core.proofs.Refinements.{known-admits, admits-tri_of, get_or-Refines, length-Refines}
-use Rattle.hz_net.specs.Network.{IsStable}
-use Rattle.hz_net.specs.Passes.{excitations, AreRounds}
+use Rattle.hz_net.specs.Network.{Driver, External, Function, Source, network_of, driver_at, driver_value3, bit_at, value_at, IsStable}
+use Rattle.hz_net.specs.Passes.{excitations, algorithm_a, AreRounds}
+use Rattle.hz_net.specs.Reads.{Reads}
+use Rattle.hz_net.proofs.Wired.{wired-network_of}
 use Rattle.hz_net.proofs.Excitations.{length-excitations, at-excitations, at-join_each}
 use Rattle.hz_net.proofs.Sequences.{length-algorithm_a, start-refines, closed-result}
-use Rattle.hz_word.specs.Walk.{IsWalk}
-use Rattle.hz_word.proofs.Longest.{part-IsWordOf}
+use Rattle.hz_lists.proofs.PartLemmas.{length-part, at-part}
+use Rattle.hz_word.specs.Word.{IsWord, AreWords, first_letter, change_count}
+use Rattle.hz_word.specs.Walk.{current_letters, after_move, IsWalk, change_between, walk_changes, IsWordOf}
+use Rattle.hz_word.proofs.Longest.{takes-HasPins, part-IsWordOf}
 use Rattle.hz_word.proofs.Moves.{after_move-AreWords}
+use Rattle.hz_free.specs.Chains.{IsFeedbackFree}
+use Rattle.hz_free.specs.VariableWords.{IsDrivenWord, input_word, AreVariableWords}
 use Rattle.hz_free.proofs.Chains.{free-induction, reads-free, reads-inside}
 use Rattle.hz_free.proofs.Delays.{change-same}
 use Rattle.hz_free.proofs.Columns.{moved, moved-none, move-may, move-letters}

@@ -1,10 +1,15 @@
 -- What a variable chooses, by its driver and by marks of the feedback-free variables.
 use Rattle.std.proofs.Common.{◌≡◌, ℕ, suc, ◌+◌, ◌<◌, ◌≤◌, Bool, true, Option, Some, None, List, [], ◌∷◌, ◌++◌, length, refl, sym, ap, ◌∙◌, subst, arith, inl, inr}
-use Rattle.hz_free.proofs.Words.{cases_eq, both_ways, get_or_append_left, Kind, Driver, External, Function, Source, driver_at, bit_at, Reads, IsFeedbackFree, IsChoice, AreMarks}
-use Rattle.hz_free.proofs.Words.{AreChoices, AreChoicesBelow}
 use Rattle.std.specs.Prelude.{MatchOption}
-use Rattle.std.proofs.lemmas.List.{get_or_push}
-use Rattle.hz_free.specs.Paths.{IsFeeding}
+use Rattle.std.proofs.lemmas.Bool.{cases_eq, both_ways}
+use Rattle.std.proofs.lemmas.List.{get_or_push, get_or_append_left}
+use Rattle.hz_core.specs.declared.kind.Kind.{Kind}
+use Rattle.hz_net.specs.Network.{Driver, External, Function, Source, driver_at, bit_at}
+use Rattle.hz_net.specs.Reads.{Reads}
+use Rattle.hz_free.specs.Chains.{IsFeedbackFree}
+use Rattle.hz_free.specs.Feedback.{IsChoice}
+use Rattle.hz_free.specs.FreePart.{AreMarks}
+use Rattle.hz_free.specs.Paths.{AreChoices, AreChoicesBelow, IsFeeding}
 use Rattle.hz_free.proofs.Chains.{free-from_reads}
 use Rattle.hz_free.proofs.PathLemmas.{link-inside}
 

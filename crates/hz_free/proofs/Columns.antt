@@ -1,10 +1,11 @@
 -- Rows of letters that change along a run are a part of a walk, if each column changes at most as often as its word.
 use Rattle.std.proofs.Common.{◌≡◌, ℕ, zero, suc, ◌+◌, ◌<◌, ◌≤◌, Bool, true, false, not, List, [], ◌∷◌, length, drop, get_or, refl, sym, ap, ◌∙◌, arith, inl, inr}
-use Rattle.hz_free.proofs.Words.{cases_Bool, false≢true, state_after, IsWord, AreWords, change_count, current_letters, after_move, change_between, walk_changes}
 use Rattle.std.specs.Bool.{beq}
-use Rattle.std.proofs.lemmas.Bool.{true≢false}
+use Rattle.std.proofs.lemmas.Bool.{cases_Bool, false≢true, true≢false}
 use Rattle.hz_core.specs.Gate.{some_pin}
-use Rattle.hz_word.specs.Walk.{MayAdvance, IsPartOfWalk}
+use Rattle.hz_gmw.specs.Runs.{state_after}
+use Rattle.hz_word.specs.Word.{IsWord, AreWords, change_count}
+use Rattle.hz_word.specs.Walk.{current_letters, MayAdvance, after_move, IsPartOfWalk, change_between, walk_changes}
 use Rattle.hz_word.proofs.Moves.{after_move-AreWords, length-after_move}
 use Rattle.hz_gmw.proofs.Flips.{length-state_after}
 use Rattle.hz_free.proofs.Delays.{changes_along, change-same}

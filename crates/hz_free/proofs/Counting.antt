@@ -1,14 +1,16 @@
 -- Counting what each variable reads, and the variables that read nothing.
 use Rattle.std.proofs.Common.{◌≡◌, ℕ, zero, suc, ◌+◌, ◌-◌, ◌<◌, ◌≤◌, ◌≢◌, true, false, List, [], ◌∷◌, ◌++◌, length, drop, get_or, set, drop-cons, Option, Some, None, refl, sym, ap, ◌∙◌, subst, arith, inl, inr, eqb, add-one, get_or-set_same, get_or-set_other, length-set}
-use Rattle.hz_free.proofs.Words.{cases_Bool, cases_lt, cases_eq, both_ways, eqb-true, eq-eqb, Netlist, readers_of, Input, is_listed, occurrences, unplaced_count, IsOrdering}
-use Rattle.hz_free.proofs.Words.{AreReads, AreFirst, listed-cases, listed-one, is_repeat_free-push, pushed-last, listed-at}
+use Rattle.std.proofs.lemmas.Bool.{cases_Bool, cases_lt, cases_eq, both_ways, eqb-true, eq-eqb}
+use Rattle.hz_core.specs.Netlist.{Netlist}
 use Rattle.hz_net.specs.Network.{Wire, wires_of}
 use Rattle.hz_net.specs.Variables.{readers_from, variable_kinds}
-use Rattle.hz_net.specs.Reads.{readers_by}
+use Rattle.hz_net.specs.Reads.{readers_by, readers_of}
 use Rattle.hz_net.specs.declared.variable.VarKind.{VarKind}
-use Rattle.hz_net.specs.declared.variable.VarKind.TheVariants.{Gate as GateVariable, Wire as WireVariable}
+use Rattle.hz_net.specs.declared.variable.VarKind.TheVariants.{Input, Gate as GateVariable, Wire as WireVariable}
 use Rattle.std.specs.Prelude.{slice_get}
-use Rattle.hz_free.specs.Order.{ReducesReader}
+use Rattle.hz_lists.specs.Listed.{is_listed}
+use Rattle.hz_free.specs.Order.{occurrences, unplaced_count, IsOrdering, AreReads, AreFirst, ReducesReader}
+use Rattle.hz_lists.proofs.ListedLemmas.{listed-cases, listed-one, is_repeat_free-push, pushed-last, listed-at}
 use Rattle.hz_free.proofs.Kahn.{eqb-other, occurrences-same, occurrences-other, listed-push-other, unplaced-none, begin-telling, unread-reader, told-waits, told-placed}
 
 -- no variable is twice among the readers of a variable

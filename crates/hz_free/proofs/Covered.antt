@@ -1,10 +1,19 @@
 -- The words of the feedback-free variables are words, and begin as the variables at the start.
 use Rattle.std.proofs.Common.{◌≡◌, ℕ, ◌+◌, ◌<◌, Bool, true, false, List, [], length, get_or, IsTrue, refl, sym, ap, ◌∙◌, subst, arith}
-use Rattle.hz_free.proofs.Words.{slice_range, ext_get_or, length-map, get_or-map, Kind, takes, gate_value, Netlist, IsCircuit, IsWhole, gate_at, takes-at_gate, Driver, External}
-use Rattle.hz_free.proofs.Words.{Function, Source, network_of, driver_at, bit_at, excitation, Reads, IsWired, wired-network_of, is_gate_of, length-part, at-part, IsWord, AreWords}
-use Rattle.hz_free.proofs.Words.{first_letter, current_letters, IsWordOf, IsFeedbackFree, IsDrivenWord, input_word, AreVariableWords}
-use Rattle.std.specs.Prelude.{take}
-use Rattle.hz_net.specs.Network.{driver_value, IsStable}
+use Rattle.std.specs.Prelude.{slice_range, take}
+use Rattle.std.proofs.lemmas.List.{ext_get_or, length-map, get_or-map}
+use Rattle.hz_core.specs.declared.kind.Kind.{Kind}
+use Rattle.hz_core.specs.Gate.{takes, gate_value}
+use Rattle.hz_core.specs.Netlist.{Netlist, IsCircuit, IsWhole, gate_at}
+use Rattle.hz_core.proofs.CircuitLemmas.{takes-at_gate}
+use Rattle.hz_net.specs.Network.{Driver, External, Function, Source, network_of, driver_at, driver_value, bit_at, excitation, IsStable}
+use Rattle.hz_net.specs.Reads.{Reads, IsWired}
+use Rattle.hz_net.proofs.Wired.{wired-network_of, is_gate_of}
+use Rattle.hz_lists.proofs.PartLemmas.{length-part, at-part}
+use Rattle.hz_word.specs.Word.{IsWord, AreWords, first_letter}
+use Rattle.hz_word.specs.Walk.{current_letters, IsWordOf}
+use Rattle.hz_free.specs.Chains.{IsFeedbackFree}
+use Rattle.hz_free.specs.VariableWords.{IsDrivenWord, input_word, AreVariableWords}
 use Rattle.hz_free.proofs.Chains.{free-induction, reads-inside}
 use Rattle.hz_free.proofs.NextWord.{input_word-IsWord, AreWords-each}
 

@@ -1,11 +1,17 @@
 -- A variable follows its excitation: along a run it changes at most as often as that did one step before, but for one change if it
 -- began unstable.
 use Rattle.std.proofs.Common.{◌≡◌, ◌≢◌, ℕ, zero, suc, ◌+◌, ◌<◌, ◌≤◌, Bool, true, false, not, cond, List, [], ◌∷◌, map, length, take, refl, arith, inl, inr}
-use Rattle.hz_free.proofs.Words.{cases_Bool, false≢true, Driver, bit_at, excitation, is_listed, state_after, IsRun, change_between, first_letter, change_count, variable_history}
 use Rattle.std.specs.Bool.{beq}
+use Rattle.std.proofs.lemmas.Bool.{cases_Bool, false≢true}
+use Rattle.hz_net.specs.Network.{Driver, bit_at, excitation}
+use Rattle.hz_lists.specs.Listed.{is_listed}
+use Rattle.hz_gmw.specs.Runs.{state_after, IsRun}
 use Rattle.hz_gmw.specs.Cycles.{states_of}
 use Rattle.hz_gmw.proofs.Flips.{length-state_after, at-state_after}
+use Rattle.hz_word.specs.Walk.{change_between}
+use Rattle.hz_word.specs.Word.{first_letter, change_count}
 use Rattle.hz_word.specs.Covers.{reduction_after}
+use Rattle.hz_free.specs.VariableWords.{variable_history}
 
 -- how often a value changes along a run
 abbrev pub changes_along : (List Bool → Bool) → List Bool → List (List ℕ) → ℕ

@@ -1,18 +1,32 @@
 -- What is enough for a variable: many changes for each, and none for one that Algorithm A keeps.
 use Rattle.std.proofs.Common.{◌≡◌, ◌≢◌, ◌⊎◌, ℕ, ◌+◌, ◌<◌, ◌≤◌, Bool, true, false, List, [], ◌∷◌, map, length, get_or, cond, IsTrue, refl, sym, ap, ◌∙◌, subst, arith, inl, inr}
-use Rattle.hz_free.proofs.Words.{slice_range, cases_Bool, cases_lt, both_ways, length-map, get_or-map, Kind, takes, Netlist, IsCircuit, IsWhole, gate_at, takes-at_gate, Driver}
-use Rattle.hz_free.proofs.Words.{External, Function, Source, network_of, driver_at, driver_value3, bit_at, value_at, Reads, IsStableStart, wired-network_of, is_gate_of}
-use Rattle.hz_free.proofs.Words.{length-part, at-part, IsRun, Exact, Word, change_count, capped_word, capped_count, IsWithinCap, Covers, constant_word, IsFold-kind_word}
-use Rattle.hz_free.proofs.Words.{IsFeedbackFree, input_word, AreVariableWords, variable_history, told_at, GivesWord}
+use Rattle.std.specs.Prelude.{slice_range}
 use Rattle.std.specs.List.{range_with_len}
-use Rattle.std.proofs.lemmas.Bool.{le-leb}
+use Rattle.std.proofs.lemmas.Bool.{cases_Bool, cases_lt, le-leb, both_ways}
+use Rattle.std.proofs.lemmas.List.{length-map, get_or-map}
 use Rattle.std.proofs.lemmas.List.FromFn.{get_or-map-range_with_len, length-map-range_with_len}
-use Rattle.hz_word.specs.declared.count.Count.TheVariants.{Many}
-use Rattle.hz_word.specs.Capped.{IsAtMost}
-use Rattle.hz_word.specs.Pairs.{kind_word}
+use Rattle.hz_core.specs.declared.kind.Kind.{Kind}
+use Rattle.hz_core.specs.Gate.{takes}
+use Rattle.hz_core.specs.Netlist.{Netlist, IsCircuit, IsWhole, gate_at}
+use Rattle.hz_core.proofs.CircuitLemmas.{takes-at_gate}
+use Rattle.hz_net.specs.Network.{Driver, External, Function, Source, network_of, driver_at, driver_value3, bit_at, value_at}
+use Rattle.hz_net.specs.Reads.{Reads}
+use Rattle.hz_net.specs.Starts.{IsStableStart}
+use Rattle.hz_net.proofs.Wired.{wired-network_of, is_gate_of}
+use Rattle.hz_lists.proofs.PartLemmas.{length-part, at-part}
+use Rattle.hz_gmw.specs.Runs.{IsRun}
+use Rattle.hz_word.specs.declared.count.Count.TheVariants.{Exact, Many}
+use Rattle.hz_word.specs.declared.word.Word.{Word}
+use Rattle.hz_word.specs.Word.{change_count}
+use Rattle.hz_word.specs.Capped.{capped_word, capped_count, IsAtMost, IsWithinCap}
+use Rattle.hz_word.specs.Covers.{Covers}
+use Rattle.hz_word.specs.Pairs.{constant_word, kind_word}
 use Rattle.hz_word.proofs.AtMost.{at_most-many}
+use Rattle.hz_word.proofs.Folds.{IsFold-kind_word}
 use Rattle.hz_word.proofs.Stretched.{counted-capped_count, stretched, AreWords-stretched, map-capped-stretched}
-use Rattle.hz_free.specs.Inductive.{IsToldEnough, AreCounted, AreFreeWords, IsInductive}
+use Rattle.hz_free.specs.Chains.{IsFeedbackFree}
+use Rattle.hz_free.specs.VariableWords.{input_word, AreVariableWords, variable_history}
+use Rattle.hz_free.specs.Inductive.{told_at, GivesWord, IsToldEnough, AreCounted, AreFreeWords, IsInductive}
 use Rattle.hz_free.proofs.Chains.{reads-inside}
 use Rattle.hz_free.proofs.NextWord.{default-same}
 use Rattle.hz_free.proofs.WordsExist.{marks}

@@ -1,11 +1,15 @@
 -- Each network of wires has a list of its feedback cycles.
 use Rattle.std.proofs.Common.{◌≡◌, ℕ, zero, suc, ◌+◌, ◌<◌, ◌≤◌, ◌⊎◌, true, false, List, [], ◌∷◌, length, get_or, All, refl, sym, ap, subst, arith, inl, inr, eqb}
-use Rattle.hz_free.proofs.Words.{Contains, cases_Bool, cases_eq, cases_lt, or_cases, both_ways, eqb-true, All-cons, All-nil, Driver, External, Function, Source, driver_at, Reads}
-use Rattle.hz_free.proofs.Words.{IsWired, is_listed, IsRepeatFree, IsFeedbackFree, IsChoice, ComesAround, IsFeedbackCycle, is_repeat_free-bound, listed-head, listed-left}
+use Rattle.std.specs.Prelude.{Contains}
+use Rattle.std.proofs.lemmas.Bool.{cases_Bool, cases_eq, cases_lt, or_cases, both_ways, eqb-true}
+use Rattle.std.proofs.lemmas.List.Elements.{All-cons, All-nil}
 use Rattle.hz_lists.specs.Least.{IsLeast}
-use Rattle.hz_free.specs.Chains.{IsChain}
-use Rattle.hz_free.specs.Feedback.{AreFeedbackCycles}
-use Rattle.hz_lists.proofs.ListedLemmas.{All-each}
+use Rattle.hz_net.specs.Network.{Driver, External, Function, Source, driver_at}
+use Rattle.hz_net.specs.Reads.{Reads, IsWired}
+use Rattle.hz_lists.specs.Listed.{is_listed, IsRepeatFree}
+use Rattle.hz_free.specs.Chains.{IsChain, IsFeedbackFree}
+use Rattle.hz_free.specs.Feedback.{IsChoice, ComesAround, IsFeedbackCycle, AreFeedbackCycles}
+use Rattle.hz_lists.proofs.ListedLemmas.{is_repeat_free-bound, listed-head, listed-left, All-each}
 use Rattle.hz_free.proofs.Chains.{chain-inside, free-from_reads, reads-free, reads-inside}
 use Rattle.hz_free.proofs.FeedbackCycles.{cycle-closed, cycle-least, chosen-in, all-around, same-cycle}
 use Rattle.hz_free.proofs.FoundCycles.{first-chooses, reader-inside}

@@ -1,10 +1,11 @@
 -- Feedback cycles by their definition: a variable has one choice, cycles are closed under choice, and two that share a variable
 -- are the same.
 use Rattle.std.proofs.Common.{◌≡◌, ℕ, ◌<◌, ◌≤◌, true, false, List, [], ◌∷◌, ◌++◌, refl, sym, ap, ◌∙◌, subst, arith, inl, inr, eqb}
-use Rattle.hz_free.proofs.Words.{cases_eq, cases_lt, or_cases, or_right, both_ways, eqb-true, Driver, is_listed, IsRepeatFree, IsChoice, ComesAround, IsFeedbackCycle, listed-head}
-use Rattle.hz_free.proofs.Words.{listed-one, listed-append, listed-left}
-use Rattle.std.proofs.lemmas.Bool.{or_parts}
-use Rattle.hz_lists.proofs.ListedLemmas.{All-listed}
+use Rattle.std.proofs.lemmas.Bool.{cases_eq, cases_lt, or_cases, or_parts, or_right, both_ways, eqb-true}
+use Rattle.hz_net.specs.Network.{Driver}
+use Rattle.hz_lists.specs.Listed.{is_listed, IsRepeatFree}
+use Rattle.hz_free.specs.Feedback.{IsChoice, ComesAround, IsFeedbackCycle}
+use Rattle.hz_lists.proofs.ListedLemmas.{listed-head, listed-one, listed-append, listed-left, All-listed}
 
 -- a variable chooses one variable
 pub choice-one : (net : List Driver) (i j k : ℕ) → IsChoice net i j → IsChoice net i k → j ≡ k

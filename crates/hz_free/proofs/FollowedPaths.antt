@@ -1,7 +1,10 @@
 -- A path that is followed: it begins with no variable, and takes one more that has no mark.
 use Rattle.std.proofs.Common.{◌≡◌, ℕ, suc, ◌-◌, ◌<◌, ◌≤◌, ◌≢◌, true, false, Option, Some, None, List, [], ◌∷◌, ◌++◌, length, get_or, set, refl, sym, ap, ◌∙◌, subst, arith, inl, inr, get_or-set_same, get_or-set_other}
-use Rattle.hz_free.proofs.Words.{cases_Bool, cases_eq, both_ways, is_some, is_listed, LeadsTo, IsLink, IsPathSoFar, listed-cases, listed-left, listed-one, is_repeat_free-push}
-use Rattle.hz_free.proofs.Words.{is_repeat_free-bound, pushed-last}
+use Rattle.std.proofs.lemmas.Bool.{cases_Bool, cases_eq, both_ways}
+use Rattle.std.specs.Option.{is_some}
+use Rattle.hz_lists.specs.Listed.{is_listed}
+use Rattle.hz_free.specs.Paths.{LeadsTo, IsLink, IsPathSoFar}
+use Rattle.hz_lists.proofs.ListedLemmas.{listed-cases, listed-left, listed-one, is_repeat_free-push, is_repeat_free-bound, pushed-last}
 use Rattle.hz_free.proofs.Kahn.{length-push}
 use Rattle.hz_free.proofs.PathLemmas.{not-linked, path-push, link-inside}
 

@@ -1,9 +1,18 @@
 -- What was found is all: every feedback cycle is listed, and each variable that is not feedback-free has its core.
 use Rattle.std.proofs.Common.{◌≡◌, ℕ, suc, ◌<◌, true, Option, Some, None, List, [], ◌∷◌, length, get_or, All, sym, ap, ◌∙◌, subst, arith, inl, inr}
-use Rattle.hz_free.proofs.Words.{Contains, cases_lt, get_or_past, All-cons, All-nil, Driver, External, driver_at, Reads, IsWired, is_listed, get_or-default, IsFeedbackFree}
-use Rattle.hz_free.proofs.Words.{IsChoice, ComesAround, IsFeedbackCycle, AreFeedback, LeadsTo, IsLink, IsPath, AreChoices, AreRooted, AreChoosers, AreNumbered, HaveNumbers}
-use Rattle.hz_free.proofs.Words.{core_by, listed-head}
-use Rattle.hz_free.specs.FreePart.{IsCoreNumber}
+use Rattle.std.specs.Prelude.{Contains}
+use Rattle.std.proofs.lemmas.Bool.{cases_lt}
+use Rattle.std.proofs.lemmas.List.{get_or_past}
+use Rattle.std.proofs.lemmas.List.Elements.{All-cons, All-nil}
+use Rattle.hz_net.specs.Network.{Driver, External, driver_at}
+use Rattle.hz_net.specs.Reads.{Reads, IsWired}
+use Rattle.hz_lists.specs.Listed.{is_listed}
+use Rattle.hz_core.proofs.ListLemmas.{get_or-default}
+use Rattle.hz_free.specs.Chains.{IsFeedbackFree}
+use Rattle.hz_free.specs.Feedback.{IsChoice, ComesAround, IsFeedbackCycle}
+use Rattle.hz_free.specs.FreePart.{AreFeedback, IsCoreNumber}
+use Rattle.hz_free.specs.Paths.{LeadsTo, IsLink, IsPath, AreChoices, AreRooted, AreChoosers, AreNumbered, HaveNumbers, core_by}
+use Rattle.hz_lists.proofs.ListedLemmas.{listed-head}
 use Rattle.hz_free.proofs.Chains.{reads-free}
 use Rattle.hz_free.proofs.FeedbackCycles.{cycle-closed, same-cycle}
 use Rattle.hz_free.proofs.PathLemmas.{link-inside, path-way}

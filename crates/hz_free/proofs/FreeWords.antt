@@ -1,13 +1,27 @@
 -- The words of feedback-free variables are enough for these, whatever the other variables are told.
 use Rattle.std.proofs.Common.{◌≡◌, ℕ, ◌+◌, ◌<◌, Bool, false, List, [], map, length, get_or, IsTrue, refl, sym, ap, ◌∙◌, subst, arith}
-use Rattle.hz_free.proofs.Words.{slice_range, ext_get_or, length-map, get_or-map, Kind, takes, Netlist, IsCircuit, IsWhole, Driver, External, Function, Source, network_of}
-use Rattle.hz_free.proofs.Words.{driver_at, IsStableStart, Reads, wired-network_of, length-part, at-part, Word, IsWordOf, capped_word, IsFold, constant_word, takes-HasPins}
-use Rattle.hz_free.proofs.Words.{IsFold-kind_word, IsFeedbackFree, IsDrivenWord, told_at, GivesWord}
-use Rattle.hz_word.proofs.Longest.{unique-IsWordOf}
+use Rattle.std.specs.Prelude.{slice_range}
+use Rattle.std.proofs.lemmas.List.{ext_get_or, length-map, get_or-map}
+use Rattle.hz_core.specs.declared.kind.Kind.{Kind}
+use Rattle.hz_core.specs.Gate.{takes}
+use Rattle.hz_core.specs.Netlist.{Netlist, IsCircuit, IsWhole}
+use Rattle.hz_net.specs.Network.{Driver, External, Function, Source, network_of, driver_at}
+use Rattle.hz_net.specs.Starts.{IsStableStart}
+use Rattle.hz_net.specs.Reads.{Reads}
+use Rattle.hz_net.proofs.Wired.{wired-network_of}
+use Rattle.hz_lists.proofs.PartLemmas.{length-part, at-part}
+use Rattle.hz_word.specs.declared.word.Word.{Word}
+use Rattle.hz_word.specs.Walk.{IsWordOf}
+use Rattle.hz_word.specs.Capped.{capped_word, IsFold}
+use Rattle.hz_word.specs.Pairs.{constant_word}
+use Rattle.hz_word.proofs.Longest.{takes-HasPins, unique-IsWordOf}
+use Rattle.hz_word.proofs.Folds.{IsFold-kind_word}
+use Rattle.hz_free.specs.Chains.{IsFeedbackFree}
+use Rattle.hz_free.specs.VariableWords.{IsDrivenWord}
 use Rattle.hz_free.proofs.Chains.{reads-inside, reads-free}
 use Rattle.hz_free.proofs.Covered.{free-followed, wires-AreWords, takes-wires, length-wires}
 use Rattle.hz_word.proofs.AtMost.{at_most-same}
-use Rattle.hz_free.specs.Inductive.{IsToldEnough}
+use Rattle.hz_free.specs.Inductive.{told_at, GivesWord, IsToldEnough}
 use Rattle.hz_free.specs.Inductive.{AreFreeWords}
 
 module _ (netlist : Netlist) (circuit : IsCircuit netlist) (whole : IsWhole netlist) (input start : List Bool) (begins : IsStableStart netlist start) (cap : ℕ) (told : List Word) (long : length told ≡ length (network_of netlist)) (free_words : AreFreeWords (network_of netlist) input start cap told) where

@@ -1,6 +1,10 @@
 -- The words of a gate's wires, gathered, and the word of the gate.
 use Rattle.std.proofs.Common.{◌≡◌, ℕ, zero, suc, ◌+◌, ◌<◌, Bool, List, [], ◌∷◌, map, length, take, get_or, set, Option, Some, None, All, refl, sym, ap, ◌∙◌, subst, arith, add-one}
-use Rattle.hz_free.proofs.Words.{All-head, All-tail, All-cons, All-nil, Kind, Word, capped_word, IsWithinCap, IsFold, HasCountedWord, IsGateWord}
+use Rattle.std.proofs.lemmas.List.Elements.{All-head, All-tail, All-cons, All-nil}
+use Rattle.hz_core.specs.declared.kind.Kind.{Kind}
+use Rattle.hz_word.specs.declared.word.Word.{Word}
+use Rattle.hz_word.specs.Capped.{capped_word, IsWithinCap, IsFold}
+use Rattle.hz_free.specs.CappedWords.{HasCountedWord, IsGateWord}
 
 gather-step_suc : (k : ℕ) (pins : List Word) (wires : List (Option Word)) (word : Word) → k < length pins → length pins ≡ length wires → get_or wires k None ≡ Some word → map Some (take k pins) ≡ take k wires → map Some (take (suc k) (set pins k word)) ≡ take (suc k) wires
 gather-step_suc k [] wires word few long here so_far = absurd (omega arith)

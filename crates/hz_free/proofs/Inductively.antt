@@ -1,18 +1,33 @@
 -- Along every run each word that is told covers the history of its variable: by induction on the number of steps, so it
 -- does not matter what reads what.
 use Rattle.std.proofs.Common.{◌≡◌, ℕ, zero, suc, ◌+◌, ◌<◌, ◌≤◌, Bool, true, false, List, [], ◌∷◌, map, length, take, get_or, IsTrue, refl, sym, ap, ◌∙◌, subst, arith}
-use Rattle.hz_free.proofs.Words.{slice_range, ext_get_or, length-map, get_or-map, take-length, Kind, takes, gate_value, Netlist, IsCircuit, IsWhole, gate_at, takes-at_gate}
-use Rattle.hz_free.proofs.Words.{Driver, External, Function, Source, network_of, driver_at, bit_at, excitation, IsStableStart, Reads, wired-network_of, is_gate_of, length-part}
-use Rattle.hz_free.proofs.Words.{at-part, IsRun, state_after, Exact, Word, first_letter, change_count, current_letters, change_between, capped_word, capped_count, IsWithinCap}
-use Rattle.hz_free.proofs.Words.{IsFold, Covers, constant_word, takes-HasPins, input_word, variable_history, told_at, GivesWord}
-use Rattle.hz_net.specs.Network.{driver_value}
-use Rattle.hz_word.specs.Capped.{IsAtMost}
-use Rattle.hz_word.proofs.Longest.{part-IsWordOf, first_letter-alternating}
+use Rattle.std.specs.Prelude.{slice_range}
+use Rattle.std.proofs.lemmas.List.{ext_get_or, length-map, get_or-map}
+use Rattle.std.proofs.Math.Seq.{take-length}
+use Rattle.hz_core.specs.declared.kind.Kind.{Kind}
+use Rattle.hz_core.specs.Gate.{takes, gate_value}
+use Rattle.hz_core.specs.Netlist.{Netlist, IsCircuit, IsWhole, gate_at}
+use Rattle.hz_core.proofs.CircuitLemmas.{takes-at_gate}
+use Rattle.hz_net.specs.Network.{Driver, External, Function, Source, network_of, driver_at, driver_value, bit_at, excitation}
+use Rattle.hz_net.specs.Starts.{IsStableStart}
+use Rattle.hz_net.specs.Reads.{Reads}
+use Rattle.hz_net.proofs.Wired.{wired-network_of, is_gate_of}
+use Rattle.hz_lists.proofs.PartLemmas.{length-part, at-part}
+use Rattle.hz_gmw.specs.Runs.{IsRun, state_after}
+use Rattle.hz_word.specs.declared.count.Count.TheVariants.{Exact}
+use Rattle.hz_word.specs.declared.word.Word.{Word}
+use Rattle.hz_word.specs.Word.{first_letter, change_count}
+use Rattle.hz_word.specs.Walk.{current_letters, change_between}
+use Rattle.hz_word.specs.Capped.{capped_word, capped_count, IsWithinCap, IsAtMost, IsFold}
+use Rattle.hz_word.specs.Covers.{Covers}
+use Rattle.hz_word.specs.Pairs.{constant_word}
+use Rattle.hz_word.proofs.Longest.{takes-HasPins, part-IsWordOf, first_letter-alternating}
+use Rattle.hz_free.specs.VariableWords.{input_word, variable_history}
 use Rattle.hz_free.proofs.Chains.{reads-inside}
 use Rattle.hz_free.proofs.Covered.{same-driver_value-input, source-place, function-place}
 use Rattle.hz_free.proofs.Delays.{delay-before, changes_along, change-same, constant-along, same-along, change_count-history, first_letter-history}
 use Rattle.hz_free.proofs.Columns.{part-along}
-use Rattle.hz_free.specs.Inductive.{IsInductive}
+use Rattle.hz_free.specs.Inductive.{told_at, GivesWord, IsInductive}
 use Rattle.hz_word.proofs.AtMost.{at_most-trans, at_most-less, at_most-capped, at_most-zero, covers-at_most}
 use Rattle.hz_word.proofs.Stretched.{stretched, stretched_count, map-capped-stretched, AreWords-stretched, bound-stretched}
 

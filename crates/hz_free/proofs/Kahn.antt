@@ -1,10 +1,11 @@
 -- Kahn's order: telling a reader keeps what is known of the order.
 use Rattle.std.proofs.Common.{◌≡◌, ℕ, zero, suc, ◌+◌, ◌-◌, ◌<◌, ◌≤◌, ◌≢◌, Bool, true, false, ◌||◌, cond, List, [], ◌∷◌, ◌++◌, length, take, get_or, set, refl, sym, ap, ◌∙◌, subst, arith, inl, inr, eqb, add-one, get_or-set_same, get_or-set_other, length-set}
-use Rattle.hz_free.proofs.Words.{cases_Bool, cases_lt, cases_eq, eqb-true, eq-eqb, take-suc, get_or_append_left, is_listed, occurrences, unplaced_count, IsOrdering, listed-append}
-use Rattle.hz_free.proofs.Words.{listed-cases, listed-one, is_repeat_free-push, listed-at, pushed-last}
-use Rattle.std.proofs.Math.Seq.{get_or-append_seam, take-append_seam}
-use Rattle.std.proofs.lemmas.List.{take-append-le}
-use Rattle.hz_lists.proofs.ListedLemmas.{unlisted-before, listed-from_take}
+use Rattle.std.proofs.lemmas.Bool.{cases_Bool, cases_lt, cases_eq, eqb-true, eq-eqb}
+use Rattle.std.proofs.Math.Seq.{take-suc, get_or-append_seam, take-append_seam}
+use Rattle.std.proofs.lemmas.List.{take-append-le, get_or_append_left}
+use Rattle.hz_lists.specs.Listed.{is_listed}
+use Rattle.hz_free.specs.Order.{occurrences, unplaced_count, IsOrdering}
+use Rattle.hz_lists.proofs.ListedLemmas.{listed-append, listed-cases, listed-one, is_repeat_free-push, unlisted-before, listed-at, listed-from_take, pushed-last}
 
 -- tests of equality
 pub eqb-self : (a : ℕ) → eqb a a ≡ true

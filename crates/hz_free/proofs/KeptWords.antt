@@ -1,11 +1,13 @@
 -- Lists of words as they are kept, and the words that are in them.
 use Rattle.std.proofs.Common.{◌≡◌, ◌∙◌, ℕ, ◌+◌, ◌-◌, ◌<◌, ◌≤◌, List, map, length, take, drop, get_or, set, Option, Some, None, Bool, refl, sym, ap, subst, arith, inl, inr, get_or-set_same, get_or-set_other}
-use Rattle.hz_free.proofs.Words.{slice_range, cases_Bool, cases_eq, length-map, Word, change_count, capped_word, IsWithinCap, HasCountedWord}
-use Rattle.std.specs.Prelude.{IsSome}
+use Rattle.std.specs.Prelude.{slice_range, IsSome}
 use Rattle.std.specs.Bool.{nat_le}
-use Rattle.std.proofs.lemmas.Bool.{leb-true}
-use Rattle.std.proofs.lemmas.List.{take-map, drop-map, map-set}
-use Rattle.hz_word.specs.Capped.{greatest_cap}
+use Rattle.std.proofs.lemmas.Bool.{cases_Bool, cases_eq, leb-true}
+use Rattle.std.proofs.lemmas.List.{take-map, drop-map, map-set, length-map}
+use Rattle.hz_word.specs.declared.word.Word.{Word}
+use Rattle.hz_word.specs.Word.{change_count}
+use Rattle.hz_word.specs.Capped.{capped_word, greatest_cap, IsWithinCap}
+use Rattle.hz_free.specs.CappedWords.{HasCountedWord}
 
 module _ {X Y : Type 0} (f : X → Y) where
   -- a part of a list

@@ -1,7 +1,9 @@
 -- A walk ends at the last letters: so the word of a gate ends with the gate value of the last letters.
 use Rattle.std.proofs.Common.{◌≡◌, ℕ, suc, ◌+◌, ◌-◌, ◌<◌, Bool, true, false, List, [], ◌∷◌, map, length, drop, refl, sym, ap, ◌∙◌, arith}
-use Rattle.hz_free.proofs.Words.{Kind, gate_value, first_letter, last_letter, change_count, current_letters, after_move, change_between, walk_changes, IsWordOf}
-use Rattle.hz_word.specs.Walk.{MayAdvance, AreAtTheirEnds, IsWalk}
+use Rattle.hz_core.specs.declared.kind.Kind.{Kind}
+use Rattle.hz_core.specs.Gate.{gate_value}
+use Rattle.hz_word.specs.Word.{first_letter, last_letter, change_count}
+use Rattle.hz_word.specs.Walk.{current_letters, MayAdvance, after_move, AreAtTheirEnds, IsWalk, change_between, walk_changes, IsWordOf}
 use Rattle.hz_word.specs.Pairs.{last_after}
 use Rattle.hz_word.proofs.Letters.{last_letter-last_after, last_after-suc, last_after-zero}
 

@@ -1,8 +1,18 @@
 -- The laws that callers of this crate use.
 use Rattle.std.proofs.Common.{◌≡◌, ◌↔◌, ℕ, ◌<◌, ◌≤◌, Bool, List, [], length, get_or, sym, subst}
-use Rattle.hz_free.proofs.Words.{Tri, Unknown, tri_of, Netlist, IsCircuit, IsWhole, network_of, bit_at, value_at, algorithm_a, IsStableStart, IsRun, first_letter, last_letter}
-use Rattle.hz_free.proofs.Words.{change_count, capped_word, Covers, IsFeedbackFree, AreVariableWords, variable_history}
-use Rattle.hz_net.specs.Passes.{algorithm_b, IsResult}
+use Rattle.hz_core.specs.declared.tri.Tri.{Tri}
+use Rattle.hz_core.specs.declared.tri.Tri.TheVariants.{Unknown}
+use Rattle.hz_core.specs.Ternary.{tri_of}
+use Rattle.hz_core.specs.Netlist.{Netlist, IsCircuit, IsWhole}
+use Rattle.hz_net.specs.Network.{network_of, bit_at, value_at}
+use Rattle.hz_net.specs.Passes.{algorithm_a, algorithm_b, IsResult}
+use Rattle.hz_net.specs.Starts.{IsStableStart}
+use Rattle.hz_gmw.specs.Runs.{IsRun}
+use Rattle.hz_word.specs.Word.{first_letter, last_letter, change_count}
+use Rattle.hz_word.specs.Capped.{capped_word}
+use Rattle.hz_word.specs.Covers.{Covers}
+use Rattle.hz_free.specs.Chains.{IsFeedbackFree}
+use Rattle.hz_free.specs.VariableWords.{AreVariableWords, variable_history}
 use Rattle.hz_free.proofs.Covered.{free-followed}
 use Rattle.hz_free.proofs.Enough.{free-covered}
 use Rattle.hz_free.proofs.Agreement.{IsFixed, fixed-result, free-ends}

@@ -1,5 +1,3 @@
--- The names that most proofs cite, passed on from one place
-pub mod Words
 -- Lists of words as they are kept, and the words that are in them
 pub mod KeptWords
 -- Kahn's order: telling a reader keeps what is known of the order

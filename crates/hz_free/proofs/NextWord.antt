@@ -1,19 +1,28 @@
 -- The word of a variable, once all that it reads have one.
 use Rattle.std.proofs.Common.{◌≡◌, ℕ, zero, suc, ◌+◌, ◌<◌, ◌≤◌, Bool, true, false, List, [], ◌∷◌, map, length, get_or, Option, Some, None, All, IsTrue, slice_get, refl, sym, ap, ◌∙◌, subst, arith, inl, inr}
-use Rattle.hz_free.proofs.Words.{slice_range, cases_Bool, length-map, get_or-map, ext_get_or, Kind, takes, Netlist, IsCircuit, IsWhole, Driver, External, Function, network_of}
-use Rattle.hz_free.proofs.Words.{driver_at, bit_at, Reads, first_wire, length-part, at-part, Word, IsWord, AreWords, change_count, capped_word, capped_count, IsWithinCap}
-use Rattle.hz_free.proofs.Words.{IsDrivenWord, input_word, HasCountedWord, IsGateWord, nodes-among}
+use Rattle.std.specs.Prelude.{slice_range}
 use Rattle.std.specs.Bool.{nat_le}
-use Rattle.std.proofs.lemmas.Bool.{leb-true}
-use Rattle.hz_core.specs.Netlist.{variable_count}
-use Rattle.hz_net.specs.Variables.{variable_kinds}
+use Rattle.std.proofs.lemmas.Bool.{cases_Bool, leb-true}
+use Rattle.std.proofs.lemmas.List.{length-map, get_or-map, ext_get_or}
+use Rattle.hz_core.specs.declared.kind.Kind.{Kind}
+use Rattle.hz_core.specs.Gate.{takes}
+use Rattle.hz_core.specs.Netlist.{Netlist, IsCircuit, IsWhole, variable_count}
+use Rattle.hz_net.specs.Network.{Driver, External, Function, network_of, driver_at, bit_at}
+use Rattle.hz_net.specs.Reads.{Reads}
+use Rattle.hz_net.specs.Variables.{variable_kinds, first_wire}
 use Rattle.hz_net.specs.Driven.{IsDrivenAs as IsDrivenInNet}
 use Rattle.hz_net.specs.declared.variable.VarKind.{VarKind}
 use Rattle.hz_net.specs.declared.variable.VarKind.TheVariants.{Input as InputKind, Gate as GateKind, Wire as WireKind}
 use Rattle.hz_net.proofs.DrivenLemmas.{driven-as as net-driven-as}
+use Rattle.hz_lists.proofs.PartLemmas.{length-part, at-part}
 use Rattle.hz_word.proofs.Stretched.{counted-capped_count}
-use Rattle.hz_free.specs.CappedWords.{CanBeFolded, IsDrivenAs, IsReady, IsNextWord}
+use Rattle.hz_word.specs.declared.word.Word.{Word}
+use Rattle.hz_word.specs.Word.{IsWord, AreWords, change_count}
+use Rattle.hz_word.specs.Capped.{capped_word, capped_count, IsWithinCap}
+use Rattle.hz_free.specs.VariableWords.{IsDrivenWord, input_word}
+use Rattle.hz_free.specs.CappedWords.{CanBeFolded, IsDrivenAs, IsReady, IsNextWord, HasCountedWord, IsGateWord}
 use Rattle.hz_free.specs.declared.free.Folding.{Folding}
+use Rattle.hz_gmw.proofs.Counts.{nodes-among}
 
 -- an element that is there does not depend on the default
 pub default-same : {X : Type 0} (xs : List X) (k : ℕ) (d e : X) → k < length xs → get_or xs k d ≡ get_or xs k e

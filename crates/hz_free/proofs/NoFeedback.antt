@@ -1,6 +1,11 @@
 -- Where each variable is feedback-free there is no feedback cycle.
 use Rattle.std.proofs.Common.{ℕ, ◌<◌, Bool, false, List, [], ◌∷◌, length, All, IsTrue, arith}
-use Rattle.hz_free.proofs.Words.{Contains, All-nil, Driver, IsFeedbackFree, IsFeedbackCycle, AreMarks, AreFeedback}
+use Rattle.std.specs.Prelude.{Contains}
+use Rattle.std.proofs.lemmas.List.Elements.{All-nil}
+use Rattle.hz_net.specs.Network.{Driver}
+use Rattle.hz_free.specs.Chains.{IsFeedbackFree}
+use Rattle.hz_free.specs.Feedback.{IsFeedbackCycle}
+use Rattle.hz_free.specs.FreePart.{AreMarks, AreFeedback}
 use Rattle.hz_free.proofs.Chains.{reads-free}
 use Rattle.hz_free.proofs.FoundCycles.{first-chooses, reader-inside}
 

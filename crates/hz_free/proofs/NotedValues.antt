@@ -1,15 +1,16 @@
 -- Notes on variables, one after the other: a value that they have, which variable chose another one, and numbers of roots.
 use Rattle.std.proofs.Common.{◌≡◌, ℕ, suc, ◌+◌, ◌-◌, ◌<◌, ◌⊎◌, All, true, false, Option, Some, None, List, [], ◌∷◌, ◌++◌, length, take, drop, get_or, set, IsTrue, refl, sym, ap, ◌∙◌, subst, arith, inl, inr, eqb, add-one, get_or-set_same, get_or-set_other}
-use Rattle.hz_free.proofs.Words.{cases_Bool, cases_eq, or_right, both_ways, eqb-true, take-suc, is_some, is_listed, LeadsTo, IsLink, HaveValue, HaveChoosers, HasRoot, IsInside}
-use Rattle.hz_free.proofs.Words.{HaveNumbers, core_by, listed-cases, listed-left, listed-one, listed-append, pushed-last}
-use Rattle.std.proofs.Math.Seq.{drop-cons}
+use Rattle.std.proofs.lemmas.Bool.{cases_Bool, cases_eq, or_right, both_ways, eqb-true}
+use Rattle.std.proofs.Math.Seq.{take-suc, drop-cons}
 use Rattle.std.proofs.lemmas.List.{take-append-drop, take_all, length-drop}
 use Rattle.std.proofs.lemmas.List.Quantifiers.{position-Some}
 use Rattle.std.proofs.lemmas.List.Elements.{All-get_or}
 use Rattle.std.specs.Prelude.{position}
 use Rattle.hz_core.proofs.ListLemmas.{list_any-from_position_none}
-use Rattle.std.specs.Option.{IsSome}
-use Rattle.hz_lists.proofs.ListedLemmas.{first-or-later, listed-first, listed-other}
+use Rattle.std.specs.Option.{IsSome, is_some}
+use Rattle.hz_lists.specs.Listed.{is_listed}
+use Rattle.hz_free.specs.Paths.{LeadsTo, IsLink, HaveValue, HaveChoosers, HasRoot, IsInside, HaveNumbers, core_by}
+use Rattle.hz_lists.proofs.ListedLemmas.{first-or-later, listed-first, listed-other, listed-cases, listed-left, listed-one, listed-append, pushed-last}
 use Rattle.hz_free.proofs.Kahn.{listed-push-other}
 use Rattle.hz_free.proofs.PathLemmas.{link-one}
 

@@ -1,10 +1,12 @@
 -- The cycles one after the other: the path from the least variable of a cycle along those that chose is the cycle.
 use Rattle.std.proofs.Common.{◌≡◌, ℕ, suc, ◌+◌, ◌<◌, ◌≤◌, true, Option, None, List, [], ◌∷◌, ◌++◌, length, get_or, IsTrue, refl, sym, ap, ◌∙◌, subst, arith, inl, inr, eqb}
-use Rattle.hz_free.proofs.Words.{cases_Bool, cases_eq, cases_lt, or_right, both_ways, get_or_append_left, Driver, is_listed, ComesAround, IsFeedbackCycle, LeadsTo, IsLink}
-use Rattle.hz_free.proofs.Words.{AreChoosers, AreNumbered, listed-head}
-use Rattle.std.proofs.lemmas.List.{get_or_push}
-use Rattle.hz_free.specs.Paths.{IsPathToMark, HasNoLinks, AddsCycle}
-use Rattle.hz_lists.proofs.ListedLemmas.{All-each}
+use Rattle.std.proofs.lemmas.Bool.{cases_Bool, cases_eq, cases_lt, or_right, both_ways}
+use Rattle.std.proofs.lemmas.List.{get_or_push, get_or_append_left}
+use Rattle.hz_net.specs.Network.{Driver}
+use Rattle.hz_lists.specs.Listed.{is_listed}
+use Rattle.hz_free.specs.Feedback.{ComesAround, IsFeedbackCycle}
+use Rattle.hz_free.specs.Paths.{LeadsTo, IsLink, IsPathToMark, AreChoosers, AreNumbered, HasNoLinks, AddsCycle}
+use Rattle.hz_lists.proofs.ListedLemmas.{listed-head, All-each}
 use Rattle.hz_free.proofs.FeedbackCycles.{choice-one}
 use Rattle.hz_free.proofs.PathLemmas.{link-one, not-linked, path-before, path-last, path-closes, path-around, IsLedTo}
 use Rattle.hz_free.proofs.Roots.{path-links}

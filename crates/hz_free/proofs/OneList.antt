@@ -1,7 +1,10 @@
 -- A network has one list of feedback cycles, and each variable one core.
 use Rattle.std.proofs.Common.{◌≡◌, ℕ, zero, suc, ◌<◌, ◌≤◌, ◌⊎◌, true, List, [], ◌∷◌, length, get_or, All, refl, sym, ap, subst, arith, inl, inr}
-use Rattle.hz_free.proofs.Words.{Contains, All-head, All-tail, Driver, is_listed, IsFeedbackCycle, IsCore}
-use Rattle.hz_free.specs.Feedback.{AreFeedbackCycles, IsWayBack}
+use Rattle.std.specs.Prelude.{Contains}
+use Rattle.std.proofs.lemmas.List.Elements.{All-head, All-tail}
+use Rattle.hz_net.specs.Network.{Driver}
+use Rattle.hz_lists.specs.Listed.{is_listed}
+use Rattle.hz_free.specs.Feedback.{IsFeedbackCycle, AreFeedbackCycles, IsWayBack, IsCore}
 use Rattle.hz_free.proofs.FeedbackCycles.{choice-one, cycle-closed, same-cycle}
 
 -- cycles with ascending first variables, none of which is below a number

@@ -1,17 +1,26 @@
 -- The finished order is the feedback-free part: what is not in it reads something that is not in it.
 use Rattle.std.proofs.Common.{◌≡◌, ℕ, zero, suc, ◌<◌, ◌≤◌, Bool, true, false, Option, Some, None, List, [], ◌∷◌, map, length, take, get_or, refl, sym, ap, ◌∙◌, subst, arith, inl, inr, eqb}
-use Rattle.hz_free.proofs.Words.{Contains, cases_Bool, cases_lt, cases_eq, both_ways, eq-eqb, length-map, get_or-map, get_or_past, Netlist, IsCircuit, IsWhole, Driver, network_of}
-use Rattle.hz_free.proofs.Words.{driver_at, Reads, readers_of, IsWired, wired-network_of, IsWireFrom-driver_at, nodes-among, is_listed, IsRepeatFree, IsFeedbackFree}
-use Rattle.hz_free.proofs.Words.{get_or-default, IsCore, occurrences, IsOrdering, FreePart, AreMarks, AreFeedback, listed-cases, listed-left, listed-one, take-suc, take-length}
-use Rattle.std.specs.Prelude.{◌++◌, ◌&&◌, nat_lt}
+use Rattle.std.specs.Prelude.{Contains, ◌++◌, ◌&&◌, nat_lt}
 use Rattle.std.specs.List.{filter}
-use Rattle.std.proofs.lemmas.Bool.{false_from_ne_true, lt-ltb, ltb-true}
+use Rattle.std.proofs.lemmas.Bool.{cases_Bool, cases_lt, cases_eq, both_ways, eq-eqb, false_from_ne_true, lt-ltb, ltb-true}
+use Rattle.std.proofs.lemmas.List.{length-map, get_or-map, get_or_past}
+use Rattle.hz_core.specs.Netlist.{Netlist, IsCircuit, IsWhole}
+use Rattle.hz_net.specs.Network.{Driver, network_of, driver_at}
+use Rattle.hz_net.specs.Reads.{Reads, readers_of, IsWired}
 use Rattle.hz_net.proofs.Readers.{AreReaders-readers_of}
-use Rattle.hz_net.proofs.Wires.{IsWireFrom-node}
-use Rattle.hz_free.specs.FreePart.{IsFreePart, HaveCores, IsCoreNumber, IsCycleNumber}
-use Rattle.hz_lists.proofs.ListedLemmas.{filtered-is, is-filtered, listed-filter}
+use Rattle.hz_net.proofs.Wired.{wired-network_of}
+use Rattle.hz_net.proofs.Wires.{IsWireFrom-driver_at, IsWireFrom-node}
+use Rattle.hz_gmw.proofs.Counts.{nodes-among}
+use Rattle.hz_lists.specs.Listed.{is_listed, IsRepeatFree}
+use Rattle.hz_free.specs.Chains.{IsFeedbackFree}
+use Rattle.hz_core.proofs.ListLemmas.{get_or-default}
+use Rattle.hz_free.specs.Feedback.{IsCore}
+use Rattle.hz_free.specs.Order.{occurrences, IsOrdering}
+use Rattle.hz_free.specs.FreePart.{FreePart, IsFreePart, AreMarks, AreFeedback, HaveCores, IsCoreNumber, IsCycleNumber}
+use Rattle.hz_lists.proofs.ListedLemmas.{filtered-is, is-filtered, listed-cases, listed-filter, listed-left, listed-one}
 use Rattle.hz_free.proofs.Kahn.{occurrences-same, occurrences-other, unplaced-some}
 use Rattle.hz_free.proofs.Chains.{free-from_reads, reads-inside, not-free}
+use Rattle.std.proofs.Math.Seq.{take-suc, take-length}
 
 -- occurrences and elements
 pub occurrences-Contains : (i : ℕ) (list : List ℕ) → 1 ≤ occurrences i list → Contains list i

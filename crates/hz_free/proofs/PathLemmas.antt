@@ -1,8 +1,13 @@
 -- Paths along links: one variable more, the way from a variable on a path, what leads to it, and paths that come around.
 use Rattle.std.proofs.Common.{◌≡◌, ℕ, ◌<◌, ◌⊎◌, true, false, Option, Some, None, List, [], ◌∷◌, ◌++◌, length, get_or, refl, sym, ◌∙◌, subst, inl, inr, eqb}
-use Rattle.hz_free.proofs.Words.{or_cases, or_right, both_ways, eqb-true, cases_lt, get_or_past, get_or-default, Driver, is_listed, IsRepeatFree, IsChoice, ComesAround, LeadsTo}
-use Rattle.hz_free.proofs.Words.{IsLink, IsPath, listed-head, listed-one}
-use Rattle.hz_free.specs.Feedback.{IsWayBack}
+use Rattle.std.proofs.lemmas.Bool.{or_cases, or_right, both_ways, eqb-true, cases_lt}
+use Rattle.std.proofs.lemmas.List.{get_or_past}
+use Rattle.hz_core.proofs.ListLemmas.{get_or-default}
+use Rattle.hz_net.specs.Network.{Driver}
+use Rattle.hz_lists.specs.Listed.{is_listed, IsRepeatFree}
+use Rattle.hz_free.specs.Feedback.{IsChoice, ComesAround, IsWayBack}
+use Rattle.hz_free.specs.Paths.{LeadsTo, IsLink, IsPath}
+use Rattle.hz_lists.proofs.ListedLemmas.{listed-head, listed-one}
 
 -- a variable leads to one place
 pub link-one : (links : List (Option ℕ)) (i j k : ℕ) → LeadsTo links i j → LeadsTo links i k → j ≡ k

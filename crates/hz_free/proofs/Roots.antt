@@ -1,8 +1,12 @@
 -- Roots: the way back from each variable ends in a variable of a cycle.
 use Rattle.std.proofs.Common.{◌≡◌, ℕ, suc, ◌+◌, ◌<◌, ◌⊎◌, true, false, Option, Some, None, List, [], ◌∷◌, ◌++◌, length, get_or, All, refl, sym, ◌∙◌, subst, arith, inl, inr, eqb}
-use Rattle.hz_free.proofs.Words.{cases_Bool, cases_eq, or_cases, both_ways, eqb-true, All-cons, All-nil, Driver, IsWired, is_listed, LeadsTo, IsLink, IsPath, AreChoices}
-use Rattle.hz_free.proofs.Words.{AreRooted, HasRoot, HaveChoosers, IsInside, listed-head}
-use Rattle.hz_free.specs.Paths.{AreLinks, IsPathToMark, HasNoLinks}
+use Rattle.std.proofs.lemmas.Bool.{cases_Bool, cases_eq, or_cases, both_ways, eqb-true}
+use Rattle.std.proofs.lemmas.List.Elements.{All-cons, All-nil}
+use Rattle.hz_net.specs.Network.{Driver}
+use Rattle.hz_net.specs.Reads.{IsWired}
+use Rattle.hz_lists.specs.Listed.{is_listed}
+use Rattle.hz_free.specs.Paths.{LeadsTo, IsLink, AreLinks, IsPath, IsPathToMark, AreChoices, AreRooted, HasNoLinks, HasRoot, HaveChoosers, IsInside}
+use Rattle.hz_lists.proofs.ListedLemmas.{listed-head}
 use Rattle.hz_free.proofs.Chains.{reads-inside}
 use Rattle.hz_free.proofs.PathLemmas.{link-one, not-linked, link-inside, path-from, path-append, path-before, path-last}
 

@@ -1,25 +1,38 @@
 -- The words one after the other, as the loop tells them: for one list of all variables' words, the word of the next variable
 -- is folded from those that are told, or it is constant where Algorithm A isn't X.
 use Rattle.std.proofs.Common.{◌≡◌, ◌≢◌, ℕ, ◌+◌, ◌<◌, ◌⊎◌, Bool, List, [], ◌∷◌, length, take, get_or, Option, Some, None, refl, sym, ap, ◌∙◌, subst, arith, inl, inr, add-one}
-use Rattle.hz_free.proofs.Words.{slice_range, cases_Bool, cases_eq, cases_lt, both_ways, false≢true, take-suc, Kind, Tri, Unknown, Netlist, Driver, External, Function, Source}
-use Rattle.hz_free.proofs.Words.{network_of, driver_at, bit_at, value_at, algorithm_a, Reads, IsWired, IsStableStart, wired-network_of, IsWireFrom-driver_at, nodes-among, Word}
-use Rattle.hz_free.proofs.Words.{Exact, IsWord, first_letter, change_count, IsWordOf, capped_word, is_listed, IsFeedbackFree, FreePart, HaveValue, IsDrivenWord, AreVariableWords}
-use Rattle.hz_free.proofs.Words.{AreCappedWords, constant_if, listed-at}
-use Rattle.std.specs.Prelude.{true, false, IfSome, MatchOption, if◌then◌else◌}
-use Rattle.std.proofs.lemmas.Bool.{false_from_ne_true, le-leb}
+use Rattle.std.specs.Prelude.{true, false, slice_range, IfSome, MatchOption, if◌then◌else◌}
+use Rattle.std.proofs.lemmas.Bool.{cases_Bool, cases_eq, cases_lt, both_ways, false≢true, false_from_ne_true, le-leb}
 use Rattle.std.proofs.lemmas.Option.{slice_get-get_or}
+use Rattle.std.proofs.Math.Seq.{take-suc}
+use Rattle.hz_core.specs.declared.kind.Kind.{Kind}
+use Rattle.hz_core.specs.declared.tri.Tri.{Tri}
+use Rattle.hz_core.specs.declared.tri.Tri.TheVariants.{Unknown}
 use Rattle.hz_core.specs.Ternary.{is_unknown}
-use Rattle.hz_net.specs.Passes.{IsResult}
+use Rattle.hz_core.specs.Netlist.{Netlist}
+use Rattle.hz_net.specs.Network.{Driver, External, Function, Source, network_of, driver_at, bit_at, value_at}
+use Rattle.hz_net.specs.Passes.{algorithm_a, IsResult}
+use Rattle.hz_net.specs.Reads.{Reads, IsWired}
+use Rattle.hz_net.specs.Starts.{IsStableStart}
 use Rattle.hz_net.specs.Variables.{fan_out_of}
 use Rattle.hz_net.proofs.Places.{length-network_of}
 use Rattle.hz_net.proofs.Sequences.{length-algorithm_a}
-use Rattle.hz_net.proofs.Wired.{wire-into}
-use Rattle.hz_net.proofs.Wires.{IsWireFrom-node}
+use Rattle.hz_net.proofs.Wired.{wired-network_of, wire-into}
+use Rattle.hz_net.proofs.Wires.{IsWireFrom-driver_at, IsWireFrom-node}
+use Rattle.hz_gmw.proofs.Counts.{nodes-among}
 use Rattle.hz_gmw.proofs.DriverLemmas.{driver-fan, fan-driver}
-use Rattle.hz_word.specs.declared.count.Count.TheVariants.{Many}
-use Rattle.hz_free.specs.FreePart.{IsFreePart}
-use Rattle.hz_free.specs.CappedWords.{IsNextWord, IsReady, AreConstant}
-use Rattle.hz_lists.proofs.ListedLemmas.{first-or-later, listed-first, listed-tail, pushed-cases}
+use Rattle.hz_word.specs.declared.word.Word.{Word}
+use Rattle.hz_word.specs.declared.count.Count.TheVariants.{Exact, Many}
+use Rattle.hz_word.specs.Word.{IsWord, first_letter, change_count}
+use Rattle.hz_word.specs.Walk.{IsWordOf}
+use Rattle.hz_word.specs.Capped.{capped_word}
+use Rattle.hz_lists.specs.Listed.{is_listed}
+use Rattle.hz_free.specs.Chains.{IsFeedbackFree}
+use Rattle.hz_free.specs.FreePart.{FreePart, IsFreePart}
+use Rattle.hz_free.specs.Paths.{HaveValue}
+use Rattle.hz_free.specs.VariableWords.{IsDrivenWord, AreVariableWords, AreCappedWords}
+use Rattle.hz_free.specs.CappedWords.{IsNextWord, IsReady, AreConstant, constant_if}
+use Rattle.hz_lists.proofs.ListedLemmas.{first-or-later, listed-at, listed-first, listed-tail, pushed-cases}
 use Rattle.hz_free.proofs.Chains.{free-from_reads, reads-free, reads-inside}
 use Rattle.hz_free.proofs.Covered.{free-followed}
 use Rattle.hz_free.proofs.Laws.{changing}

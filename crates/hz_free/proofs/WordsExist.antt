@@ -1,15 +1,29 @@
 -- There is an order of the feedback-free variables of every network, and there are words of them.
 use Rattle.std.proofs.Common.{◌≡◌, ℕ, zero, suc, ◌+◌, ◌-◌, ◌<◌, ◌≤◌, Bool, false, List, [], ◌∷◌, ◌++◌, map, length, take, get_or, set, replicate, Option, Some, None, IsTrue, All, refl, sym, ◌∙◌, subst, arith, inl, inr, eqb, add-one}
-use Rattle.hz_free.proofs.Words.{slice_range, cases_lt, cases_eq, both_ways, length-map, All-head, All-tail, take-length, Kind, takes, Netlist, IsCircuit, IsWhole, gate_at}
-use Rattle.hz_free.proofs.Words.{takes-at_gate, Driver, External, Function, Source, network_of, driver_at, bit_at, Reads, readers_of, wired-network_of, is_gate_of, length-part}
-use Rattle.hz_free.proofs.Words.{at-part, Word, IsWord, AreWords, capped_word, IsFold-kind_word, FreePart, unplaced_count, IsOrdering, AreReads, AreFirst, IsDrivenWord}
-use Rattle.hz_free.proofs.Words.{input_word, AreCappedWords, is_repeat_free-bound, listed-at}
+use Rattle.std.specs.Prelude.{slice_range}
 use Rattle.std.specs.List.{range_with_len}
-use Rattle.std.proofs.lemmas.List.{length-replicate}
+use Rattle.std.proofs.lemmas.Bool.{cases_lt, cases_eq, both_ways}
+use Rattle.std.proofs.lemmas.List.{length-map, length-replicate}
 use Rattle.std.proofs.lemmas.List.FromFn.{length-map-range_with_len, get_or-map-range_with_len}
+use Rattle.std.proofs.lemmas.List.Elements.{All-head, All-tail}
+use Rattle.std.proofs.Math.Seq.{take-length}
+use Rattle.hz_core.specs.declared.kind.Kind.{Kind}
+use Rattle.hz_core.specs.Gate.{takes}
+use Rattle.hz_core.specs.Netlist.{Netlist, IsCircuit, IsWhole, gate_at}
+use Rattle.hz_core.proofs.CircuitLemmas.{takes-at_gate}
+use Rattle.hz_net.specs.Network.{Driver, External, Function, Source, network_of, driver_at, bit_at}
+use Rattle.hz_net.specs.Reads.{Reads, readers_of}
+use Rattle.hz_net.proofs.Wired.{wired-network_of, is_gate_of}
 use Rattle.hz_net.proofs.Readers.{readers-inside}
-use Rattle.hz_free.specs.FreePart.{MarksExist}
-use Rattle.hz_free.specs.VariableWords.{WordsExist}
+use Rattle.hz_lists.proofs.PartLemmas.{length-part, at-part}
+use Rattle.hz_word.specs.declared.word.Word.{Word}
+use Rattle.hz_word.specs.Word.{IsWord, AreWords}
+use Rattle.hz_word.specs.Capped.{capped_word}
+use Rattle.hz_word.proofs.Folds.{IsFold-kind_word}
+use Rattle.hz_free.specs.FreePart.{FreePart, MarksExist}
+use Rattle.hz_free.specs.Order.{unplaced_count, IsOrdering, AreReads, AreFirst}
+use Rattle.hz_free.specs.VariableWords.{IsDrivenWord, input_word, AreCappedWords, WordsExist}
+use Rattle.hz_lists.proofs.ListedLemmas.{is_repeat_free-bound, listed-at}
 use Rattle.hz_free.proofs.Kahn.{begin-telling, unread-reader, told-waits, told-placed}
 use Rattle.hz_free.proofs.Counting.{first-more, first-same, first-ordering}
 use Rattle.hz_free.proofs.Chains.{reads-inside}

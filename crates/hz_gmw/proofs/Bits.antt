@@ -1,6 +1,7 @@
 -- Bits that are compared.
 use Rattle.std.proofs.Common.{◌≡◌, Bool, true, false, not, refl}
-use Rattle.hz_gmw.proofs.Words.{beq, false≢true}
+use Rattle.std.specs.Bool.{beq}
+use Rattle.std.proofs.lemmas.Bool.{false≢true}
 
 pub beq-same : (a b : Bool) → beq a b ≡ true → a ≡ b
 beq-same true true e = refl

@@ -1,7 +1,12 @@
 -- Sums over numbers below a bound and over lists that repeat nothing: what a change at some numbers does to them.
 use Rattle.std.proofs.Common.{◌≡◌, ◌≢◌, ℕ, zero, suc, ◌+◌, ◌<◌, ◌≤◌, Bool, true, false, cond, List, [], ◌∷◌, length, map, All, refl, sym, ap, ◌∙◌, arith, inl, inr}
-use Rattle.hz_gmw.proofs.Words.{nat_eq, sum_by, count_by, range_with_len, cases_eq, false≢true, eq-eqb, ne_eqb, All-head, All-tail, sum_by-cons, is_listed, IsRepeatFree}
-use Rattle.hz_gmw.proofs.Words.{listed-first, listed-tail, first-or-later, listed-other}
+use Rattle.std.specs.Prelude.{nat_eq, sum_by, count_by}
+use Rattle.std.specs.List.{range_with_len}
+use Rattle.std.proofs.lemmas.Bool.{cases_eq, false≢true, eq-eqb, ne_eqb}
+use Rattle.std.proofs.lemmas.List.Elements.{All-head, All-tail}
+use Rattle.std.proofs.lemmas.List.Sums.{sum_by-cons}
+use Rattle.hz_lists.specs.Listed.{is_listed, IsRepeatFree}
+use Rattle.hz_lists.proofs.ListedLemmas.{listed-first, listed-tail, first-or-later, listed-other}
 
 -- 1 for a bit that is 1
 abbrev pub weight : Bool → ℕ

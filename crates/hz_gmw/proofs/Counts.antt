@@ -1,15 +1,23 @@
 -- What is counted of a state, after one variable or one input changes.
 use Rattle.std.proofs.Common.{◌≡◌, ◌≢◌, ℕ, zero, suc, ◌+◌, ◌<◌, ◌≤◌, Bool, true, false, not, cond, List, [], ◌∷◌, ◌++◌, length, get_or, set, replicate, All, refl, sym, ap, ◌∙◌, subst, arith, inl, inr}
-use Rattle.hz_gmw.proofs.Words.{sum_by, count_by, beq, range_with_len, cases_eq, false≢true, get_or-set_same, get_or-set_other, sum_by-cons, count_by-le-length, Kind, Netlist}
-use Rattle.hz_gmw.proofs.Words.{IsCircuit, Driver, Function, Source, network_of, driver_at, driver_value, bit_at, excitation, fan_out_of, IsWireInto, length-network_of}
-use Rattle.hz_gmw.proofs.Words.{is_gate_of, is_listed, IsRepeatFree, listed-other, first-or-later, All-each, is_unstable, unstable_count, AreCounts, with_readers}
-use Rattle.std.proofs.lemmas.List.{append-nil}
+use Rattle.std.specs.Prelude.{sum_by, count_by}
+use Rattle.std.specs.Bool.{beq}
+use Rattle.std.specs.List.{range_with_len}
+use Rattle.std.proofs.lemmas.Bool.{cases_eq, false≢true}
+use Rattle.std.proofs.lemmas.List.{append-nil, get_or-set_same, get_or-set_other}
 use Rattle.std.proofs.lemmas.List.FromFn.{length-range_with_len}
-use Rattle.hz_net.specs.Reads.{IsWired}
-use Rattle.hz_net.proofs.Places.{length-wires_of, first_wire-bound}
-use Rattle.hz_net.proofs.Wired.{wired-network_of}
-use Rattle.hz_lists.proofs.ListedLemmas.{listed-one}
-use Rattle.hz_gmw.specs.Instability.{IsOtherUnstable}
+use Rattle.std.proofs.lemmas.List.Sums.{sum_by-cons, count_by-le-length}
+use Rattle.hz_core.specs.declared.kind.Kind.{Kind}
+use Rattle.hz_core.specs.Netlist.{Netlist, IsCircuit}
+use Rattle.hz_net.specs.Network.{Driver, Function, Source, network_of, driver_at, driver_value, bit_at, excitation}
+use Rattle.hz_net.specs.Variables.{fan_out_of}
+use Rattle.hz_net.specs.Reads.{IsWireInto, IsWired}
+use Rattle.hz_net.proofs.Places.{length-network_of, length-wires_of, first_wire-bound}
+use Rattle.hz_net.proofs.Wired.{is_gate_of, wired-network_of}
+use Rattle.hz_lists.specs.Listed.{is_listed, IsRepeatFree}
+use Rattle.hz_lists.proofs.ListedLemmas.{listed-other, listed-one, first-or-later, All-each}
+use Rattle.hz_gmw.specs.Instability.{is_unstable, unstable_count, IsOtherUnstable}
+use Rattle.hz_gmw.specs.CurrentState.{AreCounts, with_readers}
 use Rattle.hz_gmw.proofs.GateOnes.{twice-not}
 use Rattle.hz_gmw.proofs.Flips.{state_after-one}
 use Rattle.hz_gmw.proofs.Counting.{weight, range-term, list-term, range-same, range-one, range-listed, list-same, list-one, list-turned, count-map}

@@ -1,12 +1,14 @@
 -- Algorithm A covers: every reachable state refines its result.
 use Rattle.std.proofs.Common.{◌≡◌, ◌≢◌, ℕ, ◌<◌, Bool, true, false, not, cond, List, [], ◌∷◌, length, refl, sym, ◌∙◌, subst, IsTrue}
-use Rattle.hz_gmw.proofs.Words.{Tri, Refines, Driver, bit_at, driver_at, excitation, AreRounds, is_listed, IsStep, state_after, IsRun, end_of, IsReachable}
-use Rattle.hz_core.specs.Ternary.{admits, is_below}
-use Rattle.hz_net.specs.Network.{value_at, driver_value3}
-use Rattle.hz_net.specs.Passes.{excitations, algorithm_a}
+use Rattle.hz_core.specs.declared.tri.Tri.{Tri}
+use Rattle.hz_core.specs.Ternary.{admits, is_below, Refines}
+use Rattle.hz_net.specs.Network.{Driver, bit_at, value_at, driver_at, driver_value3, excitation}
+use Rattle.hz_net.specs.Passes.{excitations, algorithm_a, AreRounds}
 use Rattle.hz_core.proofs.Refinements.{admits-is_below, length-Refines, get_or-Refines, Refines-get_or, get_or-AllBelow}
 use Rattle.hz_net.proofs.Excitations.{admits-driver_value, at-excitations}
 use Rattle.hz_net.proofs.Sequences.{IsClosed, AllBelow-closed, start-refines, closed-result}
+use Rattle.hz_lists.specs.Listed.{is_listed}
+use Rattle.hz_gmw.specs.Runs.{IsStep, state_after, IsRun, end_of, IsReachable}
 use Rattle.hz_gmw.proofs.Flips.{length-state_after, at-state_after}
 
 -- a closed state admits what excites each variable in a state that refines it

@@ -1,14 +1,15 @@
 -- Algorithm B covers: every outcome state refines each state of its sequence.
 use Rattle.std.proofs.Common.{◌≡◌, ◌≢◌, ℕ, zero, suc, ◌<◌, Bool, true, false, not, cond, List, [], ◌∷◌, ◌++◌, length, refl, sym, ap, ◌∙◌, subst, IsTrue, inl, inr}
-use Rattle.hz_gmw.proofs.Words.{Tri, Refines, Driver, bit_at, driver_at, excitation, IsUnstable, AreRounds, is_listed, IsStep, state_after, IsRun, end_of, IsReachable}
 use Rattle.std.specs.List.{AllByRecursion}
+use Rattle.hz_core.specs.declared.tri.Tri.{Tri}
 use Rattle.hz_core.specs.declared.tri.Tri.TheVariants.{Zero, One, Unknown}
-use Rattle.hz_core.specs.Ternary.{tri_of, admits}
-use Rattle.hz_net.specs.Network.{driver_value3}
-use Rattle.hz_net.specs.Passes.{excitations, algorithm_a, algorithm_b}
+use Rattle.hz_core.specs.Ternary.{tri_of, admits, Refines}
+use Rattle.hz_net.specs.Network.{Driver, bit_at, driver_at, driver_value3, excitation, IsUnstable}
+use Rattle.hz_net.specs.Passes.{excitations, algorithm_a, algorithm_b, AreRounds}
 use Rattle.hz_core.proofs.Refinements.{known-admits, Refines-get_or}
 use Rattle.hz_net.proofs.Excitations.{admits-driver_value, length-excitations, at-excitations}
-use Rattle.hz_gmw.specs.Runs.{states_of}
+use Rattle.hz_lists.specs.Listed.{is_listed}
+use Rattle.hz_gmw.specs.Runs.{IsStep, state_after, IsRun, end_of, IsReachable, states_of}
 use Rattle.hz_gmw.specs.Cycles.{IsNontransient, IsOutcome}
 use Rattle.hz_gmw.proofs.Flips.{length-state_after, at-state_after}
 use Rattle.hz_gmw.proofs.CoverA.{covers}

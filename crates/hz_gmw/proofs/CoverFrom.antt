@@ -1,10 +1,13 @@
 -- Both algorithms cover from a ternary state: what begins with a state that refines it refines their states.
 use Rattle.std.proofs.Common.{◌≡◌, ℕ, Bool, List, length, sym, ap, ◌∙◌, subst}
-use Rattle.hz_gmw.proofs.Words.{Tri, Refines, Driver, AreRounds, IsReachable}
+use Rattle.hz_core.specs.declared.tri.Tri.{Tri}
+use Rattle.hz_core.specs.Ternary.{Refines}
 use Rattle.hz_core.proofs.Refinements.{length-Refines}
-use Rattle.hz_net.specs.Passes.{algorithm_b}
+use Rattle.hz_net.specs.Network.{Driver}
+use Rattle.hz_net.specs.Passes.{algorithm_b, AreRounds}
 use Rattle.hz_net.specs.TernaryStarts.{algorithm_a_from, SettlesTo}
 use Rattle.hz_net.proofs.TernaryStarts.{first-refines, closed-result-from}
+use Rattle.hz_gmw.specs.Runs.{IsReachable}
 use Rattle.hz_gmw.specs.Cycles.{IsOutcome}
 use Rattle.hz_gmw.proofs.CoverA.{run-refines}
 use Rattle.hz_gmw.proofs.CoverB.{covers_outcomes_of}

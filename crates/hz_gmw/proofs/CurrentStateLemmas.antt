@@ -1,9 +1,13 @@
 -- The loops over the current state: what is known after some variables, and that one more keeps it.
 use Rattle.std.proofs.Common.{◌≡◌, ◌≢◌, ℕ, ◌+◌, ◌-◌, ◌<◌, ◌≤◌, Bool, true, false, not, List, ◌∷◌, length, get_or, set, drop, refl, sym, ap, ◌∙◌, subst, arith, inl, inr}
-use Rattle.hz_gmw.proofs.Words.{sum_by, beq, cases_lt, false≢true, not-false, ext_get_or, get_or-set_same, get_or-set_other, get_or_read, sum_by-cons, bit_at, IsRepeatFree}
-use Rattle.hz_gmw.proofs.Words.{state_after}
-use Rattle.std.proofs.lemmas.Bool.{not-true}
-use Rattle.std.proofs.lemmas.List.{drop_more, drop_all}
+use Rattle.std.specs.Prelude.{sum_by}
+use Rattle.std.specs.Bool.{beq}
+use Rattle.std.proofs.lemmas.Bool.{cases_lt, false≢true, not-true, not-false}
+use Rattle.std.proofs.lemmas.List.{ext_get_or, get_or-set_same, get_or-set_other, get_or_read, drop_more, drop_all}
+use Rattle.std.proofs.lemmas.List.Sums.{sum_by-cons}
+use Rattle.hz_net.specs.Network.{bit_at}
+use Rattle.hz_lists.specs.Listed.{IsRepeatFree}
+use Rattle.hz_gmw.specs.Runs.{state_after}
 use Rattle.hz_gmw.proofs.Bits.{beq-same, beq-refl, other-bit}
 use Rattle.hz_gmw.proofs.Flips.{state_after-first, state_after-none}
 

@@ -1,17 +1,19 @@
 -- The variables around a variable of a network, each once.
 use Rattle.std.proofs.Common.{◌≡◌, ◌≢◌, ℕ, suc, ◌-◌, ◌<◌, ◌≤◌, true, List, [], ◌∷◌, length, get_or, All, refl, sym, ap, ◌∙◌, subst, arith, inl, inr}
-use Rattle.hz_gmw.proofs.Words.{nat_eq, cases_lt, cases_Bool, false≢true, false_from_ne_true, Netlist, IsCircuit, Source, network_of, driver_at, fan_out_of, IsWireInto}
-use Rattle.hz_gmw.proofs.Words.{length-network_of, IsWireFrom-driver_at, is_gate_of, is_listed, IsRepeatFree, with_readers, first-or-later, listed-other}
+use Rattle.std.specs.Prelude.{nat_eq}
+use Rattle.std.proofs.lemmas.Bool.{cases_lt, cases_Bool, false≢true, false_from_ne_true}
 use Rattle.std.proofs.lemmas.List.Elements.{All-cons}
-use Rattle.hz_core.specs.Netlist.{variable_count}
-use Rattle.hz_net.specs.Network.{Wire, wires_of}
-use Rattle.hz_net.specs.Variables.{readers_from}
-use Rattle.hz_net.specs.Reads.{readers_of}
-use Rattle.hz_net.proofs.Places.{no_wire}
-use Rattle.hz_net.proofs.Wires.{driver_at-IsWireFrom, Contains-fan_out_of, IsWireFrom-fan_out_of, variable_kinds-wire}
-use Rattle.hz_net.proofs.Wired.{gate-named, named-into}
+use Rattle.hz_core.specs.Netlist.{Netlist, IsCircuit, variable_count}
+use Rattle.hz_net.specs.Network.{Wire, Source, network_of, wires_of, driver_at}
+use Rattle.hz_net.specs.Variables.{readers_from, fan_out_of}
+use Rattle.hz_net.specs.Reads.{IsWireInto, readers_of}
+use Rattle.hz_net.proofs.Places.{no_wire, length-network_of}
+use Rattle.hz_net.proofs.Wires.{IsWireFrom-driver_at, driver_at-IsWireFrom, Contains-fan_out_of, IsWireFrom-fan_out_of, variable_kinds-wire}
+use Rattle.hz_net.proofs.Wired.{is_gate_of, gate-named, named-into}
 use Rattle.hz_net.proofs.Readers.{node-readers, wire-readers, readers-inside}
-use Rattle.hz_lists.proofs.ListedLemmas.{listed-Contains, Contains-listed}
+use Rattle.hz_lists.specs.Listed.{is_listed, IsRepeatFree}
+use Rattle.hz_gmw.specs.CurrentState.{with_readers}
+use Rattle.hz_lists.proofs.ListedLemmas.{first-or-later, listed-other, listed-Contains, Contains-listed}
 
 -- a wire from a node is driven by it
 pub fan-driver : (netlist : Netlist) (node wire : ℕ) → IsCircuit netlist → is_listed (fan_out_of netlist node) wire ≡ true → driver_at (network_of netlist) wire ≡ Source node

@@ -1,7 +1,11 @@
 -- The state after a step, place by place.
 use Rattle.std.proofs.Common.{◌≡◌, ℕ, zero, suc, ◌+◌, ◌<◌, Bool, true, false, not, cond, List, [], ◌∷◌, length, set, refl, sym, ap, ◌∙◌, arith, inl, inr}
-use Rattle.hz_gmw.proofs.Words.{cases_eq, ext_get_or, length-set, get_or-set_same, get_or-set_other, bit_at, is_listed, state_after, listed-first, listed-other}
-use Rattle.hz_gmw.specs.Runs.{bits_after_from}
+use Rattle.std.proofs.lemmas.Bool.{cases_eq}
+use Rattle.std.proofs.lemmas.List.{ext_get_or, length-set, get_or-set_same, get_or-set_other}
+use Rattle.hz_net.specs.Network.{bit_at}
+use Rattle.hz_lists.specs.Listed.{is_listed}
+use Rattle.hz_gmw.specs.Runs.{bits_after_from, state_after}
+use Rattle.hz_lists.proofs.ListedLemmas.{listed-first, listed-other}
 
 pub length-bits_after_from : (place : ℕ) (flips : List ℕ) (bits : List Bool) → length (bits_after_from place flips bits) ≡ length bits
 length-bits_after_from place flips [] = refl

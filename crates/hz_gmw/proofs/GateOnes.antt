@@ -1,12 +1,16 @@
 -- The value of a gate by its count of ones.
 use Rattle.std.proofs.Common.{◌≡◌, ℕ, ◌+◌, ◌<◌, ◌≤◌, Bool, true, false, not, List, [], ◌∷◌, length, map, refl, sym, ap, ◌∙◌, arith, inl, inr}
-use Rattle.hz_gmw.proofs.Words.{count_by, nat_eq, range_with_len, cases_eq, eq-eqb, ne_eqb, ext_get_or, get_or-map-range_with_len, sum_by-cons, count_by-le-length, Netlist, Kind}
-use Rattle.hz_gmw.proofs.Words.{network_of, bit_at, driver_value, excitation}
-use Rattle.std.specs.Prelude.{slice_range}
-use Rattle.std.proofs.lemmas.List.FromFn.{length-map-range_with_len}
+use Rattle.std.specs.Prelude.{count_by, nat_eq, slice_range}
+use Rattle.std.specs.List.{range_with_len}
+use Rattle.std.proofs.lemmas.Bool.{cases_eq, eq-eqb, ne_eqb}
+use Rattle.std.proofs.lemmas.List.{ext_get_or}
+use Rattle.std.proofs.lemmas.List.FromFn.{length-map-range_with_len, get_or-map-range_with_len}
+use Rattle.std.proofs.lemmas.List.Sums.{sum_by-cons, count_by-le-length}
 use Rattle.hz_core.specs.Gate.{every_pin, some_pin, gate_value}
-use Rattle.hz_core.specs.Netlist.{gate_at}
+use Rattle.hz_core.specs.Netlist.{Netlist, gate_at}
+use Rattle.hz_core.specs.declared.kind.Kind.{Kind}
 use Rattle.hz_net.specs.Driven.{IsGateAt}
+use Rattle.hz_net.specs.Network.{network_of, bit_at, driver_value, excitation}
 use Rattle.hz_net.specs.Variables.{first_wire}
 use Rattle.hz_lists.proofs.PartLemmas.{length-part, at-part}
 use Rattle.hz_gmw.proofs.Counting.{weight, count-map}

@@ -1,14 +1,17 @@
 -- The least of listed numbers that pass a test, and the least that is listed twice.
 use Rattle.std.proofs.Common.{◌≡◌, ◌≢◌, ℕ, ◌+◌, ◌<◌, ◌≤◌, ◌⊎◌, Bool, true, false, cond, ◌||◌, List, [], ◌∷◌, ◌++◌, length, set, Option, Some, None, All, IsTrue, refl, sym, ap, ◌∙◌, subst, arith, inl, inr}
-use Rattle.hz_gmw.proofs.Words.{nat_eq, cases_lt, cases_eq, cases_Bool, false≢true, eq-eqb, ne_eqb, or_right, false_from_ne_true, length-set, get_or-set_same, get_or-set_other}
-use Rattle.hz_gmw.proofs.Words.{All-head, All-tail, sum_by-cons, bit_at, is_listed, IsRepeatFree, IsLeastOf, least_from, least_repeat, times_listed, first-or-later, listed-first}
-use Rattle.hz_gmw.proofs.Words.{listed-other, listed-tail}
-use Rattle.std.proofs.lemmas.Bool.{cond-true, cond-false}
-use Rattle.std.proofs.lemmas.List.{append-nil, append_assoc}
-use Rattle.std.proofs.lemmas.List.Sums.{sum_by_push}
-use Rattle.hz_lists.specs.Least.{IsLeast, option_min}
+use Rattle.std.specs.Prelude.{nat_eq}
+use Rattle.std.proofs.lemmas.Bool.{cases_lt, cases_eq, cases_Bool, false≢true, eq-eqb, ne_eqb, or_right, cond-true, cond-false, false_from_ne_true}
+use Rattle.std.proofs.lemmas.List.{append-nil, append_assoc, length-set, get_or-set_same, get_or-set_other}
+use Rattle.std.proofs.lemmas.List.Elements.{All-head, All-tail}
+use Rattle.std.proofs.lemmas.List.Sums.{sum_by-cons, sum_by_push}
+use Rattle.hz_net.specs.Network.{bit_at}
+use Rattle.hz_lists.specs.Listed.{is_listed, IsRepeatFree}
+use Rattle.hz_lists.specs.Least.{IsLeast, IsLeastOf, option_min}
 use Rattle.hz_lists.proofs.LeastLemmas.{IsLeastOf-same, IsLeastOf-either}
-use Rattle.hz_lists.proofs.ListedLemmas.{listed-append}
+use Rattle.hz_gmw.specs.LeastListed.{least_from, least_repeat}
+use Rattle.hz_gmw.specs.ReplayFaults.{times_listed}
+use Rattle.hz_lists.proofs.ListedLemmas.{listed-append, first-or-later, listed-first, listed-other, listed-tail}
 
 -- one number more
 IsLeastOf-lesser : (P : ℕ → Type 0) (found : Option ℕ) (x : ℕ) → IsLeastOf P found → IsLeastOf (λ i. P i ⊎ (i ≡ x)) (option_min found (Some x))

@@ -1,5 +1,3 @@
--- The names that most proofs cite, passed on from one place
-pub mod Words
 -- The state after a step, place by place
 pub mod Flips
 -- Algorithm A covers: every reachable state refines its result

@@ -1,7 +1,11 @@
 -- Marks with those of a list set.
 use Rattle.std.proofs.Common.{◌≡◌, ℕ, ◌<◌, Bool, true, false, ◌||◌, List, [], ◌∷◌, length, set, refl, sym, ap, ◌∙◌, arith, inl, inr}
-use Rattle.hz_gmw.proofs.Words.{cases_eq, or_right, length-set, get_or-set_same, get_or-set_other, bit_at, is_listed, with_marks, listed-first, listed-other}
-use Rattle.std.proofs.lemmas.Bool.{or_left}
+use Rattle.std.proofs.lemmas.Bool.{cases_eq, or_left, or_right}
+use Rattle.std.proofs.lemmas.List.{length-set, get_or-set_same, get_or-set_other}
+use Rattle.hz_net.specs.Network.{bit_at}
+use Rattle.hz_lists.specs.Listed.{is_listed}
+use Rattle.hz_gmw.specs.CurrentState.{with_marks}
+use Rattle.hz_lists.proofs.ListedLemmas.{listed-first, listed-other}
 
 pub length-with_marks : (marks : List Bool) (list : List ℕ) → length (with_marks marks list) ≡ length marks
 length-with_marks marks [] = refl

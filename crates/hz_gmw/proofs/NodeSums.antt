@@ -1,11 +1,18 @@
 -- Each wire counts with its source: summed over all nodes, what is unstable among a node and the wires from it is all that is unstable.
 use Rattle.std.proofs.Common.{◌≡◌, ℕ, zero, suc, ◌+◌, ◌<◌, ◌≤◌, Bool, true, not, ◌&&◌, List, length, All, refl, ap, ◌∙◌, arith, inl, inr}
-use Rattle.hz_gmw.proofs.Words.{sum_by, count_by, range_with_len, cases_lt, cases_eq, false≢true, sum_by-cons, Netlist, IsCircuit, Driver, External, Function, Source, network_of}
-use Rattle.hz_gmw.proofs.Words.{driver_at, length-network_of, driver_at-wire, IsWireFrom-driver_at, is_listed, listed-first, listed-tail, first-or-later, All-each, is_unstable}
-use Rattle.hz_gmw.proofs.Words.{unstable_count, unstable_from, is_watched}
-use Rattle.hz_net.proofs.Wires.{IsWireFrom-node}
-use Rattle.hz_lists.proofs.ListedLemmas.{Ascends, ascends-lower, ascends-once}
-use Rattle.hz_gmw.specs.Watches.{lapses}
+use Rattle.std.specs.Prelude.{sum_by, count_by}
+use Rattle.std.specs.List.{range_with_len}
+use Rattle.std.proofs.lemmas.Bool.{cases_lt, cases_eq, false≢true}
+use Rattle.std.proofs.lemmas.List.Sums.{sum_by-cons}
+use Rattle.hz_core.specs.Netlist.{Netlist, IsCircuit}
+use Rattle.hz_net.specs.Network.{Driver, External, Function, Source, network_of, driver_at}
+use Rattle.hz_net.proofs.Places.{length-network_of, driver_at-wire}
+use Rattle.hz_net.proofs.Wires.{IsWireFrom-node, IsWireFrom-driver_at}
+use Rattle.hz_lists.specs.Listed.{is_listed}
+use Rattle.hz_lists.proofs.ListedLemmas.{listed-first, listed-tail, first-or-later, Ascends, ascends-lower, ascends-once, All-each}
+use Rattle.hz_gmw.specs.Instability.{is_unstable, unstable_count}
+use Rattle.hz_gmw.specs.CurrentState.{unstable_from}
+use Rattle.hz_gmw.specs.Watches.{lapses, is_watched}
 use Rattle.hz_gmw.proofs.Counting.{weight, range-same}
 use Rattle.hz_gmw.proofs.Counts.{zeros, nothing, counted-unstable, nodes-among}
 use Rattle.hz_gmw.proofs.WatchLemmas.{never, and-false, or-false, nodes-lapse}

@@ -1,24 +1,30 @@
 -- What a replayer stands for: after a mark, after a step, and what that tells of the cycle since the mark.
 use Rattle.std.proofs.Common.{◌≡◌, ◌≢◌, ◌↔◌, ℕ, ◌<◌, ◌≤◌, Bool, true, false, not, cond, ◌&&◌, List, [], ◌∷◌, ◌++◌, length, set, replicate, All, None, IsTrue, refl, sym, ap, ◌∙◌, subst, arith, inl, inr}
-use Rattle.hz_gmw.proofs.Words.{beq, cases_lt, cases_eq, cases_Bool, false≢true, not-false, false_from_ne_true, ext_get_or, length-set, length-replicate, get_or-set_same}
-use Rattle.hz_gmw.proofs.Words.{get_or-set_other, get_or_past, get_or-map-range_with_len, Driver, network_of, bit_at, excitation, IsUnstable, Netlist, is_listed, IsStep}
-use Rattle.hz_gmw.proofs.Words.{state_after, end_of, is_unstable, unstable_variables, unstable_count, IsLeastOf, least_from, Replayer, StandsFor, replayer_at, times_listed}
-use Rattle.hz_gmw.proofs.Words.{AreMembers, with_marks, with_bits_of, listed-other, All-listed}
-use Rattle.std.proofs.lemmas.Bool.{and_parts, and_from, not-true, not_from_false, or_parts, true_from_ne_false}
-use Rattle.std.proofs.lemmas.List.{get_or-replicate}
-use Rattle.std.proofs.lemmas.List.FromFn.{fill_by_all}
+use Rattle.std.specs.Bool.{beq}
+use Rattle.std.proofs.lemmas.Bool.{cases_lt, cases_eq, cases_Bool, false≢true, and_parts, and_from, not-true, not-false, not_from_false, or_parts, false_from_ne_true, true_from_ne_false}
+use Rattle.std.proofs.lemmas.List.{ext_get_or, length-set, length-replicate, get_or-set_same, get_or-set_other, get_or_past, get_or-replicate}
+use Rattle.std.proofs.lemmas.List.FromFn.{get_or-map-range_with_len, fill_by_all}
+use Rattle.hz_net.specs.Network.{Driver, network_of, bit_at, excitation, IsUnstable}
+use Rattle.hz_core.specs.Netlist.{Netlist}
+use Rattle.hz_lists.specs.Listed.{is_listed}
+use Rattle.hz_gmw.specs.Runs.{IsStep, state_after, end_of}
 use Rattle.hz_gmw.specs.Cycles.{WaitsAt, IsNontransient}
-use Rattle.hz_lists.specs.Least.{IsLeast}
-use Rattle.hz_gmw.specs.Replayer.{watched_after, replayer_after}
-use Rattle.hz_gmw.specs.ReplayFaults.{IsStepFault, IsCycleFault}
+use Rattle.hz_gmw.specs.Instability.{is_unstable, unstable_variables, unstable_count}
+use Rattle.hz_lists.specs.Least.{IsLeast, IsLeastOf}
+use Rattle.hz_gmw.specs.LeastListed.{least_from}
+use Rattle.hz_gmw.specs.Replayer.{Replayer, StandsFor, replayer_at, watched_after, replayer_after}
+use Rattle.hz_gmw.specs.ReplayFaults.{times_listed, IsStepFault, IsCycleFault}
 use Rattle.hz_gmw.specs.declared.replay_fault.StepFault.{StepFault}
 use Rattle.hz_gmw.specs.declared.replay_fault.StepFault.TheVariants.{Empty, Repeated, Stable}
 use Rattle.hz_gmw.specs.declared.replay_fault.CycleFault.{CycleFault}
 use Rattle.hz_gmw.specs.declared.replay_fault.CycleFault.TheVariants.{Differs, NotStable, Transient}
+use Rattle.hz_gmw.specs.VariableSets.{AreMembers}
+use Rattle.hz_gmw.specs.CurrentState.{with_marks, with_bits_of}
 use Rattle.hz_gmw.proofs.Flips.{length-state_after, at-state_after}
 use Rattle.hz_gmw.proofs.Paths.{end_of-append, IsRun-append}
 use Rattle.hz_gmw.proofs.CoverB.{length-end_of}
 use Rattle.hz_lists.proofs.LeastLemmas.{IsLeastOf-same}
+use Rattle.hz_lists.proofs.ListedLemmas.{listed-other, All-listed}
 use Rattle.hz_gmw.proofs.LeastLemmas.{least-listed, IsRepeatFree-times_listed, times_listed-IsRepeatFree}
 use Rattle.hz_gmw.proofs.Bits.{beq-same, beq-refl}
 use Rattle.hz_gmw.proofs.Counting.{weight}

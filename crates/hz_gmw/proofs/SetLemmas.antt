@@ -1,12 +1,15 @@
 -- Sets of variables: the list has the marked ones, whatever is put in or taken out.
 use Rattle.std.proofs.Common.{◌≡◌, ◌≢◌, ℕ, zero, suc, ◌<◌, Bool, true, false, cond, List, [], ◌∷◌, ◌++◌, length, get_or, set, replicate, refl, sym, ap, ◌∙◌, subst, arith, inl, inr}
-use Rattle.hz_gmw.proofs.Words.{count_by, cases_lt, cases_eq, false≢true, false_from_ne_true, length-set, length-replicate, get_or-set_same, get_or-set_other, get_or_past}
-use Rattle.hz_gmw.proofs.Words.{get_or_read, ext_get_or, sum_by-cons, count_by-le-length, bit_at, is_listed, IsRepeatFree, AreMembers, All-listed, All-each}
-use Rattle.std.proofs.lemmas.List.{length_push, get_or-replicate}
+use Rattle.std.specs.Prelude.{count_by}
+use Rattle.std.proofs.lemmas.Bool.{cases_lt, cases_eq, false≢true, false_from_ne_true}
+use Rattle.std.proofs.lemmas.List.{length-set, length-replicate, length_push, get_or-set_same, get_or-set_other, get_or_past, get_or_read, get_or-replicate, ext_get_or}
 use Rattle.std.proofs.lemmas.List.Elements.{All-nil}
-use Rattle.std.proofs.lemmas.List.Sums.{sum_by-set}
+use Rattle.std.proofs.lemmas.List.Sums.{sum_by-set, sum_by-cons, count_by-le-length}
+use Rattle.hz_net.specs.Network.{bit_at}
+use Rattle.hz_lists.specs.Listed.{is_listed, IsRepeatFree}
+use Rattle.hz_gmw.specs.VariableSets.{AreMembers}
 use Rattle.hz_gmw.proofs.Counting.{weight}
-use Rattle.hz_lists.proofs.ListedLemmas.{is_repeat_free-front, is_repeat_free-push, listed-left, pushed-cases, pushed-last}
+use Rattle.hz_lists.proofs.ListedLemmas.{All-listed, All-each, is_repeat_free-front, is_repeat_free-push, listed-left, pushed-cases, pushed-last}
 
 -- a fresh set marks nothing
 pub unmarked : (count var : ℕ) → bit_at (replicate count false) var ≡ false

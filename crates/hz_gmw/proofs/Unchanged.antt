@@ -1,17 +1,21 @@
 -- What leaves a variable as stable as it was: a change of variables that it doesn't read, or of another external input.
 use Rattle.std.proofs.Common.{◌≡◌, ◌≢◌, ℕ, ◌<◌, ◌≤◌, ◌⊎◌, Bool, true, false, not, cond, List, [], ◌∷◌, length, set, IsTrue, refl, sym, ap, ◌∙◌, subst, arith, inl, inr}
-use Rattle.hz_gmw.proofs.Words.{beq, cases_lt, false≢true, or_right, false_from_ne_true, get_or-set_other, get_or_past, length-set, Netlist, IsCircuit, Driver, External, Function}
-use Rattle.hz_gmw.proofs.Words.{Source, network_of, driver_at, driver_value, bit_at, excitation, driver_at-wire, is_listed, state_after, is_unstable, with_readers, listed-first}
-use Rattle.hz_gmw.proofs.Words.{listed-tail, first-or-later}
 use Rattle.std.specs.Prelude.{flat_map}
-use Rattle.std.proofs.lemmas.Bool.{or_left}
-use Rattle.hz_core.specs.Netlist.{variable_count}
+use Rattle.std.specs.Bool.{beq}
+use Rattle.std.proofs.lemmas.Bool.{cases_lt, false≢true, or_left, or_right, false_from_ne_true}
+use Rattle.std.proofs.lemmas.List.{get_or-set_other, get_or_past, length-set}
+use Rattle.hz_core.specs.Netlist.{Netlist, IsCircuit, variable_count}
+use Rattle.hz_net.specs.Network.{Driver, External, Function, Source, network_of, driver_at, driver_value, bit_at, excitation}
 use Rattle.hz_net.specs.Reads.{Reads, readers_of}
-use Rattle.hz_net.proofs.Places.{driver_at-input, driver_at-gate}
+use Rattle.hz_net.proofs.Places.{driver_at-input, driver_at-gate, driver_at-wire}
 use Rattle.hz_net.proofs.Readers.{reads-or-not, driver_value-same, reads-reader, node-readers}
+use Rattle.hz_lists.specs.Listed.{is_listed}
+use Rattle.hz_gmw.specs.Runs.{state_after}
+use Rattle.hz_gmw.specs.Instability.{is_unstable}
+use Rattle.hz_gmw.specs.CurrentState.{with_readers}
 use Rattle.hz_gmw.proofs.Flips.{length-state_after, at-state_after}
 use Rattle.hz_gmw.proofs.DriverLemmas.{fan-above}
-use Rattle.hz_lists.proofs.ListedLemmas.{listed-append, listed-Contains}
+use Rattle.hz_lists.proofs.ListedLemmas.{listed-first, listed-tail, first-or-later, listed-append, listed-Contains}
 
 -- a driver reads a listed variable, or none
 pub some-read : (driver : Driver) (flips : List ℕ) → ((i : ℕ) → IsTrue (is_listed flips i) → Reads driver i → ⊥) ⊎ ((i : ℕ) × IsTrue (is_listed flips i) × Reads driver i)

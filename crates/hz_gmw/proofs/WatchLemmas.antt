@@ -1,22 +1,35 @@
 -- The watched variables: how many there are, and which are left after a step.
 use Rattle.std.proofs.Common.{◌≡◌, ◌≢◌, ℕ, zero, suc, ◌+◌, ◌-◌, ◌<◌, ◌≤◌, ◌⊎◌, Bool, true, false, not, ◌&&◌, ◌||◌, cond, List, [], ◌∷◌, length, map, set, replicate, All, refl, sym, ap, ◌∙◌, subst, arith, inl, inr}
-use Rattle.hz_gmw.proofs.Words.{count_by, sum_by, beq, range_with_len, cases_lt, cases_eq, cases_Bool, false≢true, false_from_ne_true, not-false, or_right, length-set}
-use Rattle.hz_gmw.proofs.Words.{get_or-set_same, get_or-set_other, get_or-map-range_with_len, All-head, All-tail, sum_by-cons, Kind, Netlist, IsCircuit, Driver, External}
-use Rattle.hz_gmw.proofs.Words.{Function, Source, network_of, driver_at, bit_at, excitation, IsUnstable, fan_out_of, IsWireInto, length-network_of, driver_at-wire}
-use Rattle.hz_gmw.proofs.Words.{IsWireFrom-driver_at, is_gate_of, is_listed, IsRepeatFree, IsStep, state_after, is_unstable, unstable_variables, unstable_count, AreMembers}
-use Rattle.hz_gmw.proofs.Words.{unstable_from, with_marks, IsDrivenAs, Replayer, is_watched, watched_variables, RecordsStable, listed-first, listed-tail, first-or-later}
-use Rattle.hz_gmw.proofs.Words.{listed-other, All-listed}
-use Rattle.std.proofs.lemmas.Bool.{true_from_ne_false, lt-ltb, le-ltb}
+use Rattle.std.specs.Prelude.{count_by, sum_by}
+use Rattle.std.specs.Bool.{beq}
+use Rattle.std.specs.List.{range_with_len}
+use Rattle.std.proofs.lemmas.Bool.{cases_lt, cases_eq, cases_Bool, false≢true, true_from_ne_false, false_from_ne_true, not-false, or_right, lt-ltb, le-ltb}
+use Rattle.std.proofs.lemmas.List.{length-set, get_or-set_same, get_or-set_other}
+use Rattle.std.proofs.lemmas.List.FromFn.{get_or-map-range_with_len}
+use Rattle.std.proofs.lemmas.List.Elements.{All-head, All-tail}
+use Rattle.std.proofs.lemmas.List.Sums.{sum_by-cons}
 use Rattle.hz_net.specs.declared.variable.VarKind.TheVariants.{Input, Gate as GateVariable, Wire as WireVariable}
-use Rattle.hz_net.specs.Reads.{Reads, IsWired}
+use Rattle.hz_core.specs.declared.kind.Kind.{Kind}
+use Rattle.hz_core.specs.Netlist.{Netlist, IsCircuit}
+use Rattle.hz_net.specs.Network.{Driver, External, Function, Source, network_of, driver_at, bit_at, excitation, IsUnstable}
+use Rattle.hz_net.specs.Variables.{fan_out_of}
+use Rattle.hz_net.specs.Reads.{Reads, IsWireInto, IsWired}
 use Rattle.hz_net.specs.declared.variable.VarKind.{VarKind}
-use Rattle.hz_net.proofs.Wires.{IsWireFrom-node}
-use Rattle.hz_net.proofs.Wired.{wired-network_of}
-use Rattle.hz_gmw.specs.Replayer.{watched_after}
-use Rattle.hz_gmw.specs.Watches.{lapses, unstable_unchanged}
+use Rattle.hz_net.proofs.Places.{length-network_of, driver_at-wire}
+use Rattle.hz_net.proofs.Wires.{IsWireFrom-node, IsWireFrom-driver_at}
+use Rattle.hz_net.proofs.Wired.{wired-network_of, is_gate_of}
+use Rattle.hz_lists.specs.Listed.{is_listed, IsRepeatFree}
+use Rattle.hz_gmw.specs.Runs.{IsStep, state_after}
+use Rattle.hz_gmw.specs.Instability.{is_unstable, unstable_variables, unstable_count}
+use Rattle.hz_gmw.specs.VariableSets.{AreMembers}
+use Rattle.hz_gmw.specs.CurrentState.{unstable_from, with_marks}
+use Rattle.hz_net.specs.Driven.{IsDrivenAs}
+use Rattle.hz_gmw.specs.Replayer.{Replayer, watched_after}
+use Rattle.hz_gmw.specs.Watches.{lapses, is_watched, watched_variables, unstable_unchanged, RecordsStable}
 use Rattle.hz_gmw.proofs.Bits.{beq-same}
 use Rattle.hz_gmw.proofs.Flips.{at-state_after}
 use Rattle.hz_gmw.proofs.Marks.{at-with_marks}
+use Rattle.hz_lists.proofs.ListedLemmas.{listed-first, listed-tail, first-or-later, listed-other, All-listed}
 use Rattle.hz_gmw.proofs.Counting.{weight, range-same, range-none, range-one, range-listed, list-same}
 use Rattle.hz_gmw.proofs.SetLemmas.{unmarked}
 use Rattle.hz_gmw.proofs.DriverLemmas.{fan-driver, driver-fan, node-once, node-inside}

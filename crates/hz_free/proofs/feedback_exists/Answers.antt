@@ -1,5 +1,6 @@
 -- By the lemma of this crate.
-use Rattle.hz_free.proofs.Words.{network_of, wired-network_of}
+use Rattle.hz_net.specs.Network.{network_of}
+use Rattle.hz_net.proofs.Wired.{wired-network_of}
 use Rattle.hz_free.proofs.Existence.{cycles-exist}
 use Rattle.hz_free.proofs.feedback_exists.Goals as goal
 

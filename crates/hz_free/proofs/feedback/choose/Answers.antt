@@ -1,7 +1,9 @@
 -- What a variable chooses, by what it is.
 use Rattle.std.proofs.Common.{arith, length}
-use Rattle.hz_free.proofs.Words.{gate_at, network_of, first_wire, Input}
-use Rattle.hz_net.specs.declared.variable.VarKind.TheVariants.{Gate as GateVariable, Wire as WireVariable}
+use Rattle.hz_core.specs.Netlist.{gate_at}
+use Rattle.hz_net.specs.Network.{network_of}
+use Rattle.hz_net.specs.Variables.{first_wire}
+use Rattle.hz_net.specs.declared.variable.VarKind.TheVariants.{Input, Gate as GateVariable, Wire as WireVariable}
 use Rattle.hz_free.proofs.NextWord.{driven-as, driven-at}
 use Rattle.hz_free.proofs.Choices.{choice-input, choice-gate, choice-wire}
 use Rattle.hz_free.proofs.feedback.choose.Goals as goal

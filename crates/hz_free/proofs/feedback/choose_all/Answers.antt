@@ -1,6 +1,7 @@
 -- One choice more.
 use Rattle.std.proofs.Common.{arith, ◌≡◌, sym, subst, length}
-use Rattle.hz_free.proofs.Words.{network_of, AreChoicesBelow}
+use Rattle.hz_net.specs.Network.{network_of}
+use Rattle.hz_free.specs.Paths.{AreChoicesBelow}
 use Rattle.hz_free.proofs.Choices.{choices-begin, choices-more, choices-whole}
 use Rattle.hz_free.proofs.feedback.choose_all.Goals as goal
 

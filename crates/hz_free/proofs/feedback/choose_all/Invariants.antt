@@ -1,5 +1,6 @@
 -- The choices of the variables so far.
-use Rattle.hz_free.proofs.Words.{network_of, AreChoicesBelow}
+use Rattle.hz_net.specs.Network.{network_of}
+use Rattle.hz_free.specs.Paths.{AreChoicesBelow}
 use Rattle.hz_free.proofs.feedback.choose_all.Given as goal
 
 abbrev pub invariant-loop-var : goal.invariant-loop-var

@@ -1,7 +1,9 @@
 -- The choices are those of the network.
 use Rattle.std.proofs.Common.{arith, ℕ, List, Option, sym, subst}
-use Rattle.hz_free.proofs.Words.{network_of, wired-network_of, AreFeedback}
 use Rattle.std.proofs.lemmas.List.{with_items_is}
+use Rattle.hz_net.specs.Network.{network_of}
+use Rattle.hz_net.proofs.Wired.{wired-network_of}
+use Rattle.hz_free.specs.FreePart.{AreFeedback}
 use Rattle.hz_free.proofs.Roots.{choices-AreLinks}
 use Rattle.hz_free.proofs.NoFeedback.{no-feedback}
 use Rattle.hz_free.proofs.feedback.find_feedback.Goals as goal

@@ -1,6 +1,7 @@
 -- The next variable of the path.
 use Rattle.std.proofs.Common.{arith, ◌≡◌, ◌<◌, ◌∙◌, ℕ, List, None, length, get_or, ap, sym, subst}
-use Rattle.hz_free.proofs.Words.{is_some, IsPathSoFar}
+use Rattle.std.specs.Option.{is_some}
+use Rattle.hz_free.specs.Paths.{IsPathSoFar}
 use Rattle.hz_free.proofs.FollowedPaths.{following-begin, following-next, following-less, some-from}
 use Rattle.hz_free.proofs.PathLemmas.{link-inside, read-link}
 use Rattle.hz_free.proofs.feedback.follow.Goals as goal

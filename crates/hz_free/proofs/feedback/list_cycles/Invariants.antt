@@ -1,6 +1,7 @@
 -- The cycles of the variables so far are listed.
 use Rattle.std.proofs.Common.{◌≤◌, List, length}
-use Rattle.hz_free.proofs.Words.{Driver, AreChoosers, AreNumbered}
+use Rattle.hz_net.specs.Network.{Driver}
+use Rattle.hz_free.specs.Paths.{AreChoosers, AreNumbered}
 use Rattle.hz_free.proofs.feedback.list_cycles.Given as goal
 
 abbrev pub invariant-loop-var : goal.invariant-loop-var

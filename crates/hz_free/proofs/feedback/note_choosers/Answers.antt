@@ -1,8 +1,10 @@
 -- The next variable chose its choice.
 use Rattle.std.proofs.Common.{arith, ◌≡◌, ◌∙◌, Some, None, length, get_or, ap, sym}
-use Rattle.hz_free.proofs.Words.{is_some, listed-at, IsLink}
+use Rattle.std.specs.Option.{is_some}
 use Rattle.hz_free.proofs.PathLemmas.{link-inside, read-link}
+use Rattle.hz_lists.proofs.ListedLemmas.{listed-at}
 use Rattle.hz_free.proofs.NotedValues.{choosers-more}
+use Rattle.hz_free.specs.Paths.{IsLink}
 use Rattle.hz_free.proofs.feedback.note_choosers.Goals.{In-loop-var, After-get}
 use Rattle.hz_free.proofs.feedback.note_choosers.Goals as goal
 

@@ -1,6 +1,8 @@
 -- One more, and all of them.
 use Rattle.std.proofs.Common.{true, None, arith}
-use Rattle.hz_free.proofs.Words.{length-map, bit_at, constant_if}
+use Rattle.std.proofs.lemmas.List.{length-map}
+use Rattle.hz_net.specs.Network.{bit_at}
+use Rattle.hz_free.specs.CappedWords.{constant_if}
 use Rattle.hz_free.proofs.KeptWords.{told-set}
 use Rattle.hz_free.proofs.free.fill_all.Goals as goal
 

@@ -1,6 +1,7 @@
 -- The variables so far have their words.
 use Rattle.std.proofs.Common.{true, ◌≡◌, ℕ, ◌<◌, None, map, get_or}
-use Rattle.hz_free.proofs.Words.{bit_at, constant_if}
+use Rattle.hz_net.specs.Network.{bit_at}
+use Rattle.hz_free.specs.CappedWords.{constant_if}
 use Rattle.hz_free.proofs.free.fill_all.Given as goal
 
 abbrev pub invariant-loop-var : goal.invariant-loop-var

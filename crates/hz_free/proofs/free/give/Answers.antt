@@ -1,9 +1,14 @@
 -- The node, and then the wires.
 use Rattle.std.proofs.Common.{arith, map, ◌≡◌, true, ℕ, List, Option, ◌<◌, ◌∷◌, length, set, subst, Some}
-use Rattle.hz_free.proofs.Words.{length-map, network_of, nodes-among, is_listed, Word, HaveValue}
+use Rattle.std.proofs.lemmas.List.{length-map}
+use Rattle.hz_net.specs.Network.{network_of}
 use Rattle.hz_net.specs.Variables.{fan_out_of}
+use Rattle.hz_gmw.proofs.Counts.{nodes-among}
 use Rattle.hz_gmw.proofs.DriverLemmas.{node-inside}
+use Rattle.hz_lists.specs.Listed.{is_listed}
 use Rattle.hz_lists.proofs.ListedLemmas.{All-listed, listed-tail}
+use Rattle.hz_word.specs.declared.word.Word.{Word}
+use Rattle.hz_free.specs.Paths.{HaveValue}
 use Rattle.hz_free.proofs.NotedValues.{value-first}
 use Rattle.hz_free.proofs.free.give.Goals as goal
 

@@ -1,6 +1,9 @@
 -- The next variable has the word.
 use Rattle.std.proofs.Common.{arith, get_or, subst, sym, map, take, List, Option, ◌+◌, ◌<◌, length}
-use Rattle.hz_free.proofs.Words.{length-map, Word, listed-at, HaveValue}
+use Rattle.std.proofs.lemmas.List.{length-map}
+use Rattle.hz_word.specs.declared.word.Word.{Word}
+use Rattle.hz_lists.proofs.ListedLemmas.{listed-at}
+use Rattle.hz_free.specs.Paths.{HaveValue}
 use Rattle.hz_free.proofs.NotedValues.{value-more}
 use Rattle.hz_free.proofs.free.give_all.Goals as goal
 

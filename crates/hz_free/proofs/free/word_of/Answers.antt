@@ -1,7 +1,14 @@
 -- The word of a node, by what it is.
 use Rattle.std.proofs.Common.{arith, ◌∙◌, ◌+◌, sym, subst, length, map, List, Option, All, IsTrue}
-use Rattle.hz_free.proofs.Words.{takes, gate_at, network_of, first_wire, Input, IsWireFrom-driver_at, nodes-among, Word, HasCountedWord, IsGateWord}
-use Rattle.hz_net.specs.declared.variable.VarKind.TheVariants.{Gate as GateVariable, Wire as WireVariable}
+use Rattle.hz_core.specs.Gate.{takes}
+use Rattle.hz_core.specs.Netlist.{gate_at}
+use Rattle.hz_net.specs.Network.{network_of}
+use Rattle.hz_net.specs.Variables.{first_wire}
+use Rattle.hz_net.specs.declared.variable.VarKind.TheVariants.{Input, Gate as GateVariable, Wire as WireVariable}
+use Rattle.hz_net.proofs.Wires.{IsWireFrom-driver_at}
+use Rattle.hz_gmw.proofs.Counts.{nodes-among}
+use Rattle.hz_word.specs.declared.word.Word.{Word}
+use Rattle.hz_free.specs.CappedWords.{HasCountedWord, IsGateWord}
 use Rattle.hz_free.proofs.KeptWords.{map-slice_range, length-slice_range}
 use Rattle.hz_free.proofs.NextWord.{node-driven, next-input, counted-wires, next-gate, length-wires, driven-at}
 use Rattle.hz_free.proofs.free.word_of.Goals as goal

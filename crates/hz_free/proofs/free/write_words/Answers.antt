@@ -1,6 +1,7 @@
 -- One node after the other.
 use Rattle.std.proofs.Common.{arith, ◌≡◌, ◌∙◌, sym, subst, length, map, take, get_or, List, ℕ}
-use Rattle.hz_free.proofs.Words.{length-map, take-length}
+use Rattle.std.proofs.lemmas.List.{length-map}
+use Rattle.std.proofs.Math.Seq.{take-length}
 use Rattle.hz_free.proofs.ToldWords.{AreTold, within-given, known-given, begin-told, placed-below, placed-inside, ready-words, folded-told, constant-told, all-told}
 use Rattle.hz_free.proofs.free.write_words.Goals as goal
 use Rattle.hz_free.proofs.free.write_words.Goals.{then-may_change, else-may_change}

@@ -1,6 +1,7 @@
 -- A variable is counted once for each variable so far, at most.
 use Rattle.std.proofs.Common.{arith, suc, ◌+◌, drop, get_or, length, drop-cons}
-use Rattle.hz_free.proofs.Words.{network_of, readers_of}
+use Rattle.hz_net.specs.Network.{network_of}
+use Rattle.hz_net.specs.Reads.{readers_of}
 use Rattle.hz_free.proofs.Counting.{count-bound, readers_of-once}
 use Rattle.hz_free.proofs.order.count_readers.Goals as goal
 

@@ -1,6 +1,8 @@
 -- The order, with the readers told of all variables before the place.
 use Rattle.std.proofs.Common.{[], ◌-◌, length}
-use Rattle.hz_free.proofs.Words.{network_of, readers_of, IsOrdering}
+use Rattle.hz_net.specs.Network.{network_of}
+use Rattle.hz_net.specs.Reads.{readers_of}
+use Rattle.hz_free.specs.Order.{IsOrdering}
 use Rattle.hz_free.proofs.order.place_all.Given as goal
 
 abbrev pub invariant-loop-place : goal.invariant-loop-place

@@ -1,6 +1,7 @@
 -- A variable that reads nothing comes next.
 use Rattle.std.proofs.Common.{arith, ◌≡◌, ◌∙◌, length, ap}
-use Rattle.hz_free.proofs.Words.{network_of, readers_of}
+use Rattle.hz_net.specs.Network.{network_of}
+use Rattle.hz_net.specs.Reads.{readers_of}
 use Rattle.hz_free.proofs.Counting.{first-more, first-same, first-ordering}
 use Rattle.hz_free.proofs.order.place_first.Goals as goal
 use Rattle.hz_free.proofs.order.place_first.Goals.{then-unread-var-eq0+in-Ok-push, else-unread-var-eq0}

@@ -1,6 +1,7 @@
 -- The next variable is placed, and its readers are told one after the other.
 use Rattle.std.proofs.Common.{◌+◌, length}
-use Rattle.hz_free.proofs.Words.{network_of, readers_of}
+use Rattle.hz_net.specs.Network.{network_of}
+use Rattle.hz_net.specs.Reads.{readers_of}
 use Rattle.hz_free.proofs.Counting.{var-inside, readers-begin, tell-reader}
 use Rattle.hz_free.proofs.order.place_readers.Goals as goal
 

@@ -1,6 +1,8 @@
 -- The order, but for the readers that are left.
 use Rattle.std.proofs.Common.{◌+◌, drop, length}
-use Rattle.hz_free.proofs.Words.{network_of, readers_of, IsOrdering}
+use Rattle.hz_net.specs.Network.{network_of}
+use Rattle.hz_net.specs.Reads.{readers_of}
+use Rattle.hz_free.specs.Order.{IsOrdering}
 use Rattle.hz_free.proofs.order.place_readers.Given as goal
 
 abbrev pub invariant-loop-reader : goal.invariant-loop-reader

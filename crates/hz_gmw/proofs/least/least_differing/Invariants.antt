@@ -1,5 +1,7 @@
 use Rattle.std.proofs.Common.{◌≡◌, None, not, drop}
-use Rattle.hz_gmw.proofs.Words.{beq, bit_at, least_from}
+use Rattle.std.specs.Bool.{beq}
+use Rattle.hz_net.specs.Network.{bit_at}
+use Rattle.hz_gmw.specs.LeastListed.{least_from}
 use Rattle.hz_gmw.proofs.least.least_differing.Given as goal
 
 -- what was found and what is left make the whole

@@ -1,6 +1,8 @@
 -- The cycle with the number of the core.
 use Rattle.std.proofs.Common.{◌≡◌, ◌<◌, ◌∙◌, ap, sym, subst, length, get_or, [], None, Some, false, List, ℕ}
-use Rattle.hz_free.proofs.Words.{network_of, FreePart, IsCore}
+use Rattle.hz_net.specs.Network.{network_of}
+use Rattle.hz_free.specs.FreePart.{FreePart}
+use Rattle.hz_free.specs.Feedback.{IsCore}
 use Rattle.hz_free.proofs.Parts.{core-numbered, core-read}
 use Rattle.hz_free.proofs.free.Free.core.Goals as goal
 

@@ -1,6 +1,9 @@
 -- Without a feedback cycle no variable can have a core, so each has its mark.
 use Rattle.std.proofs.Common.{arith, ◌≡◌, ◌∙◌, ◌<◌, true, false, sym, ap, subst, get_or, length, List, Bool}
-use Rattle.hz_free.proofs.Words.{length-map, bit_at, constant_if, FreePart}
+use Rattle.std.proofs.lemmas.List.{length-map}
+use Rattle.hz_net.specs.Network.{bit_at}
+use Rattle.hz_free.specs.CappedWords.{constant_if}
+use Rattle.hz_free.specs.FreePart.{FreePart}
 use Rattle.hz_free.proofs.Parts.{all-marked}
 use Rattle.hz_free.proofs.free.Free.fill.Goals as goal
 

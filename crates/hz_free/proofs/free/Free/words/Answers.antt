@@ -1,7 +1,9 @@
 -- The words that are kept are the words themselves.
 use Rattle.std.proofs.Common.{List, Option, subst}
-use Rattle.hz_free.proofs.Words.{network_of, Word, AreCappedWords}
 use Rattle.std.proofs.lemmas.List.{map-id}
+use Rattle.hz_net.specs.Network.{network_of}
+use Rattle.hz_word.specs.declared.word.Word.{Word}
+use Rattle.hz_free.specs.VariableWords.{AreCappedWords}
 use Rattle.hz_free.proofs.free.Free.words.Goals as goal
 
 pub returns : goal.returns

@@ -1,5 +1,10 @@
 use Rattle.std.proofs.Common.{◌≡◌, ◌∙◌, sym, ap, subst, ℕ, Bool, not, ◌-◌, length, get_or, set, arith}
-use Rattle.hz_gmw.proofs.Words.{length-set, get_or_read, count_by-le-length, network_of, bit_at, fan_out_of, is_unstable, AreCounts}
+use Rattle.std.proofs.lemmas.List.{length-set, get_or_read}
+use Rattle.std.proofs.lemmas.List.Sums.{count_by-le-length}
+use Rattle.hz_net.specs.Network.{network_of, bit_at}
+use Rattle.hz_net.specs.Variables.{fan_out_of}
+use Rattle.hz_gmw.specs.Instability.{is_unstable}
+use Rattle.hz_gmw.specs.CurrentState.{AreCounts}
 use Rattle.hz_gmw.proofs.Counts.{AreCounts-node, nodes-among, fan-bound}
 use Rattle.hz_gmw.proofs.current_state.CurrentState.change_node.Goals as goal
 

@@ -1,5 +1,9 @@
 use Rattle.std.proofs.Common.{◌≡◌, ◌∙◌, sym, ap, Bool, false, not, set, arith}
-use Rattle.hz_gmw.proofs.Words.{beq, not-false, length-set, get_or_read, network_of, bit_at, is_unstable}
+use Rattle.std.specs.Bool.{beq}
+use Rattle.std.proofs.lemmas.Bool.{not-false}
+use Rattle.std.proofs.lemmas.List.{length-set, get_or_read}
+use Rattle.hz_net.specs.Network.{network_of, bit_at}
+use Rattle.hz_gmw.specs.Instability.{is_unstable}
 use Rattle.hz_gmw.proofs.Counts.{changed-wire, nodes-among, wire-above, wire-turned, ones-bound, lag-bound, ones-some, lag-some}
 use Rattle.hz_gmw.proofs.current_state.CurrentState.change_wire.Goals.{After-index-2}
 use Rattle.hz_gmw.proofs.current_state.CurrentState.change_wire.Goals as goal

@@ -1,6 +1,12 @@
 use Rattle.std.proofs.Common.{◌≡◌, ◌∙◌, ◌∷◌, ◌+◌, ◌<◌, ℕ, Bool, length, ap, cond, arith}
-use Rattle.hz_gmw.proofs.Words.{sum_by, count_by, range_with_len, Netlist, network_of, fan_out_of, is_unstable, unstable_from}
+use Rattle.std.specs.Prelude.{sum_by, count_by}
+use Rattle.std.specs.List.{range_with_len}
 use Rattle.std.proofs.lemmas.Bool.{lt-ltb}
+use Rattle.hz_core.specs.Netlist.{Netlist}
+use Rattle.hz_net.specs.Network.{network_of}
+use Rattle.hz_net.specs.Variables.{fan_out_of}
+use Rattle.hz_gmw.specs.Instability.{is_unstable}
+use Rattle.hz_gmw.specs.CurrentState.{unstable_from}
 use Rattle.hz_gmw.proofs.Counts.{nodes-among, unstable-bound, network-bound}
 use Rattle.hz_gmw.proofs.NodeSums.{range-more, first-nodes, all-nodes}
 use Rattle.hz_gmw.proofs.current_state.CurrentState.count_unstable.Goals.{After-unstable_from-count}

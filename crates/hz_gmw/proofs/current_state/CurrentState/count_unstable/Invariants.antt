@@ -1,5 +1,7 @@
 use Rattle.std.proofs.Common.{◌≡◌, ◌≤◌, length}
-use Rattle.hz_gmw.proofs.Words.{sum_by, range_with_len, unstable_from}
+use Rattle.std.specs.Prelude.{sum_by}
+use Rattle.std.specs.List.{range_with_len}
+use Rattle.hz_gmw.specs.CurrentState.{unstable_from}
 use Rattle.hz_gmw.proofs.current_state.CurrentState.count_unstable.Given as goal
 
 -- those that are unstable among the nodes so far and the wires from them

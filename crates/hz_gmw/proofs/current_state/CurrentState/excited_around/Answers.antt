@@ -1,5 +1,6 @@
 use Rattle.std.proofs.Common.{◌∙◌, sym, subst, arith}
-use Rattle.hz_gmw.proofs.Words.{get_or_read, IsDrivenAs}
+use Rattle.std.proofs.lemmas.List.{get_or_read}
+use Rattle.hz_net.specs.Driven.{IsDrivenAs}
 use Rattle.hz_net.proofs.Places.{driver_at-gate}
 use Rattle.hz_gmw.proofs.Counts.{nodes-among}
 use Rattle.hz_gmw.proofs.GateOnes.{excited-by-ones}

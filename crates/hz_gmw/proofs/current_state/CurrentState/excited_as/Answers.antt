@@ -1,9 +1,11 @@
 use Rattle.std.proofs.Common.{◌∙◌, sym, ap, subst, ◌≤◌, ◌+◌, length, arith}
-use Rattle.hz_gmw.proofs.Words.{get_or_read, driver_value, IsDrivenAs}
 use Rattle.std.specs.Prelude.{slice_range}
+use Rattle.std.proofs.lemmas.List.{get_or_read}
 use Rattle.hz_core.specs.Netlist.{gate_at}
+use Rattle.hz_net.specs.Network.{driver_value}
 use Rattle.hz_net.specs.Variables.{first_wire}
 use Rattle.hz_lists.proofs.PartLemmas.{length-part}
+use Rattle.hz_net.specs.Driven.{IsDrivenAs}
 use Rattle.hz_gmw.proofs.GateOnes.{part-ones}
 use Rattle.hz_gmw.proofs.current_state.CurrentState.excited_as.Goals as goal
 

@@ -1,5 +1,8 @@
 use Rattle.std.proofs.Common.{◌≡◌, ◌≤◌, ◌+◌, ◌∷◌, length, arith}
-use Rattle.hz_gmw.proofs.Words.{count_by, network_of, fan_out_of, is_unstable, unstable_count}
+use Rattle.std.specs.Prelude.{count_by}
+use Rattle.hz_net.specs.Network.{network_of}
+use Rattle.hz_net.specs.Variables.{fan_out_of}
+use Rattle.hz_gmw.specs.Instability.{is_unstable, unstable_count}
 use Rattle.hz_gmw.proofs.DriverLemmas.{around-node}
 use Rattle.hz_gmw.proofs.Counts.{nodes-among, network-bound, fan-bound, unstable-bound, some-around, mended, node-turned}
 use Rattle.hz_gmw.proofs.current_state.CurrentState.flip_node.Goals.{After-change_node-wires, After-unstable_from-unstable}

@@ -1,5 +1,11 @@
 use Rattle.std.proofs.Common.{◌≡◌, ◌≤◌, ◌+◌, ◌∙◌, not, cond, refl, arith}
-use Rattle.hz_gmw.proofs.Words.{beq, count_by, get_or_read, network_of, bit_at, excitation, is_gate_of, is_unstable, unstable_count, with_readers}
+use Rattle.std.specs.Bool.{beq}
+use Rattle.std.specs.Prelude.{count_by}
+use Rattle.std.proofs.lemmas.List.{get_or_read}
+use Rattle.hz_net.specs.Network.{network_of, bit_at, excitation}
+use Rattle.hz_net.proofs.Wired.{is_gate_of}
+use Rattle.hz_gmw.specs.Instability.{is_unstable, unstable_count}
+use Rattle.hz_gmw.specs.CurrentState.{with_readers}
 use Rattle.hz_gmw.proofs.Counts.{nodes-among, network-bound, unstable-bound, some-around, mended, around-changed}
 use Rattle.hz_gmw.proofs.current_state.CurrentState.flip_wire.Goals.{After-index-value}
 use Rattle.hz_gmw.proofs.current_state.CurrentState.flip_wire.Goals as goal

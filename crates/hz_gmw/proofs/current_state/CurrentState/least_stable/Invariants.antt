@@ -1,5 +1,7 @@
 use Rattle.std.proofs.Common.{◌≡◌, None, not, drop}
-use Rattle.hz_gmw.proofs.Words.{network_of, least_from, is_unstable}
+use Rattle.hz_net.specs.Network.{network_of}
+use Rattle.hz_gmw.specs.LeastListed.{least_from}
+use Rattle.hz_gmw.specs.Instability.{is_unstable}
 use Rattle.hz_gmw.proofs.current_state.CurrentState.least_stable.Given as goal
 
 -- what was found and what is left make the whole

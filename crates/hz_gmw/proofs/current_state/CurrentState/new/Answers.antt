@@ -1,5 +1,8 @@
 use Rattle.std.proofs.Common.{rules, ◌≡◌, ◌∙◌, sym, ap, subst, ℕ, Bool, false, List, length, replicate}
-use Rattle.hz_gmw.proofs.Words.{length-replicate, Netlist, IsCircuit, network_of, AreCounts}
+use Rattle.std.proofs.lemmas.List.{length-replicate}
+use Rattle.hz_core.specs.Netlist.{Netlist, IsCircuit}
+use Rattle.hz_net.specs.Network.{network_of}
+use Rattle.hz_gmw.specs.CurrentState.{AreCounts}
 use Rattle.hz_gmw.proofs.Counts.{AreCounts-none}
 use Rattle.hz_gmw.proofs.current_state.CurrentState.new.Goals as goal
 

@@ -1,5 +1,8 @@
 use Rattle.std.proofs.Common.{◌≡◌, ◌≤◌, ◌<◌, ◌+◌, ◌∙◌, ap, length, set, arith}
-use Rattle.hz_gmw.proofs.Words.{length-set, network_of, is_unstable, unstable_count, AreCounts}
+use Rattle.std.proofs.lemmas.List.{length-set}
+use Rattle.hz_net.specs.Network.{network_of}
+use Rattle.hz_gmw.specs.Instability.{is_unstable, unstable_count}
+use Rattle.hz_gmw.specs.CurrentState.{AreCounts}
 use Rattle.hz_gmw.proofs.Counting.{weight}
 use Rattle.hz_gmw.proofs.Counts.{AreCounts-input, inputs-among, network-bound, one-bound, unstable-input, unstable-bound}
 use Rattle.hz_gmw.proofs.current_state.CurrentState.set_input.Goals.{After-is_unstable, After-one_if-2}

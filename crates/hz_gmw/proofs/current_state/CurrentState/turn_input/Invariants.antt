@@ -1,5 +1,6 @@
 use Rattle.std.proofs.Common.{◌≡◌, ◌<◌, ℕ}
-use Rattle.hz_gmw.proofs.Words.{bit_at, IsExact}
+use Rattle.hz_net.specs.Network.{bit_at}
+use Rattle.hz_gmw.specs.CurrentState.{IsExact}
 use Rattle.hz_gmw.proofs.current_state.CurrentState.turn_input.Given as goal
 
 -- the inputs so far have their given values

@@ -1,5 +1,10 @@
 use Rattle.std.proofs.Common.{◌≡◌, ◌≤◌, ◌∙◌, Bool, true, false, cond, not, sym, ap, subst, ℕ, arith}
-use Rattle.hz_gmw.proofs.Words.{beq, get_or_read, sum_by-cons, network_of, bit_at, fan_out_of, is_unstable}
+use Rattle.std.specs.Bool.{beq}
+use Rattle.std.proofs.lemmas.List.{get_or_read}
+use Rattle.std.proofs.lemmas.List.Sums.{sum_by-cons}
+use Rattle.hz_net.specs.Network.{network_of, bit_at}
+use Rattle.hz_net.specs.Variables.{fan_out_of}
+use Rattle.hz_gmw.specs.Instability.{is_unstable}
 use Rattle.hz_gmw.proofs.Counting.{weight}
 use Rattle.hz_gmw.proofs.Counts.{nodes-among, lag-bound}
 use Rattle.hz_gmw.proofs.current_state.CurrentState.unstable_from.Goals as goal

@@ -1,5 +1,6 @@
 use Rattle.std.proofs.Common.{◌≡◌, ◌-◌, drop}
-use Rattle.hz_gmw.proofs.Words.{sum_by, unstable_from}
+use Rattle.std.specs.Prelude.{sum_by}
+use Rattle.hz_gmw.specs.CurrentState.{unstable_from}
 use Rattle.hz_gmw.proofs.current_state.CurrentState.without_nodes.Given as goal
 
 -- what is left less the rest is the whole difference

@@ -1,8 +1,12 @@
 -- The bits are turned, looked at and turned back; what is counted of them stays.
 use Rattle.std.proofs.Common.{◌≡◌, ◌∙◌, ◌<◌, ℕ, Bool, List, length, sym, ap, subst, arith}
-use Rattle.hz_gmw.proofs.Words.{network_of, All-listed, state_after, unstable_count, AreCounts}
 use Rattle.std.proofs.lemmas.List.{with_items_is}
 use Rattle.std.specs.Vec.{with_items}
+use Rattle.hz_net.specs.Network.{network_of}
+use Rattle.hz_lists.proofs.ListedLemmas.{All-listed}
+use Rattle.hz_gmw.specs.Runs.{state_after}
+use Rattle.hz_gmw.specs.Instability.{unstable_count}
+use Rattle.hz_gmw.specs.CurrentState.{AreCounts}
 use Rattle.hz_gmw.specs.Follower.{FollowerOf, follower_at}
 use Rattle.hz_gmw.proofs.Flips.{step-back}
 use Rattle.hz_gmw.proofs.follower.Follower.sees_two_unstable_after.Goals.{After-make_step-2}

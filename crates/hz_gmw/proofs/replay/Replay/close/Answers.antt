@@ -1,4 +1,5 @@
-use Rattle.hz_gmw.proofs.Words.{false≢true, network_of}
+use Rattle.std.proofs.lemmas.Bool.{false≢true}
+use Rattle.hz_net.specs.Network.{network_of}
 use Rattle.hz_gmw.proofs.ReplayLemmas.{cycle-or-fault}
 use Rattle.hz_gmw.proofs.replay.Replay.close.Goals as goal
 

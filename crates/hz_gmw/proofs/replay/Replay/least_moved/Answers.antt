@@ -1,5 +1,9 @@
 use Rattle.std.proofs.Common.{◌≡◌, ◌≢◌, ◌∙◌, sym, ap, subst, Bool, not, List, None}
-use Rattle.hz_gmw.proofs.Words.{beq, bit_at, IsLeastOf, least_from, Replayer}
+use Rattle.std.specs.Bool.{beq}
+use Rattle.hz_net.specs.Network.{bit_at}
+use Rattle.hz_lists.specs.Least.{IsLeastOf}
+use Rattle.hz_gmw.specs.LeastListed.{least_from}
+use Rattle.hz_gmw.specs.Replayer.{Replayer}
 use Rattle.hz_gmw.proofs.ReplayLemmas.{least-moved}
 use Rattle.hz_gmw.proofs.replay.Replay.least_moved.Goals as goal
 

@@ -1,5 +1,7 @@
 use Rattle.std.proofs.Common.{◌≡◌, ◌<◌, ℕ, subst, length, arith}
-use Rattle.hz_gmw.proofs.Words.{network_of, IsUnstable, unstable_count, Replayer}
+use Rattle.hz_net.specs.Network.{network_of, IsUnstable}
+use Rattle.hz_gmw.specs.Instability.{unstable_count}
+use Rattle.hz_gmw.specs.Replayer.{Replayer}
 use Rattle.hz_gmw.proofs.ReplayLemmas.{none-unstable}
 use Rattle.hz_gmw.proofs.replay.Replay.least_unstable.Goals as goal
 

@@ -1,5 +1,6 @@
 use Rattle.std.proofs.Common.{◌≡◌, ◌<◌, ℕ, false}
-use Rattle.hz_gmw.proofs.Words.{network_of, is_unstable}
+use Rattle.hz_net.specs.Network.{network_of}
+use Rattle.hz_gmw.specs.Instability.{is_unstable}
 use Rattle.hz_gmw.proofs.replay.Replay.least_unstable.Given as goal
 
 -- no variable so far is unstable

@@ -1,5 +1,7 @@
 use Rattle.std.proofs.Common.{◌<◌, subst, length, IsTrue}
-use Rattle.hz_gmw.proofs.Words.{network_of, bit_at, IsLeastOf, Replayer}
+use Rattle.hz_net.specs.Network.{network_of, bit_at}
+use Rattle.hz_lists.specs.Least.{IsLeastOf}
+use Rattle.hz_gmw.specs.Replayer.{Replayer}
 use Rattle.hz_gmw.proofs.replay.Replay.least_watched.Goals as goal
 
 pub returns : goal.returns

@@ -1,7 +1,11 @@
 use Rattle.std.proofs.Common.{◌≡◌, ◌∙◌, sym, ap, subst, refl, Bool, false, List, [], length, arith}
-use Rattle.hz_gmw.proofs.Words.{length-replicate, network_of, bit_at, unstable_variables, with_bits_of, watched_variables, Replayer, StandsFor, replayer_at}
 use Rattle.std.specs.Vec.{with_items}
-use Rattle.std.proofs.lemmas.List.{with_items_is}
+use Rattle.std.proofs.lemmas.List.{with_items_is, length-replicate}
+use Rattle.hz_net.specs.Network.{network_of, bit_at}
+use Rattle.hz_gmw.specs.Instability.{unstable_variables}
+use Rattle.hz_gmw.specs.CurrentState.{with_bits_of}
+use Rattle.hz_gmw.specs.Watches.{watched_variables}
+use Rattle.hz_gmw.specs.Replayer.{Replayer, StandsFor, replayer_at}
 use Rattle.hz_gmw.proofs.WatchLemmas.{watched-fresh}
 use Rattle.hz_gmw.proofs.ReplayLemmas.{taken-all, replayed-is, stands-at}
 use Rattle.hz_gmw.proofs.replay.Replay.mark.Goals.{After-take_over, After-clear}

@@ -1,5 +1,8 @@
 use Rattle.std.proofs.Common.{rules, ◌≡◌, ◌∙◌, sym, ap, subst, ℕ, Bool, false, List, [], length, replicate}
-use Rattle.hz_gmw.proofs.Words.{network_of, bit_at, unstable_variables, watched_variables, Replayer, StandsFor}
+use Rattle.hz_net.specs.Network.{network_of, bit_at}
+use Rattle.hz_gmw.specs.Instability.{unstable_variables}
+use Rattle.hz_gmw.specs.Watches.{watched_variables}
+use Rattle.hz_gmw.specs.Replayer.{Replayer, StandsFor}
 use Rattle.hz_gmw.proofs.WatchLemmas.{watched-fresh}
 use Rattle.hz_gmw.proofs.ReplayLemmas.{replayed-is, stands-at}
 use Rattle.hz_gmw.proofs.replay.Replay.new.Goals as goal

@@ -1,6 +1,8 @@
 use Rattle.std.proofs.Common.{◌≡◌, ◌∙◌, sym, ap, subst, Bool, false, List, length}
-use Rattle.hz_gmw.proofs.Words.{length-replicate, bit_at, with_bits_of, Replayer, replayer_at}
-use Rattle.hz_gmw.specs.Replayer.{initial_replayer}
+use Rattle.std.proofs.lemmas.List.{length-replicate}
+use Rattle.hz_net.specs.Network.{bit_at}
+use Rattle.hz_gmw.specs.CurrentState.{with_bits_of}
+use Rattle.hz_gmw.specs.Replayer.{Replayer, replayer_at, initial_replayer}
 use Rattle.hz_gmw.proofs.Marks.{length-with_marks}
 use Rattle.hz_gmw.proofs.ReplayLemmas.{taken-all, restart-same}
 use Rattle.hz_gmw.proofs.replay.Replay.restart.Goals as goal

@@ -1,6 +1,9 @@
 use Rattle.std.proofs.Common.{◌≡◌, ◌∙◌, ◌∷◌, ◌++◌, sym, ap, subst, refl, Bool, [], length}
-use Rattle.hz_gmw.proofs.Words.{false≢true, network_of, bit_at, IsStep, watched_variables, Replayer, StandsFor}
-use Rattle.hz_gmw.specs.Replayer.{replayer_after}
+use Rattle.std.proofs.lemmas.Bool.{false≢true}
+use Rattle.hz_net.specs.Network.{network_of, bit_at}
+use Rattle.hz_gmw.specs.Runs.{IsStep}
+use Rattle.hz_gmw.specs.Watches.{watched_variables}
+use Rattle.hz_gmw.specs.Replayer.{Replayer, StandsFor, replayer_after}
 use Rattle.hz_gmw.proofs.Marks.{length-with_marks}
 use Rattle.hz_gmw.proofs.WatchLemmas.{watched-step}
 use Rattle.hz_gmw.proofs.ReplayLemmas.{back-step, step-or-fault, stepped-is, stands-step}

@@ -1,6 +1,13 @@
 use Rattle.std.proofs.Common.{◌≡◌, ◌<◌, ◌≤◌, ◌∙◌, sym, ap, subst, ℕ, Bool, not, false, None, All, IsTrue, length}
-use Rattle.hz_gmw.proofs.Words.{false≢true, eq-eqb, length-replicate, network_of, bit_at, is_listed, is_unstable, unstable_variables, IsLeastOf, least_from, least_repeat}
-use Rattle.hz_gmw.proofs.Words.{Replayer, times_listed}
+use Rattle.std.proofs.lemmas.Bool.{false≢true, eq-eqb}
+use Rattle.std.proofs.lemmas.List.{length-replicate}
+use Rattle.hz_net.specs.Network.{network_of, bit_at}
+use Rattle.hz_lists.specs.Listed.{is_listed}
+use Rattle.hz_gmw.specs.Instability.{is_unstable, unstable_variables}
+use Rattle.hz_lists.specs.Least.{IsLeastOf}
+use Rattle.hz_gmw.specs.LeastListed.{least_from, least_repeat}
+use Rattle.hz_gmw.specs.Replayer.{Replayer}
+use Rattle.hz_gmw.specs.ReplayFaults.{times_listed}
 use Rattle.hz_gmw.proofs.LeastLemmas.{least-repeated}
 use Rattle.hz_gmw.proofs.ReplayLemmas.{at-unstable_variables, none-marked, step-by, stable-fault, stable-listed}
 use Rattle.hz_gmw.proofs.replay.Replay.step_fault.Goals.{After-least_repeated}

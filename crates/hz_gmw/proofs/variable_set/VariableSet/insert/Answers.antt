@@ -1,5 +1,7 @@
 use Rattle.std.proofs.Common.{◌≡◌, ◌∙◌, sym, ap, subst, ◌<◌, Bool, false, true, List, ℕ, length, set, arith}
-use Rattle.hz_gmw.proofs.Words.{length-set, bit_at, AreMembers}
+use Rattle.std.proofs.lemmas.List.{length-set}
+use Rattle.hz_net.specs.Network.{bit_at}
+use Rattle.hz_gmw.specs.VariableSets.{AreMembers}
 use Rattle.hz_gmw.proofs.SetLemmas.{unmarked-read, room-left, AreMembers-insert, counted-insert}
 use Rattle.hz_gmw.proofs.variable_set.VariableSet.insert.Goals as goal
 

@@ -1,5 +1,9 @@
 use Rattle.std.proofs.Common.{◌≡◌, ◌<◌, ◌∙◌, sym, ℕ, length, arith}
-use Rattle.hz_gmw.proofs.Words.{count_by, range_with_len, false≢true, network_of, bit_at, is_watched, watched_variables}
+use Rattle.std.specs.Prelude.{count_by}
+use Rattle.std.specs.List.{range_with_len}
+use Rattle.std.proofs.lemmas.Bool.{false≢true}
+use Rattle.hz_net.specs.Network.{network_of, bit_at}
+use Rattle.hz_gmw.specs.Watches.{is_watched, watched_variables}
 use Rattle.hz_gmw.proofs.LeastLemmas.{least-scanned, none-scanned, scanned-more}
 use Rattle.hz_gmw.proofs.WatchLemmas.{at-watched_variables, none-watched}
 use Rattle.hz_gmw.proofs.watch.Watch.least.Goals.{Start}

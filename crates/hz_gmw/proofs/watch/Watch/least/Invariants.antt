@@ -1,5 +1,6 @@
 use Rattle.std.proofs.Common.{◌≡◌, ◌<◌, ℕ, false}
-use Rattle.hz_gmw.proofs.Words.{network_of, bit_at, is_watched}
+use Rattle.hz_net.specs.Network.{network_of, bit_at}
+use Rattle.hz_gmw.specs.Watches.{is_watched}
 use Rattle.hz_gmw.proofs.watch.Watch.least.Given as goal
 
 -- no variable so far is watched

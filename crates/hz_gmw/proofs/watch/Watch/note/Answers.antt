@@ -1,5 +1,6 @@
 use Rattle.std.proofs.Common.{◌<◌, ◌+◌, ◌∙◌, refl, sym, subst, ℕ, List, length, get_or, drop, arith}
-use Rattle.hz_gmw.proofs.Words.{network_of, RecordsStable}
+use Rattle.hz_net.specs.Network.{network_of}
+use Rattle.hz_gmw.specs.Watches.{RecordsStable}
 use Rattle.hz_gmw.proofs.CurrentStateLemmas.{next-due}
 use Rattle.hz_gmw.proofs.WatchLemmas.{notes-then}
 use Rattle.hz_gmw.proofs.watch.Watch.note.Goals as goal

@@ -1,5 +1,6 @@
 use Rattle.std.proofs.Common.{◌≡◌, Bool, List, length, drop}
-use Rattle.hz_gmw.proofs.Words.{network_of, RecordsStable}
+use Rattle.hz_net.specs.Network.{network_of}
+use Rattle.hz_gmw.specs.Watches.{RecordsStable}
 use Rattle.hz_gmw.proofs.watch.Watch.note.Given as goal
 
 -- the variables so far are noted: with those that are left it is all of them

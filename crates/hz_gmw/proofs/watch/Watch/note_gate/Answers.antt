@@ -1,5 +1,6 @@
 use Rattle.std.proofs.Common.{◌<◌, ◌∷◌, [], ◌∙◌, refl, sym, subst, length, arith}
-use Rattle.hz_gmw.proofs.Words.{network_of, RecordsStable}
+use Rattle.hz_net.specs.Network.{network_of}
+use Rattle.hz_gmw.specs.Watches.{RecordsStable}
 use Rattle.hz_gmw.proofs.WatchLemmas.{notes-node, notes-stable, notes-unstable, no-wire-into}
 use Rattle.hz_gmw.proofs.watch.Watch.note_gate.Goals as goal
 

@@ -1,5 +1,6 @@
 use Rattle.std.proofs.Common.{◌≡◌, ◌-◌, drop}
-use Rattle.hz_gmw.proofs.Words.{count_by, network_of, bit_at}
+use Rattle.std.specs.Prelude.{count_by}
+use Rattle.hz_net.specs.Network.{network_of, bit_at}
 use Rattle.hz_gmw.specs.Watches.{unstable_unchanged}
 use Rattle.hz_gmw.proofs.watch.Watch.without_stable.Given as goal
 
