@@ -35,7 +35,7 @@ pub mod SettledVariables
 -- What holds inside a pass, before and after each gate's turn
 pub mod PassInvariant
 -- A gate's turn in a pass: each unsettled pin differs from its source, so the turn can be taken; what it makes of the state; and that what holds inside a pass holds again after it, with this gate among those that have had their turn
-pub mod Turn
+pub mod PassTurn
 -- One more step of a run: how often variables have changed, where the run ends, and the states on the way
 pub mod StepLemmas
 -- A pass may begin in a turned state and ends in one, and a turned state is determined by its gates
@@ -47,7 +47,7 @@ pub mod PatternExists
 -- The turns of a pass: what holds after so many variables of the order, that each turn has room and keeps it, and that there is a pass wherever one may begin
 pub mod PassTurns
 -- What the results of both algorithms and the ranks say of one change
-pub mod Change
+pub mod ChangeResults
 -- Two passes from a turned state lead back to it, and are the cycle of the change; and the room that they take
 pub mod CycleExists
 -- A settling round is a step, and settles its variables; the rounds can be made one after the other

@@ -11,7 +11,7 @@ use Rattle.hz_reach.proofs.GateTurn.{turn_wires, turn_middle, IsFunction, IsTurn
 use Rattle.hz_reach.specs.Pass.{MayBegin, IsFixed, AreEnough, IsPass}
 use Rattle.hz_reach.proofs.PassInvariant.{IsInside}
 use Rattle.hz_reach.proofs.StepLemmas.{changes-after, listed-none, unchanged-end, contains-after, contains-end}
-use Rattle.hz_reach.proofs.Turn.{IsNext, IsAfterTurn, pass-may-turn, wires-unsettled, flips-unsettled, after-turn, settled-after, inside-after}
+use Rattle.hz_reach.proofs.PassTurn.{IsNext, IsAfterTurn, pass-may-turn, wires-unsettled, flips-unsettled, after-turn, settled-after, inside-after}
 use Rattle.hz_reach.proofs.SettledVariables.{no-input, wire-source, source-gate}
 use Rattle.hz_reach.proofs.TurnedStates.{inside-turned}
 use Rattle.hz_reach.proofs.FlipCounts.{listed}

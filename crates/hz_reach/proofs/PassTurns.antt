@@ -19,7 +19,7 @@ use Rattle.hz_reach.specs.Turns.{has_turn_in, unsettled_pins}
 use Rattle.hz_reach.proofs.SettledVariables.{gate-possible}
 use Rattle.hz_reach.proofs.PassSteps.{underway-few, underway-pass, IsUnderway, underway-after, underway-begin}
 use Rattle.hz_reach.proofs.PatternExists.{pattern-found}
-use Rattle.hz_reach.proofs.Turn.{next-gate}
+use Rattle.hz_reach.proofs.PassTurn.{next-gate}
 
 -- A gate's turn, in a circuit and for values that one round of Algorithm B leaves as they are.
 module _ {netlist : Netlist} {input : List Bool} {ranks : List ℕ} {b : List Tri} (circuit : IsCircuit netlist) (fixed : IsFixed (network_of netlist) input b) (ranked : (i : ℕ) → IsUnknown (value_at b i) → key_at ranks i ≢ 0) where

@@ -13,7 +13,7 @@ use Rattle.hz_reach.proofs.CycleExists.{cycle-found}
 use Rattle.hz_reach.specs.Cycles.{IsCycleOf}
 use Rattle.hz_reach.specs.Pass.{MayBegin, IsPass}
 use Rattle.hz_reach.specs.Turned.{IsTurned}
-use Rattle.hz_reach.proofs.Change.{IsChange, change-fixed, fixed-and-ranked}
+use Rattle.hz_reach.proofs.ChangeResults.{IsChange, change-fixed, fixed-and-ranked}
 use Rattle.hz_reach.proofs.PassTurns.{pass-found}
 use Rattle.hz_reach.proofs.RoundSteps.{rounds-found}
 use Rattle.hz_reach.proofs.SettleRunExists.{before-pass, rounds-may-begin, pass-may-begin, settle-found, settle-end}

@@ -14,7 +14,7 @@ use Rattle.hz_reach.specs.Cycles.{IsSettleRun}
 use Rattle.hz_reach.specs.Pass.{IsFixed, MayBegin, AreEnough, HasRoom, IsPass}
 use Rattle.hz_reach.specs.Rounds.{AreRoundsOf, IsSettlingRun}
 use Rattle.hz_reach.proofs.SettledVariables.{refines-unchanged, known-stable, wire-source, unknown-inside}
-use Rattle.hz_reach.proofs.Change.{IsChange, a-above, change-fixed, unsettled-unknown}
+use Rattle.hz_reach.proofs.ChangeResults.{IsChange, a-above, change-fixed, unsettled-unknown}
 use Rattle.hz_reach.proofs.CycleExists.{twos}
 use Rattle.hz_reach.proofs.StepLemmas.{changes-append, unchanged-end}
 

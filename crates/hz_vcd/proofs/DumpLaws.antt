@@ -1,14 +1,16 @@
 -- A dump, as what its reader takes one part after the other.
 use Rattle.std.proofs.Common.{◌≡◌, ◌∙◌, ℕ, ◌+◌, ◌-◌, Bool, true, false, List, [], ◌∷◌, ◌++◌, length, map, refl, sym, ap, subst, arith, inl, inr, append_assoc}
-use Rattle.hz_vcd.proofs.Words.{range_with_len, append-nil, Netlist, bit_at, Place, head_places, variables_of, end_word, value_word, time_word, state_words, steps_words}
-use Rattle.hz_vcd.proofs.Words.{WordsLeft, Ending, Values, Comes, Goes, Fails, Means, all_words, state_head}
 use Rattle.std.specs.Prelude.{codes}
+use Rattle.std.specs.List.{range_with_len}
+use Rattle.std.proofs.lemmas.List.{append-nil}
+use Rattle.hz_core.specs.Netlist.{Netlist}
+use Rattle.hz_net.specs.Network.{bit_at}
 use Rattle.hz_vcd.specs.declared.fault.VcdFault.{VcdFault}
 use Rattle.hz_vcd.specs.declared.fault.VcdFault.TheVariants as fault
 use Rattle.hz_vcd.specs.Wave.{WaveOf}
-use Rattle.hz_vcd.specs.Dump.{MayStand, StandAt, IsDump}
+use Rattle.hz_vcd.specs.Dump.{Place, MayStand, StandAt, IsDump, head_places, variables_of, end_word, value_word, time_word, state_words, steps_words}
 use Rattle.hz_vcd.specs.FirstWrong.{MayGoOn, HasFormFault, MeansAlone, IsFaultOf}
-use Rattle.hz_vcd.specs.Reading.{Stops, all_places, place_word}
+use Rattle.hz_vcd.specs.Reading.{WordsLeft, Ending, Values, Comes, Goes, Stops, Fails, Means, all_words, all_places, place_word, state_head}
 use Rattle.hz_vcd.proofs.HeadLaws.{flat}
 
 -- words at places, and what comes behind them

@@ -1,14 +1,17 @@
 -- Reading the words of a head.
 use Rattle.std.proofs.Common.{◌≡◌, ◌≢◌, ◌∙◌, ℕ, suc, ◌+◌, ◌-◌, ◌<◌, Bool, true, false, not, List, [], ◌∷◌, ◌++◌, map, refl, sym, ap, subst, arith, append_assoc}
-use Rattle.hz_vcd.proofs.Words.{flat_map, range_with_len, All, All-nil, All-cons, All-head, All-tail, Netlist, IsCircuit, words_of, dump_line, declaration_line, end_word, Place}
-use Rattle.hz_vcd.proofs.Words.{head_places, declaration_of, variables_of, WordsLeft, Ending, Word, BlockEnd, Blocks, Comes, Goes, Past, Stuck, all_words}
 use Rattle.std.specs.Prelude.{codes}
+use Rattle.std.specs.List.{flat_map, range_with_len, All}
 use Rattle.std.specs.Str.{bytes_eq}
 use Rattle.std.proofs.lemmas.Slice.Eq.{bytes_eq-Decides}
-use Rattle.hz_vcd.specs.Dump.{IsBlock, OpensBlock, fixed, command}
+use Rattle.std.proofs.lemmas.List.Elements.{All-nil, All-cons, All-head, All-tail}
+use Rattle.hz_core.specs.Netlist.{Netlist, IsCircuit}
+use Rattle.hz_vcd.specs.Word.{words_of}
+use Rattle.hz_vcd.specs.Printed.{dump_line, declaration_line}
+use Rattle.hz_vcd.specs.Dump.{end_word, IsBlock, OpensBlock, Place, fixed, command, head_places, declaration_of, variables_of}
 use Rattle.hz_vcd.proofs.WordLemmas.{Spells-line, Spells-words}
 use Rattle.hz_vcd.proofs.WrittenLaws.{declaration-words}
-use Rattle.hz_vcd.specs.Reading.{all_places}
+use Rattle.hz_vcd.specs.Reading.{WordsLeft, Ending, Word, BlockEnd, Blocks, Comes, Goes, Past, Stuck, all_words, all_places}
 use Rattle.hz_vcd.proofs.ReadingLaws.{past-word, wrong-word, wrong-end}
 
 -- the parts of lists that are the same

@@ -1,5 +1,3 @@
--- The names that most proofs cite, passed on from one place
-pub mod Words
 -- The digits of codes, one by one
 pub mod CodeLemmas
 -- The words of a text that was written line by line

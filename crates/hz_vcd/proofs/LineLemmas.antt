@@ -1,14 +1,15 @@
 -- The lines of a dump, by what is given to the writer.
 use Rattle.std.proofs.Common.{◌≡◌, ◌∙◌, ℕ, suc, ◌+◌, ◌<◌, Bool, not, List, [], ◌∷◌, ◌++◌, map, take, length, get_or, refl, sym, ap, arith, codes, decimal, append_assoc}
-use Rattle.hz_vcd.proofs.Words.{flat_map, range_with_len, append-nil, bit_at, state_after, end_of, end_word, value_word, time_word, state_words, steps_words, dump_line}
-use Rattle.hz_vcd.proofs.Words.{word_lines, value_line}
+use Rattle.std.specs.List.{flat_map, range_with_len}
 use Rattle.std.proofs.lemmas.Fmt.{decimal_digit}
-use Rattle.std.proofs.lemmas.List.{take_more, length-take}
+use Rattle.std.proofs.lemmas.List.{append-nil, take_more, length-take}
 use Rattle.std.proofs.lemmas.List.Concat.{flat_map-append}
 use Rattle.std.proofs.lemmas.List.Folds.{flat_map-map}
-use Rattle.hz_vcd.specs.Dump.{dump_step}
-use Rattle.hz_vcd.specs.Printed.{word_line}
-use Rattle.hz_vcd.specs.Inside.{change_line}
+use Rattle.hz_net.specs.Network.{bit_at}
+use Rattle.hz_gmw.specs.Runs.{state_after, end_of}
+use Rattle.hz_vcd.specs.Dump.{end_word, value_word, time_word, state_words, dump_step, steps_words}
+use Rattle.hz_vcd.specs.Printed.{dump_line, word_line, word_lines}
+use Rattle.hz_vcd.specs.Inside.{value_line, change_line}
 
 -- the line of a declaration
 pub declaration-line : (code name : List ℕ) →

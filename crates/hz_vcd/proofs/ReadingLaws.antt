@@ -1,10 +1,11 @@
 -- What the parts of the reader say, one after the other.
 use Rattle.std.proofs.Common.{◌≡◌, ◌∙◌, ℕ, ◌+◌, ◌≤◌, Bool, List, [], ◌∷◌, ◌++◌, length, Result, Ok, Err, refl, sym, ap, subst, arith, append_assoc, length-append}
-use Rattle.hz_vcd.proofs.Words.{All-nil, AreFlips, WordsLeft, Ending, Steps, Comes, Goes, Past, Stuck, Fails, Means}
 use Rattle.std.specs.Prelude.{IsErrAnd, MatchResult}
+use Rattle.std.proofs.lemmas.List.Elements.{All-nil}
+use Rattle.hz_vcd.specs.Dump.{AreFlips}
 use Rattle.hz_vcd.specs.declared.fault.VcdFault.{VcdFault}
 use Rattle.hz_vcd.specs.declared.fault.VcdFault.TheVariants as fault
-use Rattle.hz_vcd.specs.Reading.{Stops, Reads}
+use Rattle.hz_vcd.specs.Reading.{WordsLeft, Ending, Steps, Comes, Goes, Stops, Past, Stuck, Fails, Reads, Means}
 
 -- nothing was read
 pub past-none : (ending : Ending) (was : WordsLeft) → Past ending was ending was

@@ -1,16 +1,19 @@
 -- Reading the steps of a dump.
 use Rattle.std.proofs.Common.{◌≡◌, ◌≢◌, ◌∙◌, ℕ, suc, ◌+◌, ◌<◌, ◌≤◌, Bool, true, false, not, cond, List, [], ◌∷◌, ◌++◌, length, map, get_or, set, refl, sym, ap, subst, arith, append_assoc, inl, inr, ◌⊎◌, ◌||◌}
-use Rattle.hz_vcd.proofs.Words.{All, append-nil, All-nil, All-cons, All-head, All-tail, All-append, bit_at, IsRepeatFree, state_after, end_of, length-state_after, AreFlips}
-use Rattle.hz_vcd.proofs.Words.{value_word, time_word, steps_words, WordsLeft, Steps, Changes, Goes, Past, Stuck, Means, AreAt}
+use Rattle.std.specs.List.{All}
 use mathlib.Core.Bool.{beq}
 use Rattle.std.specs.Prelude.{nat_eq}
 use Rattle.std.proofs.lemmas.Bool.{eqb-true, eq-eqb, false≢true}
 use Rattle.std.proofs.lemmas.Bool.Decides.{nat_tests}
-use Rattle.std.proofs.lemmas.List.{length-append, length-set, get_or-set_same, get_or-set_other, ext_get_or}
-use Rattle.hz_lists.specs.Listed.{is_listed}
+use Rattle.std.proofs.lemmas.List.{append-nil, length-append, length-set, get_or-set_same, get_or-set_other, ext_get_or}
+use Rattle.std.proofs.lemmas.List.Elements.{All-nil, All-cons, All-head, All-tail, All-append}
+use Rattle.hz_net.specs.Network.{bit_at}
+use Rattle.hz_lists.specs.Listed.{IsRepeatFree, is_listed}
+use Rattle.hz_gmw.specs.Runs.{state_after, end_of}
 use Rattle.hz_lists.proofs.ListedLemmas.{listed-append}
-use Rattle.hz_gmw.proofs.Flips.{at-state_after}
-use Rattle.hz_vcd.specs.Reading.{StepGoesOn}
+use Rattle.hz_gmw.proofs.Flips.{length-state_after, at-state_after}
+use Rattle.hz_vcd.specs.Dump.{AreFlips, value_word, time_word, steps_words}
+use Rattle.hz_vcd.specs.Reading.{WordsLeft, Steps, Changes, StepGoesOn, Goes, Past, Stuck, Means, AreAt}
 use Rattle.hz_vcd.proofs.LineLemmas.{end_of-append}
 use Rattle.hz_vcd.proofs.ReadingLaws.{past-word, wrong-word, wrong-end}
 use Rattle.hz_vcd.proofs.HeadLaws.{same-first, same-later, none-is}

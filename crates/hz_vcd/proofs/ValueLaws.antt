@@ -1,14 +1,18 @@
 -- Reading the bits of a state.
 use Rattle.std.proofs.Common.{◌≡◌, ◌≢◌, ◌∙◌, ℕ, ◌+◌, ◌-◌, ◌<◌, ◌≤◌, Bool, true, false, List, [], ◌∷◌, ◌++◌, length, map, take, get_or, replicate, Some, refl, sym, ap, arith, codes}
-use Rattle.hz_vcd.proofs.Words.{range_with_len, All-nil, bit_at, code_of, words_of, AreFlips, end_word, value_word, steps_words, WordsLeft, Word, Values, Steps, Goes, Past, Stuck}
-use Rattle.hz_vcd.proofs.Words.{state_head}
 use Rattle.std.specs.Prelude.{MatchBool, ◌*◌, ◌/◌, ◌%◌}
 use Rattle.std.specs.Str.{bytes_eq}
+use Rattle.std.specs.List.{range_with_len}
 use Rattle.std.proofs.lemmas.List.{take_more, take_all, length-append, length-replicate, same_from_push}
 use lib.Seq.{take-append_seam}
+use Rattle.std.proofs.lemmas.List.Elements.{All-nil}
+use Rattle.hz_net.specs.Network.{bit_at}
 use Rattle.hz_text.specs.Printed.{letter_of}
 use Rattle.std.proofs.lemmas.Fmt.{decimal_digit}
-use Rattle.hz_vcd.specs.Reading.{IsValueRead}
+use Rattle.hz_vcd.specs.Code.{code_of}
+use Rattle.hz_vcd.specs.Word.{words_of}
+use Rattle.hz_vcd.specs.Dump.{AreFlips, end_word, value_word, steps_words}
+use Rattle.hz_vcd.specs.Reading.{WordsLeft, Word, Values, Steps, Goes, Past, Stuck, state_head, IsValueRead}
 use Rattle.hz_vcd.proofs.ReadingLaws.{past-word, wrong-word, wrong-end}
 use Rattle.hz_vcd.proofs.HeadLaws.{same-first, same-later, none-is, range-next, equal-word, differing-word}
 use Rattle.hz_vcd.proofs.CodeLemmas.{CodeOf, one, two, three, code-cases}

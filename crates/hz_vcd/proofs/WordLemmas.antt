@@ -1,12 +1,13 @@
 -- The words of a text that was written line by line.
 use Rattle.std.proofs.Common.{◌≡◌, ◌∙◌, ℕ, ◌≤◌, ◌==◌, Bool, true, false, cond, List, [], ◌∷◌, ◌++◌, refl, sym, ap, arith, append_assoc}
-use Rattle.hz_vcd.proofs.Words.{list_all, flat_map, All, and_parts, append-nil, All-head, All-tail, is_dark, is_filled, words_of, dump_line, word_lines}
-use Rattle.std.specs.List.{filter, slice_split, onto_first}
-use Rattle.std.proofs.lemmas.Bool.{not-true}
+use Rattle.std.specs.List.{list_all, flat_map, filter, slice_split, onto_first, All}
+use Rattle.std.proofs.lemmas.Bool.{and_parts, not-true}
 use Rattle.std.proofs.lemmas.Bool.Decides.{nat_tests}
+use Rattle.std.proofs.lemmas.List.{append-nil}
+use Rattle.std.proofs.lemmas.List.Elements.{All-head, All-tail}
 use Rattle.std.proofs.lemmas.List.Splits.{slice_split-cons_yes, slice_split-cons_no}
-use Rattle.hz_vcd.specs.Word.{is_white}
-use Rattle.hz_vcd.specs.Printed.{word_line}
+use Rattle.hz_vcd.specs.Word.{is_white, is_dark, is_filled, words_of}
+use Rattle.hz_vcd.specs.Printed.{dump_line, word_line, word_lines}
 pub use Rattle.hz_vcd.specs.Word.{is_dark}
 
 -- a word: it has bytes, and none of them is white

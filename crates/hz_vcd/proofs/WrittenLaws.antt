@@ -1,12 +1,16 @@
 -- What is written is a dump.
 use Rattle.std.proofs.Common.{◌≡◌, ◌∙◌, ℕ, suc, ◌+◌, ◌<◌, ◌^◌, Bool, true, false, not, List, [], ◌∷◌, ◌++◌, map, length, get_or, refl, sym, ap, subst, arith, codes}
-use Rattle.hz_vcd.proofs.Words.{flat_map, range_with_len, All, All-nil, All-cons, All-append, Netlist, IsCircuit, bit_at, state_after, code_of, words_of, variables_of, end_word}
-use Rattle.hz_vcd.proofs.Words.{declaration_of, Place, head_places, value_word, time_word, state_words, steps_words, AreFlips, dump_line, word_lines}
+use Rattle.std.specs.List.{flat_map, range_with_len, All}
 use Rattle.std.proofs.lemmas.List.{map-append}
-use Rattle.std.proofs.lemmas.List.Elements.{All-from_get_or}
+use Rattle.std.proofs.lemmas.List.Elements.{All-nil, All-cons, All-append, All-from_get_or}
 use Rattle.std.proofs.lemmas.List.FromFn.{length-range_with_len, get_or-range_with_len}
-use Rattle.hz_vcd.specs.Dump.{reference_of, fixed, command, MayStand, StandAt, IsDump, IsBlock}
-use Rattle.hz_vcd.specs.Printed.{dump_head, dump_text}
+use Rattle.hz_core.specs.Netlist.{Netlist, IsCircuit}
+use Rattle.hz_net.specs.Network.{bit_at}
+use Rattle.hz_gmw.specs.Runs.{state_after}
+use Rattle.hz_vcd.specs.Code.{code_of}
+use Rattle.hz_vcd.specs.Word.{words_of}
+use Rattle.hz_vcd.specs.Dump.{variables_of, end_word, declaration_of, reference_of, Place, fixed, command, head_places, MayStand, StandAt, value_word, time_word, state_words, steps_words, AreFlips, IsDump, IsBlock}
+use Rattle.hz_vcd.specs.Printed.{dump_line, word_lines, dump_head, dump_text}
 use Rattle.hz_vcd.proofs.WordLemmas.{IsWord, Spells, Spells-append, Spells-each, Spells-line, Spells-word_lines, Spells-words}
 use Rattle.hz_vcd.proofs.WrittenWords.{IsWord-code, IsWord-value, IsWord-time, IsWord-reference}
 

@@ -1,19 +1,20 @@
 -- The words of dumps have bytes, and no white ones.
 use Rattle.std.proofs.Common.{◌≡◌, ◌∙◌, ℕ, zero, suc, ◌+◌, ◌<◌, ◌≤◌, ◌^◌, ◌/◌, ◌%◌, Bool, true, false, List, [], ◌∷◌, ◌++◌, map, length, refl, ap, arith, inl, inr, decimal, nat_le, ◌&&◌}
-use Rattle.hz_vcd.proofs.Words.{list_all, and_parts, Netlist, IsCircuit, code_of, is_filled, value_word, time_word}
+use Rattle.std.specs.List.{list_all}
 use Rattle.std.specs.Int.Digits.{digits_of, AllBelowBase}
-use Rattle.std.proofs.lemmas.Bool.{cases_lt, leb-true}
+use Rattle.std.proofs.lemmas.Bool.{cases_lt, and_parts, leb-true}
 use Rattle.std.proofs.lemmas.Int.Digits.{digits_of_step, all_below_base_digits_of}
 use Rattle.std.proofs.lemmas.List.Folds.{list_all-append}
-use Rattle.hz_core.specs.Netlist.{IsName, variable_count, node_name, is_name_byte}
+use Rattle.hz_core.specs.Netlist.{Netlist, IsCircuit, IsName, variable_count, node_name, is_name_byte}
 use Rattle.hz_net.specs.Network.{network_of}
 use Rattle.hz_net.proofs.Places.{length-network_of}
 use Rattle.hz_text.specs.Printed.{letter_of}
 use Rattle.hz_text.specs.VariableWord.{variable_word, wire_word}
 use Rattle.hz_text.proofs.DecimalLemmas.{decimal-digits, digits-name}
 use Rattle.hz_text.proofs.VariableWords.{wire_at, variable_word-node, variable_word-wire, wire_is_pin, pin-bound}
-use Rattle.hz_vcd.specs.Code.{code_digits}
-use Rattle.hz_vcd.specs.Dump.{reference_of}
+use Rattle.hz_vcd.specs.Code.{code_digits, code_of}
+use Rattle.hz_vcd.specs.Word.{is_filled}
+use Rattle.hz_vcd.specs.Dump.{value_word, time_word, reference_of}
 use Rattle.hz_vcd.proofs.WordLemmas.{is_dark, dark-above, dark-bytes, IsWord, IsWord-cons}
 
 dark-digits : (digits : List ℕ) → AllBelowBase 94 digits → list_all is_dark (map (λ digit. 33 + digit) digits) ≡ true

@@ -12,7 +12,7 @@ use Rattle.hz_reach.specs.Existence.{SparingRunExists}
 use Rattle.hz_reach.specs.Spread.{IsSparingRun, changes_in}
 use Rattle.hz_reach.proofs.RanksOrderGates.{turns-of}
 use Rattle.hz_reach.specs.Cycles.{IsSettleRun}
-use Rattle.hz_reach.proofs.Change.{IsChange, change-fixed, fixed-and-ranked}
+use Rattle.hz_reach.proofs.ChangeResults.{IsChange, change-fixed, fixed-and-ranked}
 use Rattle.hz_reach.proofs.PassTurns.{pass-found}
 use Rattle.hz_reach.proofs.RoundSteps.{rounds-found}
 use Rattle.hz_reach.proofs.SettleRunExists.{before-pass, rounds-may-begin, pass-may-begin, settle-found}

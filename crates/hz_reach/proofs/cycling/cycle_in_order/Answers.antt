@@ -2,7 +2,7 @@
 use Rattle.std.proofs.Common.{◌≡◌, ◌∙◌, [], ◌++◌, ℕ, List, sym, ap, subst, arith}
 use Rattle.hz_reach.proofs.Words.{length-Refines, network_of, wired-network_of, nil_from_length}
 use Rattle.hz_reach.specs.Cycles.{IsCycleOf}
-use Rattle.hz_reach.proofs.Change.{of-change, change-fixed, fixed-and-ranked}
+use Rattle.hz_reach.proofs.ChangeResults.{of-change, change-fixed, fixed-and-ranked}
 use Rattle.hz_reach.proofs.CycleExists.{stays, cycle-found, cycle-rests, returned, room-twice, room-again}
 use Rattle.hz_reach.proofs.TurnedStates.{turned-may-begin}
 use Rattle.hz_reach.proofs.cycling.cycle_in_order.Goals as goal

@@ -1,7 +1,7 @@
 use Rattle.std.proofs.Common.{◌∙◌, sym}
 use Rattle.hz_reach.proofs.Words.{length-Refines}
 use Rattle.hz_reach.proofs.RanksOrderGates.{ranks-long}
-use Rattle.hz_reach.proofs.Change.{b-long}
+use Rattle.hz_reach.proofs.ChangeResults.{b-long}
 use Rattle.hz_reach.proofs.cycling.cycle_run.Goals as goal
 
 -- there are as many ranks as variables

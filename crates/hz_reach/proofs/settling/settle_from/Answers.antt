@@ -3,7 +3,7 @@ use Rattle.std.proofs.Common.{◌≡◌, ◌∙◌, ◌++◌, append_assoc, ℕ,
 use Rattle.hz_reach.proofs.Words.{length-Refines, network_of, end_of, length-end_of}
 use Rattle.hz_reach.proofs.Room.{spends-more}
 use Rattle.hz_reach.specs.Cycles.{IsSettleRun}
-use Rattle.hz_reach.proofs.Change.{of-both, change-fixed, fixed-and-ranked}
+use Rattle.hz_reach.proofs.ChangeResults.{of-both, change-fixed, fixed-and-ranked}
 use Rattle.hz_reach.proofs.SettleRunExists.{spent-so-far, before-pass, round-ranked, rounds-may-begin, rounds-room, pass-may-begin, pass-room, settle-found, settle-end}
 use Rattle.hz_reach.proofs.settling.settle_from.Goals as goal
 

@@ -1,7 +1,8 @@
 -- One word after the other.
 use Rattle.std.proofs.Common.{ℕ, List}
-use Rattle.hz_vcd.proofs.Words.{words_of, Past, Fails, all_words}
 use Rattle.std.proofs.Common.{subst, sym}
+use Rattle.hz_vcd.specs.Word.{words_of}
+use Rattle.hz_vcd.specs.Reading.{Past, Fails, all_words}
 use Rattle.hz_vcd.proofs.ReadingLaws.{past-none, past-past, past-fails, reads-exit}
 use Rattle.hz_vcd.proofs.HeadLaws.{all-goes}
 use Rattle.hz_vcd.proofs.head.expect_all.Goals as goal

@@ -1,5 +1,6 @@
 use Rattle.std.proofs.Common.{length, []}
-use Rattle.hz_vcd.proofs.Words.{words_of, Ending, Goes, Past, all_words}
+use Rattle.hz_vcd.specs.Word.{words_of}
+use Rattle.hz_vcd.specs.Reading.{Ending, Goes, Past, all_words}
 use Rattle.hz_vcd.proofs.head.expect_all.Given as goal
 
 -- the words so far were read

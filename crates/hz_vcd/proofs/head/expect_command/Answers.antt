@@ -1,5 +1,6 @@
 -- The first word, and then the later ones.
-use Rattle.hz_vcd.proofs.Words.{words_of, Blocks, all_words}
+use Rattle.hz_vcd.specs.Word.{words_of}
+use Rattle.hz_vcd.specs.Reading.{Blocks, all_words}
 use Rattle.hz_vcd.proofs.ReadingLaws.{past-reads, reads-exit}
 use Rattle.hz_vcd.proofs.HeadLaws.{all-goes}
 use Rattle.hz_vcd.proofs.head.expect_command.Goals as goal

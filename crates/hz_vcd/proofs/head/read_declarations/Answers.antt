@@ -1,6 +1,9 @@
 -- One declaration after the other.
 use Rattle.std.proofs.Common.{◌≡◌, ◌∙◌, ◌+◌, ◌-◌, ◌<◌, ℕ, List, sym, ap, subst, arith}
-use Rattle.hz_vcd.proofs.Words.{flat_map, range_with_len, words_of, variables_of, declaration_of, Ending, Past, all_words}
+use Rattle.std.specs.List.{flat_map, range_with_len}
+use Rattle.hz_vcd.specs.Word.{words_of}
+use Rattle.hz_vcd.specs.Dump.{variables_of, declaration_of}
+use Rattle.hz_vcd.specs.Reading.{Ending, Past, all_words}
 use Rattle.hz_vcd.proofs.ReadingLaws.{past-none, past-past, past-fails, reads-exit}
 use Rattle.hz_vcd.proofs.HeadLaws.{declarations, declaration-is, all-goes, all_words-append, range-next}
 use Rattle.hz_vcd.proofs.head.read_declarations.Goals as goal

@@ -1,5 +1,7 @@
 use Rattle.std.proofs.Common.{◌-◌, []}
-use Rattle.hz_vcd.proofs.Words.{flat_map, range_with_len, variables_of, declaration_of, Ending, Goes, Past, all_words}
+use Rattle.std.specs.List.{flat_map, range_with_len}
+use Rattle.hz_vcd.specs.Dump.{variables_of, declaration_of}
+use Rattle.hz_vcd.specs.Reading.{Ending, Goes, Past, all_words}
 use Rattle.hz_vcd.proofs.HeadLaws.{declarations}
 use Rattle.hz_vcd.proofs.head.read_declarations.Given as goal
 

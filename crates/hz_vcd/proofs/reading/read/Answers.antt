@@ -1,8 +1,9 @@
 -- The head, the state and the steps.
 use Rattle.std.proofs.Common.{Bool, List, ℕ, [], length, refl, sym, ap, subst, arith}
-use Rattle.hz_vcd.proofs.Words.{words_of, variables_of, WordsLeft, Fails, Means, Goes, Values, Steps, all_words, state_head}
+use Rattle.hz_vcd.specs.Word.{words_of}
+use Rattle.hz_vcd.specs.Dump.{variables_of}
 use Rattle.hz_vcd.specs.FirstWrong.{MeansAlone, IsFaultOf}
-use Rattle.hz_vcd.specs.Reading.{StateRead}
+use Rattle.hz_vcd.specs.Reading.{WordsLeft, Fails, Means, Goes, Values, Steps, StateRead, all_words, state_head}
 use Rattle.hz_vcd.proofs.ReadingLaws.{past-past, past-fails, past-means, any-exit}
 use Rattle.hz_vcd.proofs.HeadLaws.{all-goes}
 use Rattle.hz_vcd.proofs.ValueLaws.{values-go}

@@ -1,9 +1,12 @@
 -- One step after the other.
 use Rattle.std.proofs.Common.{◌∙◌, ℕ, Bool, List, [], ◌∷◌, ◌++◌, length, sym, ap, subst, arith}
-use Rattle.hz_vcd.proofs.Words.{All, state_after, length-state_after, AreFlips, Fails, Means, Changes}
+use Rattle.std.specs.List.{All}
 use Rattle.std.proofs.lemmas.List.{length_push}
 use Rattle.std.proofs.lemmas.List.Elements.{All-push}
-use Rattle.hz_vcd.specs.Reading.{StepRead}
+use Rattle.hz_gmw.specs.Runs.{state_after}
+use Rattle.hz_gmw.proofs.Flips.{length-state_after}
+use Rattle.hz_vcd.specs.Dump.{AreFlips}
+use Rattle.hz_vcd.specs.Reading.{Fails, Means, Changes, StepRead}
 use Rattle.hz_vcd.proofs.LineLemmas.{end_of-append}
 use Rattle.hz_vcd.proofs.ReadingLaws.{past-past, past-fails, past-means, match-exit}
 use Rattle.hz_vcd.proofs.StepLaws.{ends-there, at-next}

@@ -1,5 +1,8 @@
 use Rattle.std.proofs.Common.{◌≡◌, ◌+◌, ◌≤◌, [], length}
-use Rattle.hz_vcd.proofs.Words.{All, end_of, AreFlips, Past, Changes, AreAt}
+use Rattle.std.specs.List.{All}
+use Rattle.hz_gmw.specs.Runs.{end_of}
+use Rattle.hz_vcd.specs.Dump.{AreFlips}
+use Rattle.hz_vcd.specs.Reading.{Past, Changes, AreAt}
 use Rattle.hz_vcd.proofs.reading.read_run.Given as goal
 
 -- the steps so far

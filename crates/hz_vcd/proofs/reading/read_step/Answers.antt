@@ -1,12 +1,16 @@
 -- One change after the other, up to the next time or the end.
 use Rattle.std.proofs.Common.{◌≡◌, ◌≢◌, ◌∙◌, ◌+◌, ◌<◌, ℕ, Bool, false, not, List, [], ◌∷◌, ◌++◌, length, get_or, set, sym, ap, subst, arith, inl, inr, rules}
-use Rattle.hz_vcd.proofs.Words.{All, All-nil, bit_at, IsRepeatFree, state_after, end_of, length-state_after, value_word, time_word, Past, Changes, AreAt}
+use Rattle.std.specs.List.{All}
 use Rattle.std.specs.Vec.{vec_len}
 use Rattle.std.proofs.lemmas.List.{length-set, length_push}
-use Rattle.std.proofs.lemmas.List.Elements.{All-push}
-use Rattle.hz_lists.specs.Listed.{is_listed}
-use Rattle.hz_gmw.proofs.Flips.{state_after-none}
+use Rattle.std.proofs.lemmas.List.Elements.{All-nil, All-push}
+use Rattle.hz_net.specs.Network.{bit_at}
+use Rattle.hz_lists.specs.Listed.{IsRepeatFree, is_listed}
+use Rattle.hz_gmw.specs.Runs.{state_after, end_of}
+use Rattle.hz_gmw.proofs.Flips.{length-state_after, state_after-none}
 use Rattle.hz_vcd.specs.declared.fault.VcdFault.TheVariants as fault
+use Rattle.hz_vcd.specs.Dump.{value_word, time_word}
+use Rattle.hz_vcd.specs.Reading.{Past, Changes, AreAt}
 use Rattle.hz_vcd.proofs.ReadingLaws.{past-none, past-past, past-fails}
 use Rattle.hz_vcd.proofs.StepLaws.{turn-wrong, turn-end, turn-change, turn-time, push-changed, out-listed, listed-out, at-push, before-step, empty-is, empty-not}
 use Rattle.hz_lists.proofs.ListedLemmas.{is_repeat_free-push}

@@ -1,5 +1,8 @@
 use Rattle.std.proofs.Common.{◌≡◌, ◌+◌, ◌<◌, ◌≤◌, ℕ, Bool, List, [], length}
-use Rattle.hz_vcd.proofs.Words.{All, IsRepeatFree, state_after, end_of, Past, Changes, AreAt}
+use Rattle.std.specs.List.{All}
+use Rattle.hz_lists.specs.Listed.{IsRepeatFree}
+use Rattle.hz_gmw.specs.Runs.{state_after, end_of}
+use Rattle.hz_vcd.specs.Reading.{Past, Changes, AreAt}
 use Rattle.hz_vcd.proofs.reading.read_step.Given as goal
 
 -- the changes so far

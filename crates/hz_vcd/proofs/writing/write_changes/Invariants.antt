@@ -1,5 +1,6 @@
 use Rattle.std.proofs.Common.{take}
-use Rattle.hz_vcd.proofs.Words.{flat_map, Writes, NoneWaits}
+use Rattle.std.specs.List.{flat_map}
+use Rattle.hz_write.specs.Writer.{Writes, NoneWaits}
 use Rattle.hz_vcd.specs.Inside.{change_line}
 use Rattle.hz_vcd.proofs.writing.write_changes.Given as goal
 

@@ -1,7 +1,8 @@
 -- The words of the line, one after the other.
 use Rattle.std.proofs.Common.{refl}
-use Rattle.hz_vcd.proofs.Words.{writes_then, code_of}
 use Rattle.hz_text.specs.VariableWord.{variable_word}
+use Rattle.hz_write.proofs.Writers.{writes_then}
+use Rattle.hz_vcd.specs.Code.{code_of}
 use Rattle.hz_vcd.proofs.LineLemmas.{declaration-line}
 use Rattle.hz_vcd.proofs.writing.write_declaration.Goals as goal
 

@@ -1,6 +1,9 @@
 -- The state, the lead and the cycle.
 use Rattle.std.proofs.Common.{◌≡◌, ◌+◌, ◌∙◌, ℕ, Bool, List, length, ◌++◌, refl, sym, ap}
-use Rattle.hz_vcd.proofs.Words.{writes_then, writes_same, end_of, state_words, steps_words, word_lines}
+use Rattle.hz_write.proofs.Writers.{writes_then, writes_same}
+use Rattle.hz_gmw.specs.Runs.{end_of}
+use Rattle.hz_vcd.specs.Dump.{state_words, steps_words}
+use Rattle.hz_vcd.specs.Printed.{word_lines}
 use Rattle.hz_vcd.specs.Steps.{steps_of_cycle}
 use Rattle.hz_vcd.proofs.LineLemmas.{run-lines}
 use Rattle.hz_vcd.proofs.writing.write_run.Goals as goal

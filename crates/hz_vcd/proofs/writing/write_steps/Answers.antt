@@ -1,7 +1,9 @@
 -- One step after the other.
 use Rattle.std.proofs.Common.{◌+◌, ◌<◌, ◌∙◌, Bool, List, length, sym, ap, arith}
-use Rattle.hz_vcd.proofs.Words.{writes_then, writes_same, state_after, word_lines}
+use Rattle.hz_write.proofs.Writers.{writes_then, writes_same}
+use Rattle.hz_gmw.specs.Runs.{state_after}
 use Rattle.hz_vcd.specs.Dump.{dump_step}
+use Rattle.hz_vcd.specs.Printed.{word_lines}
 use Rattle.hz_vcd.proofs.LineLemmas.{steps-more, end-more}
 use Rattle.hz_vcd.proofs.writing.write_steps.Goals as goal
 

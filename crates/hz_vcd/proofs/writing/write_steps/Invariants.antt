@@ -1,5 +1,8 @@
 use Rattle.std.proofs.Common.{◌≡◌, take}
-use Rattle.hz_vcd.proofs.Words.{end_of, Writes, NoneWaits, steps_words, word_lines}
+use Rattle.hz_gmw.specs.Runs.{end_of}
+use Rattle.hz_write.specs.Writer.{Writes, NoneWaits}
+use Rattle.hz_vcd.specs.Dump.{steps_words}
+use Rattle.hz_vcd.specs.Printed.{word_lines}
 use Rattle.hz_vcd.proofs.writing.write_steps.Given as goal
 
 -- the steps so far are written, and made

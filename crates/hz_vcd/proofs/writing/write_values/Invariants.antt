@@ -1,4 +1,6 @@
-use Rattle.hz_vcd.proofs.Words.{flat_map, range_with_len, Writes, NoneWaits, value_line}
+use Rattle.std.specs.List.{flat_map, range_with_len}
+use Rattle.hz_write.specs.Writer.{Writes, NoneWaits}
+use Rattle.hz_vcd.specs.Inside.{value_line}
 use Rattle.hz_vcd.proofs.writing.write_values.Given as goal
 
 -- the bits of the variables so far

@@ -1,9 +1,12 @@
 -- The state is that of the nodes; what is given is a dump.
 use Rattle.std.proofs.Common.{◌∙◌, ℕ, ◌<◌, Bool, List, length, ◌++◌, sym, ap, subst, arith, append_assoc, length-append}
-use Rattle.hz_vcd.proofs.Words.{All, All-append, writes_then, writes_same, AreFlips, variables_of, state_words, steps_words, word_lines}
+use Rattle.std.specs.List.{All}
+use Rattle.std.proofs.lemmas.List.Elements.{All-append}
 use Rattle.hz_net.specs.Variables.{expansion_of}
 use Rattle.hz_net.proofs.Places.{length-expansion_of}
-use Rattle.hz_vcd.specs.Printed.{dump_head, dump_text}
+use Rattle.hz_write.proofs.Writers.{writes_then, writes_same}
+use Rattle.hz_vcd.specs.Dump.{AreFlips, variables_of, state_words, steps_words}
+use Rattle.hz_vcd.specs.Printed.{word_lines, dump_head, dump_text}
 use Rattle.hz_vcd.specs.Steps.{steps_of_cycle}
 use Rattle.hz_vcd.proofs.WrittenLaws.{written_is_dump}
 use Rattle.hz_vcd.proofs.writing.write_within.Goals as goal

@@ -1,7 +1,7 @@
 -- The spread run goes first, and has room.
 use Rattle.std.proofs.Common.{◌∙◌, sym}
 use Rattle.hz_net.specs.Network.{network_of}
-use Rattle.hz_reach.proofs.Change.{of-both}
+use Rattle.hz_reach.proofs.ChangeResults.{of-both}
 use Rattle.hz_witness.proofs.Shown.{settle-nodes}
 use Rattle.hz_witness.proofs.witness.settle.Goals as goal
 

@@ -1,5 +1,5 @@
 -- What both algorithms give is as long as the network.
-use Rattle.hz_reach.proofs.Change.{of-both, change-fixed}
+use Rattle.hz_reach.proofs.ChangeResults.{of-both, change-fixed}
 use Rattle.hz_witness.proofs.witness.try_parts.Goals as goal
 
 pub attempt-requires-clause-start : goal.attempt-requires-clause-start
