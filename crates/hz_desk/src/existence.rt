@@ -2,9 +2,9 @@
 ghost use Rattle.hz_desk.specs.Existence.{FindingsExist};
 
 use crate::room::filled_is_right;
-use hz_reach::{run_counts, settle_runs_exist, spread_flips, spread_runs_exist};
 use hz_free::{marks_exist, words_change, words_exist};
 use hz_net::passes_end;
+use hz_reach::{run_counts, settle_runs_exist, spread_flips, spread_runs_exist};
 
 /// Every circuit has a right finding from every stable start, under every new input and every cap. So the outcome of an analysis
 /// is known to be there before it is made.

@@ -16,10 +16,10 @@ use crate::quiet::{is_quiet, others_rest, quiet_is_right};
 use crate::races::count_races;
 use crate::runs::make_runs;
 use hz_core::Memory;
-use hz_reach::{Change, Results, Scratch, a_is_exact, runs_show_b};
 use hz_free::{Free, words_change, words_cover};
 use hz_gmw::{Follower, a_covers, b_covers};
 use hz_net::Net;
+use hz_reach::{Change, Results, Scratch, a_is_exact, runs_show_b};
 use std::alloc::Global;
 
 /// What an analysis works with, and the finding that it fills.

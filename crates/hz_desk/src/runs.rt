@@ -12,8 +12,11 @@ ghost use Rattle.hz_desk.specs.RunProgress.{BeginAlike};
 ghost use Rattle.hz_desk.specs.Room.{HasRunRoom};
 
 use hz_core::Tri;
-use hz_reach::{Change, Results, Scratch, add_unused, cycle_in_order, run_counts, settle_from, sparing_in_order, spread_flips};
 use hz_gmw::Run;
+use hz_reach::{
+    Change, Results, Scratch, add_unused, cycle_in_order, run_counts, settle_from,
+    sparing_in_order, spread_flips,
+};
 
 // Makes the three runs in place of those that were there, by what both passes gave. Returns how many steps the spread run and the
 // settle run have in common at their beginning.

@@ -14,11 +14,11 @@ ghost use Rattle.hz_edges.specs.Room.{edges_of, IsEdgeRoom};
 
 use hz_bounds::{Range, range_of, tell};
 use hz_core::{Memory, Tri};
-use hz_reach::{Change, Results};
 use hz_desk::Passes;
 use hz_free::Free;
 use hz_gmw::Run;
 use hz_net::Net;
+use hz_reach::{Change, Results};
 use hz_witness::witness_run;
 use hz_word::{Count, Word};
 use std::alloc::Global;

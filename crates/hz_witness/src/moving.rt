@@ -3,8 +3,8 @@
 use crate::components::{source, wires};
 use crate::tables::{is_marked, number_at};
 use hz_core::{Kind, Tri};
-use hz_reach::{Change, Results};
 use hz_net::VarKind;
+use hz_reach::{Change, Results};
 
 /// A change and what is known of it, with a number for each node by which nodes are ordered before their ranks.
 #[derive(Clone, Copy)]

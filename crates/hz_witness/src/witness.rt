@@ -12,8 +12,8 @@ use crate::counting::count_changes;
 use crate::moving::Moving;
 use crate::plan::plan_of;
 use hz_core::{Memory, Tri};
-use hz_reach::{Change, Results, Scratch, settle_from, sparing_in_order};
 use hz_gmw::Run;
+use hz_reach::{Change, Results, Scratch, settle_from, sparing_in_order};
 use std::alloc::Global;
 
 /// One run of a change in which each node that Algorithm A makes X changes, and how often it changes each variable. In its last state each
