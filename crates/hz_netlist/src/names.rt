@@ -137,31 +137,6 @@ impl<'a> NameTable<'a> {
         Ok(place as u32)
     }
 
-    // The number of a name that a line defines; a new name comes last. The table keeps the name as
-    // it stands in this line, so the names of gates are read in the order of the text later.
-    fn sight_defined(&mut self, name: &'a [u8]) -> Result<u32, Memory>
-        ensures seen { OnOk result (self.new ≡ with_sight self.old name.now) }
-        ensures number { IfOk result (λ number. position (bytes_eq name.now)
-            (seen_names self.new) ≡ Some number) }
-        ensures err { OnErr result (self.new ≡ self.old) }
-    {
-        let Ok(_) = u32::try_from(self.names.len()) else {
-            return Err(Memory);
-        };
-        self.lines.reserve(1)?;
-        let Ok((place, known)) = self.names.replace_full(Name::new(name)) else {
-            return Err(Memory);
-        };
-        let is_new = known.is_none();
-        if is_new {
-            self.lines.push_reserved(Lines {
-                definer: None,
-                user: None,
-            });
-        }
-        Ok(place as u32)
-    }
-
     /// Notes that a line defines a name; the first line that did before, if one did.
     pub fn define(&mut self, number: u32, line: u32) -> Option<u32>
         requires { number < length self.old }
@@ -196,7 +171,7 @@ impl<'a> NameTable<'a> {
         ensures first { IfOk result (λ one. one.first ≡ definer_in self.old name.now) }
         ensures err { OnErr result (self.new ≡ self.old) }
     {
-        let number = self.sight_defined(name)?;
+        let number = self.sight(name)?;
         let first = self.define(number, line);
         Ok(Definition { number, first })
     }
