@@ -29,6 +29,10 @@ def run(words, out):
     return DOES_NOT_HOLD if words.fail and any(change.stopped or not change.kept or hazards(change) for change in found.after) else DONE
 
 
+# What may help a loop that no order settles, as the wires that race need not move.
+CUT = "; if a loop has a part that is slower than all else, cut it there: write the last gate of that part as yn, and y = DFF(yn)"
+
+
 def hazards(change):
     """The rows of a change that are not clean."""
     return [row for row in change.rows.values() if not is_clean(row)]
@@ -54,8 +58,12 @@ def _counted(found):
         return "no hazard, so no order is needed"
     named = [f"{row.name} {kind_of(row)} in change {change.number}" for change in found.after for row in hazards(change)]
     more = [f".. and {len(named) - MOST_NAMED} more"] if len(named) > MOST_NAMED else []
-    left = (after or "none") + (": " + ", ".join(named[:MOST_NAMED] + more) if named else "")
+    left = (after or "none") + (": " + ", ".join(named[:MOST_NAMED] + more) if named else "") + (CUT if any(map(_is_unsettled, found.after)) else "")
     return f"before: {before}; left: {left}" if found.chosen else f"no order helps; left: {left}"
+
+
+def _is_unsettled(change):
+    return any(row.kind == "unsettled" for row in change.rows.values())
 
 
 def _told_of(changes):

@@ -76,7 +76,7 @@ class Mender:
     """Looks for orders that make a node clean in a change. `hazard edges` is asked of each that is told."""
 
     def __init__(self, words, circuit, network, change, node):
-        self.words, self.node, self.network, self.calls = words, node, network, 0
+        self.words, self.node, self.network, self.calls, self.mended = words, node, network, 0, {}
         self.ranks, cone = Ranks(network, change.rows), network.cone(network.number[node])
         self.roots, self.names = ([name for name in _hazards(circuit, change, at_roots) if network.number[name] in cone] for at_roots in (True, False))
         given = [statement for statement in script.read(words.script) if statement.keyword in script.ASSUMING]
@@ -128,7 +128,14 @@ class Mender:
             return False
         text = "\n".join([*self.before, *(one.line() for one in block), self.after, ""])
         change, = self.words.program.edges_of_text(self.words.netlist, text)
-        return change.kept and is_clean(change.rows[self.node])
+        if not change.kept or not is_clean(change.rows[self.node]):
+            return False
+        self.mended[tuple(one.key() for one in block)] = change.rows[self.node]
+        return True
+
+    def row(self, block):
+        """The row of the node under assumptions that were found."""
+        return self.mended[tuple(one.key() for one in block)]
 
     def _least(self, block, rest):
         """Those of a block which are needed besides the rest: with all of it the node is clean, with the rest alone it is not."""

@@ -78,12 +78,19 @@ def _orders(words, network, change, node):
     circuit = network.netlist
     if len(circuit.nodes) > MOST_MENDED:
         return [f"no order that makes {node} clean was looked for, as the circuit is large; `hazard-look orders` looks for those of all nodes"]
-    found = Mender(words, circuit, network, change, node).found()
+    mender = Mender(words, circuit, network, change, node)
+    found = mender.found()
     if not found:
         return [f"no order of wires was found that makes {node} clean"]
+    ends = [_end(change.rows[node], mender.row(block)) for block in found]
     if len(found[0]) > 1:
-        return [f"together these make {node} clean, and none of them can go:"] + [f"  {one.line()}: {one.told()}" for one in found[0]]
-    return [f"{one.line()} alone makes {node} clean: {one.told()}" for one, in found]
+        return [f"together these make {node} clean{ends[0]}, and none of them can go:"] + [f"  {one.line()}: {one.told()}" for one in found[0]]
+    return [f"{one.line()} alone makes {node} clean{end}: {one.told()}" for end, (one,) in zip(ends, found)]
+
+
+def _end(row, mended):
+    """Where an unsettled node ends under orders, which choose the winner of its race: that one need not be the wanted one."""
+    return "" if row.kind != "unsettled" else f" (it {'goes to' if mended.moves() else 'keeps'} {mended.end})"
 
 
 def change_of(words, report):
