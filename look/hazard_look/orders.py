@@ -30,7 +30,7 @@ def run(words, out):
 
 
 # What may help a loop that no order settles, as the wires that race need not move.
-CUT = "; if a loop has a part that is slower than all else, cut it there: write the last gate of that part as yn, and y = DFF(yn)"
+CUT = "; if a loop has a part that is slower than all else, cut it there: its last gate becomes yn, and y = DFF(yn)"
 
 
 def hazards(change):

@@ -62,11 +62,12 @@ def _proposed(folder, call, write, example):
     for name, said in STAY.items():
         status, text = call(["orders"] + example(name))
         yield f"orders for {name}", (status, text[:len(said)]), (0, said)
+        yield f"what may help {name}", "y = DFF(yn)" in text, "unsettled" in text
         yield f"orders for {name} that are to fail", call(["orders", "--fail"] + example(name))[0], int("left" in said)
     sentence = "wire r(2) no later than s(2), s, r(1): 1 wire against 1 gate and 2 wires"
     yield "the sentence", call(["orders"] + example("flipflop")), (0, f"{sentence}; in changes 3, 5\norder r(2) r(1)\nbefore: 3 hazards; left: none\n")
     yield from _exact(folder, call, write, example)
-    yield "an order that mends", call(["why"] + example("flipflop") + ["q"])[1].splitlines()[-1], f"order r(2) r(1) alone makes q clean: {sentence}"
+    yield "an order that mends", call(["why"] + example("flipflop") + ["q"])[1].splitlines()[-1], f"order r(2) r(1) alone makes q clean (it keeps 1): {sentence}"
 
 
 def _exact(folder, call, write, example):
@@ -78,7 +79,7 @@ def _exact(folder, call, write, example):
                                                   "order z(3) z(2) alone makes z clean: n(1), n, z(3) no later than wire z(2): 1 gate and 2 wires against 1 wire"]),
              ("no order", [three, up, "x"], ["no order of wires was found that makes x clean"]), ("a race", example("latch") + ["q"], ["no order of wires was found that makes q clean"]),
              ("a static hazard", example("multiplexer") + ["z"], ["order z(2) z(1) alone makes z clean: n(1), n, b(1), b, z(2) no later than a(1), a, z(1): 2 gates and 3 wires against 1 gate and 2 wires"]),
-             ("an unsettled node", [micro, muller, "c1", "2"], ["together these make c1 clean, and none of them can go:", "order c1.ab(1) c1.ab(2)", "ideal c1.bc(2)"])]
+             ("an unsettled node", [micro, muller, "c1", "2"], ["together these make c1 clean (it goes to 0), and none of them can go:", "order c1.ab(1) c1.ab(2)", "ideal c1.bc(2)"])]
     for name, words, wanted in cases:
         lines = call(["why"] + words)[1].splitlines()[-len(wanted):]
         yield f"the exact form of {name}", [line.strip()[:len(part)] for line, part in zip(lines, wanted)], wanted

@@ -34,7 +34,7 @@ CIRCUITS = {
     "a D latch of four NANDs": (
         ("a latch loses its bit if its data falls with its enable", "summary", LATCH, "start d=1 e=1\nchange e=0\nchange e=1\nchange d=0 e=0\n", [], 0, ("1 e=0: clean", "q unsettled"), ()),
         ("a latch of four gates: which wire", "why", NO_INVERTER, "start d=1 e=1\nchange e=0\n", ["r"], 0, ("r pulses if wire r(2) is slower than s(2), s, r(1), r: 1 wire against 2 gates and 2 wires",), ()),
-        ("the order that its layout has to keep", "why", NO_INVERTER, "start d=1 e=1\nchange e=0\n", ["q"], 0, ("order r(2) r(1) alone makes q clean: wire r(2) no later than s(2), s, r(1): 1 wire against 1 gate and 2 wires",), ()),
+        ("the order that its layout has to keep", "why", NO_INVERTER, "start d=1 e=1\nchange e=0\n", ["q"], 0, ("order r(2) r(1) alone makes q clean (it keeps 1): wire r(2) no later than s(2), s, r(1): 1 wire against 1 gate and 2 wires",), ()),
         ("with an inverter it keeps its bit", "summary", LATCH, "start d=1 e=1\nchange e=0\n", [], 0, ("1 e=0: clean",), ()),
     ),
     "a mutex": (
@@ -49,7 +49,7 @@ CIRCUITS = {
     "a micropipeline": (
         ("a pipeline is not for this analysis, and what each node needs is told", "why", PIPELINE, "start req=0 ack=0 c1=0 c2=0\nchange req=1\n", ["c1"], 0, ("c1 in change 1 req=1: unsettled", "c1 ends at 1 if"), ()),
         ("hazard-free if its forks are no slower: it is", "expect", PIPELINE, "start req=0 ack=1 c1=0 c2=0 #expect c1 clean, c2 clean, settled\nideal a1(1)\nideal d1(2)\nchange req=1\nchange ack=0\nchange ack=1\nchange req=0\n", [], 0, ("12 expectations, 0 failed",), ()),
-        ("which forks these are", "why", PIPELINE, "start req=0 ack=1 c1=0 c2=0\nchange req=1\nchange ack=0\nchange ack=1\nchange req=0\n", ["c1", "4"], 0, ("together these make c1 clean, and none of them can go:", "  order a1(1) a1(2): ", "  ideal d1(2): "), ()),
+        ("which forks these are", "why", PIPELINE, "start req=0 ack=1 c1=0 c2=0\nchange req=1\nchange ack=0\nchange ack=1\nchange req=0\n", ["c1", "4"], 0, ("together these make c1 clean (it goes to 0), and none of them can go:", "  order a1(1) a1(2): ", "  ideal d1(2): "), ()),
     ),
     "a clock multiplexer": (
         ("a clock multiplexer cuts a pulse", "summary --fail --outputs", SELECT.replace("{edge}", "rising"), "start ca=0 cb=0 s=0 a2=1 b2=0\n#clock ca\nchange ca=0\nchange s=1\n#clock ca\n", [], 1, ("co pulses across the edge",), ()),
