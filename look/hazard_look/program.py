@@ -193,6 +193,8 @@ def _hint(line, words):
         return "; this `hazard` is older than `hazard-look`: its tables are of all runs"
     if words[0] == "explore" and text and refusal.rstrip().endswith(": order") and _is_line(words[2], int(text[2]), r"\s*start\s"):
         return "; a table begins at one start"
+    if text and refusal.rstrip().endswith(": unknown name") and _is_line(words[2], int(text[2]), r"\s*(order|ideal)\s"):
+        return "; a wire is a gate with the number of its pin, as `q(2)`"
     if refusal.startswith("netlist ") and netlist.lower().endswith((".v", ".sv")):
         return "; Verilog goes by way of Yosys: `hazard-look from-verilog` makes a netlist of it"
     if re.match(r"netlist line \d+: form", refusal) and not netlist.lower().endswith((".blif", ".json")):

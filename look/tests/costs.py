@@ -147,6 +147,6 @@ def verilog(folder, run, write, environment):
     yield "each gate of the source", run(["from-verilog", "--gates", "pulse.v"], folder)[1].count("NOT("), 3
     write(folder, "bad.v", "module x(input a\n")
     for words, status, part in ((["bad.v"], 3, "yosys: bad.v:"), (["none.v"], 6, "none.v: No such file"), (["--top", "none", "top.v"], 3, "yosys: ERROR"),
-                                (["pulse.v", "top.v", "--top", "pulse"], 0, "start a=?")):
+                                (["pulse.v", "top.v", "--top", "pulse"], 0, "start a=?"), (["pulse.v", "top.v"], 0, "# not in the netlist: pulse, as")):
         done = run(["from-verilog"] + words, folder)
         yield f"from Verilog: {words}", (done[0], part in done[2]), (status, True)
