@@ -111,6 +111,8 @@ def _is_clean(hazard, bench, text, node):
 def _jobs(folder, run, call, write, example):
     """Jobs on a script with orders and two starts."""
     bench, script = example("latch")[0], write(folder, "two.txt", STARTS)
+    odd = run(["summary", bench, write(folder, "odd.txt", "start r=1 s=1\nideal q\nchange r=0\n")], folder)
+    yield "a word that is no wire", (odd[0], odd[2].splitlines()[-1]), (4, "hazard-look: hazard: refused: script line 2: unknown name; a wire is a gate with the number of its pin, as `q(2)`")
     with open(bench, encoding="utf-8") as file:
         beside = write(folder, "beside.bench", file.read() + "z = AND(r, s)\n")
     summary = call(["summary", beside, script])[1].splitlines()
