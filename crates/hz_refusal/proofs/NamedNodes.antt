@@ -4,7 +4,8 @@ use Rattle.hz_core.specs.Netlist.{Netlist, IsCircuit, primary_inputs}
 use Rattle.hz_text.specs.declared.fault.TextFault.{TextFault}
 use Rattle.hz_text.specs.declared.fault.TextFault.TheVariants.{Form, Unknown, Twice, Missing, Bit, Order, TooMany, Memory, Mismatch}
 use Rattle.hz_pattern_text.specs.PatternFault.{HasPatternFault, IsPatternRefusal}
-use Rattle.hz_run_text.specs.RunFault.{resolved_run_statements, first_start, first_input, LeavesOut, IsUnassigned, HasRunFault, IsRunRefusal}
+use Rattle.hz_run_text.specs.RunFault.{resolved_run_statements, LeavesOut, IsUnassigned, HasRunFault, IsRunRefusal}
+use Rattle.hz_run_text.specs.RunRules.{first_start, first_input}
 use Rattle.hz_text.specs.Fault.{IsLeastFaultOrMemory}
 use Rattle.hz_script.specs.ScriptFault.{resolved_statements, IsMissing, HasScriptFault, IsScriptRefusal}
 use Rattle.hz_refusal.specs.Refused.{named_node, NamesNode}

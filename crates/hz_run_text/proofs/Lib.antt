@@ -1,10 +1,6 @@
 -- Wires by numbers of pins
 pub mod VariableLemmas
--- The first line past the limits, found by counting
-pub mod BeyondLaws
--- The pass over the size that a run text tells finds the first count that is not the network's
-pub mod MismatchLaws
--- The pass over the order of a run text finds the line that breaks it
+-- What stands at each place of a run text in order
 pub mod OrderLaws
 -- The first answer of the passes over a run text is its least fault
 pub mod RunFaultLaws

@@ -1,7 +1,7 @@
 -- Runs that are built statement by statement, and the prefix of a run text in order.
-use Rattle.std.proofs.Common.{◌≡◌, ◌∙◌, ℕ, ◌+◌, ◌<◌, ◌≤◌, Bool, true, false, cond, List, [], ◌∷◌, ◌++◌, Option, Some, None, suc, length, get_or, drop, map, refl, ap, sym, subst, arith, append_assoc, zero-add}
+use Rattle.std.proofs.Common.{◌≡◌, ◌∙◌, ℕ, ◌+◌, ◌<◌, ◌≤◌, Bool, true, false, cond, List, [], ◌∷◌, ◌++◌, Option, Some, None, suc, length, get_or, drop, map, refl, ap, sym, subst, arith, append_assoc, zero-add, inl, inr}
 use Rattle.std.specs.List.{list_any, flat_map, range_with_len, All}
-use Rattle.std.specs.Option.{IsSome, IfSome, is_none, option_map_or}
+use Rattle.std.specs.Option.{IsSome, IfSome, is_none}
 use Rattle.std.proofs.lemmas.Bool.Decides.{nat_tests}
 use Rattle.std.proofs.lemmas.List.{append-nil, map_push, length-map, drop_more, get_or_default}
 use Rattle.std.proofs.lemmas.List.Elements.{All-nil, All-cons, All-tail}
@@ -11,7 +11,7 @@ use Rattle.hz_lists.proofs.LeastLemmas.{option_min-none}
 use Rattle.hz_core.specs.Netlist.{Netlist}
 use Rattle.hz_line.specs.Statement.{Numbered, first_passing_line}
 use Rattle.hz_run_text.specs.declared.order.Place.{Place}
-use Rattle.hz_run_text.specs.declared.order.Place.TheVariants as place
+use Rattle.hz_run_text.specs.declared.order.Place.TheVariants as at
 use Rattle.hz_run_text.specs.declared.size.Size.{Size}
 use Rattle.hz_run_text.specs.declared.format.Format.{Format}
 use Rattle.hz_run_text.specs.declared.format.Format.TheVariants.{One, Two}
@@ -22,16 +22,15 @@ use Rattle.hz_run_text.specs.RunStatement.{Header, Net, Start, Input, Run, Step,
 use Rattle.hz_run_text.specs.RunResolution.{RunEntry, ResolvedRunStatement, numbered_run_resolution, numbered_run_resolutions, run_resolution_of}
 use Rattle.hz_text.specs.RunParts.{RunOf}
 use Rattle.hz_run_text.specs.RunValue.{with_step_in, with_step}
-use Rattle.hz_run_text.specs.RunFault.{format_in, assignments_in, variables_in, names_unknown, lacks_bit, is_start_line, is_input_line, first_start, first_input}
-use Rattle.hz_run_text.specs.OrderPass.{is_net_line, is_end, place_after, end_out_of_order, runs_out_of_order, out_of_order_with, start_out_of_order, input_out_of_order, net_out_of_order, format_out_of_order, first_misplaced}
-use Rattle.hz_run_text.specs.RunRules.{beyond_from, AssignsBelow, names_node_twice, least_left_out, least_missing_node, first_run_fault}
-use Rattle.hz_run_text.specs.RunText.{step_of, run_statements}
-use Rattle.hz_run_text.specs.RunOrder.{header_lines, statements_without_lines}
-use Rattle.hz_run_text.specs.RunBuilt.{after_format, after_header, place_in, last_place, IsRunAdded}
+use Rattle.hz_run_text.specs.RunFault.{assignments_in, variables_in, names_unknown, is_start_line, is_input_line, beyond_from}
+use Rattle.hz_run_text.specs.RunOrder.{place_after, first_misplaced}
+use Rattle.hz_run_text.specs.RunRules.{AssignsBelow, names_node_twice, lacks_bit, first_start, first_input, least_left_out, least_missing_node, first_run_fault}
+use Rattle.hz_run_text.specs.RunText.{step_of, run_statements, header_lines, statements_without_lines}
+use Rattle.hz_run_text.specs.RunBuilt.{format_in, after_format, after_header, place_in, last_place, is_end, is_run_line, IsRunAdded}
 use Rattle.hz_text.proofs.PassLaws.{unassigned-None, is_none-Some, bit-some, pairs-sound, none_parts, All-unmap, All-from_first_line}
 use Rattle.hz_text.proofs.TextLaws.{first_passing_line-cons}
 use Rattle.hz_text.proofs.BuildLemmas.{or_parts}
-use Rattle.hz_run_text.proofs.OrderLaws.{is_Header, is_Net, is_Start, is_Input}
+use Rattle.hz_run_text.proofs.OrderLaws.{IsInOrder, at_header, at_net, at_start, at_input, next_in_order, is_End, none_after}
 use Rattle.hz_text.specs.declared.fault.TextFault.TheVariants as fault
 
 -- one run more, after the last
@@ -40,12 +39,22 @@ last_place-push [] run = refl
 last_place-push (first ∷ []) run = refl
 last_place-push (first ∷ next ∷ later) run = last_place-push (next ∷ later) run
 
+-- a place among the runs: what holds at each of the three holds where one is after runs
+pub among : (P : Place → Type 0) → P at.Runs → P at.Lead → P at.Cycle → (runs : List RunOf) → P (last_place runs)
+among P before lead cycle [] = before
+among P before lead cycle (run ∷ []) = by_cycle run.cycle
+  where
+    by_cycle : (those : Option (List (List ℕ))) → P (place_in those)
+    by_cycle None = lead
+    by_cycle (Some steps) = cycle
+among P before lead cycle (run ∷ next ∷ later) = among P before lead cycle (next ∷ later)
+
 pub begun : (old : List RunOf) → IsRunAdded old Run (old ++ record { lead = []; cycle = None } ∷ [])
 begun old =
     let run : RunOf = record { lead = []; cycle = None } in
     record {
       statements = flat_map-append run_statements old (run ∷ []);
-      place = ap Some (sym (last_place-push old run));
+      place = among (λ here. place_after here Run ≡ Some at.Lead) refl refl refl old ∙ ap Some (sym (last_place-push old run));
     }
 
 -- the statements of the runs, where this one is the last
@@ -87,7 +96,7 @@ cycle_begun : (lead : List (List ℕ)) (cycle : Option (List (List ℕ))) → Is
 cycle_begun lead None follows = ap (λ front. Run ∷ front ++ Cycle ∷ []) (sym (append-nil (map step_of lead)))
 cycle_begun lead (Some cycle) follows = cc
 
-cycle_place : (cycle : Option (List (List ℕ))) → IsSome (place_after (place_in cycle) Cycle) → place_after (place_in cycle) Cycle ≡ Some place.Cycle
+cycle_place : (cycle : Option (List (List ℕ))) → IsSome (place_after (place_in cycle) Cycle) → place_after (place_in cycle) Cycle ≡ Some at.Cycle
 cycle_place None follows = refl
 cycle_place (Some cycle) follows = cc
 
@@ -104,38 +113,27 @@ added_cycle over run follows =
           ∙ ap Some (sym (last_place-push over (record { lead = run.lead; cycle = Some [] })));
     }
 
--- what follows a statement in order
-pub record IsNextInOrder (here : Place) (statement : ResolvedRunStatement) (later : List (Numbered ResolvedRunStatement)) : Type 0 where
-  pub next : Place
-  pub place : place_after here statement ≡ Some next
-  pub ordered : runs_out_of_order next later ≡ None
-
-pub next_in_order : (here : Place) (first : Numbered ResolvedRunStatement) (later : List (Numbered ResolvedRunStatement)) → is_end first.statement ≡ false → runs_out_of_order here (first ∷ later) ≡ None → IsNextInOrder here first.statement later
-next_in_order here first later on e = by_place (place_after here first.statement) refl (rw on at e)
-  where
-    by_place : (next : Option Place) → place_after here first.statement ≡ next → option_map_or (λ next. runs_out_of_order next later) next (Some first.line) ≡ None → IsNextInOrder here first.statement later
-    by_place None p w = cc
-    by_place (Some next) p w = record { next = next; place = p; ordered = w }
-
-is_End : (statement : ResolvedRunStatement) → is_end statement ≡ true → statement ≡ End
-is_End (Header format) e = cc
-is_End (Net size) e = cc
-is_End (Start assignments) e = cc
-is_End (Input assignments) e = cc
-is_End Run e = cc
-is_End (Step variables) e = cc
-is_End Cycle e = cc
-is_End End e = refl
-
-none_after : (later : List (Numbered ResolvedRunStatement)) → end_out_of_order later ≡ None → later ≡ []
-none_after [] e = refl
-none_after (first ∷ later) e = cc
+-- a statement that stands among runs and is not the end is one of a run's
+pub run_line : (runs : List RunOf) (statement : ResolvedRunStatement) (behind : Place) → is_end statement ≡ false → place_after (last_place runs) statement ≡ Some behind → is_run_line statement ≡ true
+run_line runs (Header format) behind on = among (λ here. place_after here (Header format) ≡ Some behind → false ≡ true) (λ e. cc) (λ e. cc) (λ e. cc) runs
+run_line runs (Net size) behind on = among (λ here. place_after here (Net size) ≡ Some behind → false ≡ true) (λ e. cc) (λ e. cc) (λ e. cc) runs
+run_line runs (Start assigned) behind on = among (λ here. place_after here (Start assigned) ≡ Some behind → false ≡ true) (λ e. cc) (λ e. cc) (λ e. cc) runs
+run_line runs (Input assigned) behind on = among (λ here. place_after here (Input assigned) ≡ Some behind → false ≡ true) (λ e. cc) (λ e. cc) (λ e. cc) runs
+run_line runs Run behind on = λ e. refl
+run_line runs (Step variables) behind on = λ e. refl
+run_line runs Cycle behind on = λ e. refl
+run_line runs End behind on = λ e. cc
 
 -- at the end nothing is left
-pub ended : (here : Place) (first : Numbered ResolvedRunStatement) (later : List (Numbered ResolvedRunStatement)) → is_end first.statement ≡ true → runs_out_of_order here (first ∷ later) ≡ None → statements_without_lines (first ∷ later) ≡ End ∷ []
-ended here first later at e =
-    let none : later ≡ [] = none_after later (rw at at e) in
-    ap (λ statement. statement ∷ statements_without_lines later) (is_End first.statement at) ∙ ap (λ rest. End ∷ statements_without_lines rest) none
+pub ended : (runs : List RunOf) (first : Numbered ResolvedRunStatement) (later : List (Numbered ResolvedRunStatement)) → is_end first.statement ≡ true → IsInOrder (last_place runs) (first ∷ later) → statements_without_lines (first ∷ later) ≡ End ∷ []
+ended runs first later at_end e =
+    let is = is_End first.statement at_end in
+    let next = next_in_order (last_place runs) first later e in
+    let over : Some at.Over ≡ Some next.next =
+    sym (among (λ here. place_after here End ≡ Some at.Over) refl refl refl runs) ∙ ap (place_after (last_place runs)) (sym is) ∙ next.place in
+    let same : next.next ≡ at.Over = cc in
+    let P : Place → Type 0 = λ here. IsInOrder here later in
+    ap (λ statement. statement ∷ statements_without_lines later) is ∙ ap (λ rest. End ∷ statements_without_lines rest) (none_after later (subst P same next.ordered))
 
 -- the entry at a place, before those after it
 pub entries-at : (entries : List RunEntry) (i : ℕ) (entry : RunEntry) → i < length entries → entry ≡ get_or entries i entry → numbered_run_resolutions (drop i entries) ≡ numbered_run_resolution entry ∷ numbered_run_resolutions (drop (i + 1) entries)
@@ -148,13 +146,6 @@ bits_known all nodes whole = λ k d l.
     let low : k < nodes = omega (arith, l, length-map (range_with_len 0 nodes) (assigned_bit all), length-range_with_len 0 nodes) in
     rw (get_or-map-range_with_len (assigned_bit all) 0 nodes k k d low (zero-add k)) (bit-some all k (unassigned-None nodes all whole.whole k low) whole.bits)
 
-first_passes : (test : ResolvedRunStatement → Bool) (after : List (Numbered ResolvedRunStatement) → Option ℕ) (first : Numbered ResolvedRunStatement) (later : List (Numbered ResolvedRunStatement)) → out_of_order_with test after (first ∷ later) ≡ None → (test first.statement ≡ true) × (after later ≡ None)
-first_passes test after first later e = by_test (test first.statement) refl e
-  where
-    by_test : (b : Bool) → test first.statement ≡ b → cond b (after later) (Some first.line) ≡ None → (test first.statement ≡ true) × (after later ≡ None)
-    by_test true t w = (t, w)
-    by_test false t w = cc
-
 -- the first two statements of a run text in order from the start on, and the runs after them
 pub record IsFramed (start input : Numbered ResolvedRunStatement) (later : List (Numbered ResolvedRunStatement)) : Type 0 where
   pub front : statements_without_lines (start ∷ input ∷ later) ≡ Start (assignments_in start.statement) ∷ Input (assignments_in input.statement) ∷ statements_without_lines later
@@ -162,24 +153,24 @@ pub record IsFramed (start input : Numbered ResolvedRunStatement) (later : List 
   pub is_input : input.statement ≡ Input (assignments_in input.statement)
   pub first_start : first_start (start ∷ input ∷ later) ≡ Some (assignments_in start.statement)
   pub first_input : first_input (start ∷ input ∷ later) ≡ Some (assignments_in input.statement)
-  pub runs : runs_out_of_order place.Between later ≡ None
+  pub runs : IsInOrder at.Runs later
 
-framed : (start input : Numbered ResolvedRunStatement) (later : List (Numbered ResolvedRunStatement)) → start_out_of_order (start ∷ input ∷ later) ≡ None → IsFramed start input later
+framed : (start input : Numbered ResolvedRunStatement) (later : List (Numbered ResolvedRunStatement)) → IsInOrder at.Start (start ∷ input ∷ later) → IsFramed start input later
 framed start input later e =
-    let b = first_passes is_start_line input_out_of_order start (input ∷ later) e in
-    let c = first_passes is_input_line (runs_out_of_order place.Between) input later b.1 in
-    let s = is_Start start.statement b.0 in
-    let i = is_Input input.statement c.0 in
-    let no_input : is_input_line start.statement ≡ false = ap is_input_line s in
+    let s = at_start start.line start.statement (input ∷ later) e in
+    let i = at_input input.line input.statement later s.1 in
+    let starts : is_start_line start.statement ≡ true = ap is_start_line s.0 in
+    let no_input : is_input_line start.statement ≡ false = ap is_input_line s.0 in
+    let inputs : is_input_line input.statement ≡ true = ap is_input_line i.0 in
     record {
       front =
-          ap (λ one. one ∷ input.statement ∷ statements_without_lines later) s
-          ∙ ap (λ one. Start (assignments_in start.statement) ∷ one ∷ statements_without_lines later) i;
-      is_start = s;
-      is_input = i;
-      first_start = rw b.0 refl;
-      first_input = rw (no_input, c.0) refl;
-      runs = c.1;
+          ap (λ one. one ∷ input.statement ∷ statements_without_lines later) s.0
+          ∙ ap (λ one. Start (assignments_in start.statement) ∷ one ∷ statements_without_lines later) i.0;
+      is_start = s.0;
+      is_input = i.0;
+      first_start = rw starts refl;
+      first_input = rw (no_input, inputs) refl;
+      runs = i.1;
     }
 
 inputs-below : (inputs : ℕ) (all : List Assigned) → list_any (λ one. is_not_allowed inputs Inputs one.node) all ≡ false → AreBelow inputs all
@@ -247,7 +238,7 @@ pub record AreNamesClear (netlist : Netlist) (statements : List (Numbered Resolv
 -- no pass has an answer
 pub record IsClearRun (netlist : Netlist) (statements : List (Numbered ResolvedRunStatement)) : Type 0 where
   pub names : AreNamesClear netlist statements
-  pub order : first_misplaced statements ≡ None
+  pub order : IsInOrder at.Header statements
   pub few : beyond_from 0 0 statements ≡ None
 
 pub clear_run : (netlist : Netlist) (statements : List (Numbered ResolvedRunStatement)) → first_run_fault netlist statements ≡ None → IsClearRun netlist statements
@@ -256,7 +247,7 @@ clear_run netlist statements h =
     let b = none_parts fault.Twice (first_passing_line names_node_twice statements) _ a.1 in
     let c = none_parts fault.Missing (least_missing_node netlist statements) _ b.1 in
     let d = none_parts fault.Bit (first_passing_line lacks_bit statements) _ c.1 in
-    let e = none_parts fault.Order (first_misplaced statements) _ d.1 in
+    let e = none_parts fault.Order (first_misplaced at.Header statements) _ d.1 in
     let m = option_min-none (least_left_out (first_start statements) (length netlist.names)) (least_left_out (first_input statements) netlist.inputs) c.0 in
     let f = none_parts fault.TooMany (beyond_from 0 0 statements) _ e.1 in
     record { names = record { unknown = a.0; twice = b.0; start = m.0; input = m.1; bit = d.0 }; order = e.0; few = f.0 }
@@ -286,16 +277,15 @@ pub record IsFromStart (netlist : Netlist) (entries states : List RunEntry) : Ty
   pub front : statements_without_lines (numbered_run_resolutions entries) ≡ header_lines size ++ statements_without_lines (numbered_run_resolutions states)
   pub below : All (AssignsBelow (length netlist.names)) states
   pub names : AreNamesClear netlist (numbered_run_resolutions states)
-  pub order : start_out_of_order (numbered_run_resolutions states) ≡ None
+  pub order : IsInOrder at.Start (numbered_run_resolutions states)
 
 -- behind the header of format 2
 from_net :
     (netlist : Netlist) (header : RunEntry) (later : List RunEntry) → All (AssignsBelow (length netlist.names)) later → AreNamesClear netlist (numbered_run_resolutions later) →
-    run_resolution_of header.held ≡ Header Two → net_out_of_order (numbered_run_resolutions later) ≡ None → IsFromStart netlist (header ∷ later) (drop 1 later)
+    run_resolution_of header.held ≡ Header Two → IsInOrder at.Net (numbered_run_resolutions later) → IsFromStart netlist (header ∷ later) (drop 1 later)
 from_net netlist header [] below names is e = let wrong : ◌≡◌ {A = Option ℕ} (Some 0) None = e in cc
 from_net netlist header (net ∷ states) below names is e =
-    let passes = first_passes is_net_line start_out_of_order (numbered_run_resolution net) (numbered_run_resolutions states) e in
-    let tells = is_Net (run_resolution_of net.held) passes.0 in
+    let tells = at_net net.line (run_resolution_of net.held) (numbered_run_resolutions states) e in
     record {
       size = Some tells.0;
       front =
@@ -303,14 +293,25 @@ from_net netlist header (net ∷ states) below names is e =
           ∙ ap (λ one. Header Two ∷ one ∷ statements_without_lines (numbered_run_resolutions states)) tells.1;
       below = All-tail (AssignsBelow (length netlist.names)) net states below;
       names = names-tail netlist (numbered_run_resolution net) (numbered_run_resolutions states) (ap is_start_line tells.1) (ap is_input_line tells.1) names;
-      order = passes.1;
+      order = tells.2;
     }
 
 from_start :
     (netlist : Netlist) (entries : List RunEntry) → All (AssignsBelow (length netlist.names)) entries → AreNamesClear netlist (numbered_run_resolutions entries) →
-    first_misplaced (numbered_run_resolutions entries) ≡ None → IsFromStart netlist entries (after_header entries)
+    IsInOrder at.Header (numbered_run_resolutions entries) → IsFromStart netlist entries (after_header entries)
 from_start netlist [] below names e = let wrong : ◌≡◌ {A = Option ℕ} (Some 0) None = e in cc
-from_start netlist (header ∷ later) below names e = by_format (format_in (run_resolution_of header.held)) refl e
+from_start netlist (header ∷ later) below names e =
+    let P : ResolvedRunStatement → Type 0 = λ first. IsFromStart netlist (header ∷ later) (after_format (format_in first) later) in
+    elim (at_header header.line (run_resolution_of header.held) (numbered_run_resolutions later) e) [
+      | inl (is, order) ↦ subst P (sym is) (record {
+        size = None;
+        front = ap (λ one. one ∷ statements_without_lines (numbered_run_resolutions later)) is;
+        below = low;
+        names = rest One is;
+        order = order;
+      })
+      | inr (is, order) ↦ subst P (sym is) (from_net netlist header later low (rest Two is) is order)
+    ]
   where
     low : All (AssignsBelow (length netlist.names)) later
     low = All-tail (AssignsBelow (length netlist.names)) header later below
@@ -318,22 +319,11 @@ from_start netlist (header ∷ later) below names e = by_format (format_in (run_
     rest : (format : Format) → run_resolution_of header.held ≡ Header format → AreNamesClear netlist (numbered_run_resolutions later)
     rest format is = names-tail netlist (numbered_run_resolution header) (numbered_run_resolutions later) (ap is_start_line is) (ap is_input_line is) names
 
-    by_format :
-        (v : Option Format) → format_in (run_resolution_of header.held) ≡ v → option_map_or (λ format. format_out_of_order format (numbered_run_resolutions later)) v (Some header.line) ≡ None →
-        IsFromStart netlist (header ∷ later) (after_format v later)
-    by_format None t w = cc
-    by_format (Some One) t w =
-        let is = is_Header (run_resolution_of header.held) One t in
-        record { size = None; front = ap (λ one. one ∷ statements_without_lines (numbered_run_resolutions later)) is; below = low; names = rest One is; order = w }
-    by_format (Some Two) t w =
-        let is = is_Header (run_resolution_of header.held) Two t in
-        from_net netlist header later low (rest Two is) is w
-
 -- statements without a fault from the start on, ready to be built
 pub record IsReady (netlist : Netlist) (states : List RunEntry) (start input : List Assigned) : Type 0 where
   pub start_is : IsWholeStart (length netlist.names) start
   pub input_is : IsWholeStart netlist.inputs input
-  pub ordered : runs_out_of_order place.Between (numbered_run_resolutions (drop 2 states)) ≡ None
+  pub ordered : IsInOrder at.Runs (numbered_run_resolutions (drop 2 states))
   pub known : All (λ entry. list_any is_none (variables_in (run_resolution_of entry.held)) ≡ false) (drop 2 states)
   pub front : statements_without_lines (numbered_run_resolutions states) ≡ Start start ∷ Input input ∷ statements_without_lines (numbered_run_resolutions (drop 2 states))
 
@@ -342,21 +332,20 @@ abbrev pub assigned_at : RunEntry → List Assigned
 assigned_at entry = assignments_in (run_resolution_of entry.held)
 
 -- from the start on there are two statements at least
-long_enough : (states : List RunEntry) → start_out_of_order (numbered_run_resolutions states) ≡ None → 2 ≤ length states
+not_alone : (one : RunEntry) → ¬ IsInOrder at.Start (numbered_run_resolutions (one ∷ []))
+not_alone one e = let wrong : ◌≡◌ {A = Option ℕ} (Some 0) None = (at_start one.line (run_resolution_of one.held) [] e).1 in cc
+
+long_enough : (states : List RunEntry) → IsInOrder at.Start (numbered_run_resolutions states) → 2 ≤ length states
 long_enough [] e = let wrong : ◌≡◌ {A = Option ℕ} (Some 0) None = e in cc
-long_enough (one ∷ []) e =
-    let b = first_passes is_start_line input_out_of_order (numbered_run_resolution one) [] e in
-    let wrong : ◌≡◌ {A = Option ℕ} (Some 0) None = b.1 in cc
+long_enough (one ∷ []) e = absurd (not_alone one e)
 long_enough (one ∷ two ∷ later) e = omega arith
 
 ready_at :
     (netlist : Netlist) (states : List RunEntry) → All (AssignsBelow (length netlist.names)) states → AreNamesClear netlist (numbered_run_resolutions states) →
-    start_out_of_order (numbered_run_resolutions states) ≡ None → (start input d : RunEntry) → start ≡ get_or states 0 d → input ≡ get_or states 1 d →
+    IsInOrder at.Start (numbered_run_resolutions states) → (start input d : RunEntry) → start ≡ get_or states 0 d → input ≡ get_or states 1 d →
     IsReady netlist states (assigned_at start) (assigned_at input)
 ready_at netlist [] below clear order start input d s i = let wrong : ◌≡◌ {A = Option ℕ} (Some 0) None = order in cc
-ready_at netlist (one ∷ []) below clear order start input d s i =
-    let b = first_passes is_start_line input_out_of_order (numbered_run_resolution one) [] order in
-    let wrong : ◌≡◌ {A = Option ℕ} (Some 0) None = b.1 in cc
+ready_at netlist (one ∷ []) below clear order start input d s i = absurd (not_alone one order)
 ready_at netlist (one ∷ two ∷ later) below clear order start input d s i =
     let states = one ∷ two ∷ later in
     let inputs = netlist.inputs in

@@ -10,7 +10,7 @@ use Rattle.hz_line.specs.Reading.{by_tokens}
 use Rattle.hz_line.specs.Statement.{Means, meaning_of, meaning_of_tokens}
 use Rattle.hz_line.specs.Token.{TokenOf, WordOf, tokens_of, with_token}
 use Rattle.hz_line.proofs.WrittenLemmas.{tokens_of-space, tokens_of-word_before, is_word_byte-separators}
-use Rattle.hz_run_text.specs.RunKeyword as keyword
+use Rattle.hz_run_text.specs.declared.keyword.RunKeyword.TheVariants as keyword
 use Rattle.hz_run_text.specs.RunStatement.{Variable, Step, run_keyword_of, variables_of_tokens}
 use Rattle.hz_run_text.specs.RunResolution.{resolve_run_tokens, variables_by, variable_named}
 

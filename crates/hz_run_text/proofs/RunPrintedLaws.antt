@@ -1,5 +1,5 @@
 -- A printed run text has no fault, and stands for the run text.
-use Rattle.std.proofs.Common.{◌≡◌, ◌∙◌, ℕ, ◌+◌, ◌<◌, ◌≤◌, suc, Bool, false, nat_eq, nat_lt, List, [], ◌∷◌, ◌++◌, Option, Some, None, length, length-append, get_or, map, refl, ap, sym, subst, arith, append_assoc}
+use Rattle.std.proofs.Common.{◌≡◌, ◌∙◌, ℕ, ◌+◌, ◌<◌, ◌≤◌, suc, Bool, true, false, nat_eq, nat_lt, List, [], ◌∷◌, ◌++◌, Option, Some, None, length, length-append, get_or, map, refl, ap, sym, subst, arith, append_assoc}
 use Rattle.std.specs.List.{flat_map, All, list_any}
 use Rattle.std.specs.Prelude.{sum_by}
 use Rattle.std.specs.Option.{IsSome, is_none, option_map}
@@ -11,21 +11,20 @@ use Rattle.hz_core.specs.Netlist.{Netlist, IsCircuit}
 use Rattle.hz_gmw.specs.RunRecord.{flip_count}
 use Rattle.hz_line.specs.Statement.{first_passing_line}
 use Rattle.hz_run_text.specs.declared.order.Place.{Place}
-use Rattle.hz_run_text.specs.declared.order.Place.TheVariants as place
+use Rattle.hz_run_text.specs.declared.order.Place.TheVariants as at
 use Rattle.hz_text.specs.Assignment.{has_repeat, assignment_to}
 use Rattle.hz_text.specs.Rules.{assigned_nodes}
-use Rattle.hz_run_text.specs.RunStatement.{Header, Net, Start, Input, Run, Cycle, End}
+use Rattle.hz_run_text.specs.RunStatement.{Header, Net, Start, Input, Run, Step, Cycle, End}
 use Rattle.hz_run_text.specs.declared.format.Format.TheVariants.{Two}
-use Rattle.hz_run_text.specs.RunSize.{size_of}
-use Rattle.hz_run_text.proofs.MismatchLaws.{same_size}
+use Rattle.hz_run_text.specs.RunSize.{size_of, difference}
+use Rattle.hz_run_text.specs.declared.size.Size.{Size}
 use Rattle.hz_run_text.specs.RunResolution.{ResolvedRunStatement, resolve_run_tokens}
 use Rattle.hz_text.specs.RunParts.{RunOf, cycle_steps}
 use Rattle.hz_run_text.specs.RunValue.{RunTextOf, all_steps}
-use Rattle.hz_run_text.specs.RunText.{step_of, cycle_statements, run_statements, IsRunTextBy, IsRunValue, IsRunTextFor}
-use Rattle.hz_run_text.specs.RunOrder.{statements_without_lines}
-use Rattle.hz_run_text.specs.RunFault.{resolved_run_statements, variables_in, names_unknown, lacks_bit, steps_in, IsRunFaultless}
-use Rattle.hz_run_text.specs.OrderPass.{place_after_step, runs_out_of_order, first_misplaced}
-use Rattle.hz_run_text.specs.RunRules.{first_mismatch, beyond_from, names_node_twice, least_missing_node, first_run_fault}
+use Rattle.hz_run_text.specs.RunText.{step_of, cycle_statements, run_statements, IsRunTextBy, IsRunValue, IsRunTextFor, statements_without_lines}
+use Rattle.hz_run_text.specs.RunFault.{resolved_run_statements, variables_in, names_unknown, steps_in, beyond_from, first_mismatch, IsRunFaultless}
+use Rattle.hz_run_text.specs.RunOrder.{place_after, first_misplaced}
+use Rattle.hz_run_text.specs.RunRules.{names_node_twice, lacks_bit, least_missing_node, first_run_fault}
 use Rattle.hz_text.specs.Printed.{all_listed}
 use Rattle.hz_run_text.specs.RunPrinted.{run_text_printed}
 use Rattle.hz_text.proofs.BuildLemmas.{assigned_nodes-pairs}
@@ -99,30 +98,38 @@ sent-sound netlist value h =
     let four = All-cons P (Header Two) (net ∷ start ∷ input ∷ []) plain (All-cons P net (start ∷ input ∷ []) size (All-cons P start (input ∷ []) (start-sound netlist.inputs value.nodes) (All-cons P input [] (input-sound netlist.inputs value.input h.inputs) (All-nil P)))) in
     All-append P (Header Two ∷ net ∷ start ∷ input ∷ runs) (End ∷ []) (All-append P (Header Two ∷ net ∷ start ∷ input ∷ []) runs four (runs-sound netlist.inputs value.runs)) (All-cons P End [] last (All-nil P))
 
--- statements of runs and the end stand in order, whatever their lines
+-- statements stand in order, whatever their lines
 abbrev InOrder : Place → List ResolvedRunStatement → Type 0
-InOrder here statements = (line : ℕ) → runs_out_of_order here (numbered line statements) ≡ None
+InOrder here statements = (line : ℕ) → first_misplaced here (numbered line statements) ≡ None
 
-steps-in_order : (here : Place) (steps : List (List ℕ)) (rest : List ResolvedRunStatement) → place_after_step here ≡ Some here → InOrder here rest → InOrder here (map step_of steps ++ rest)
+steps-in_order : (here : Place) (steps : List (List ℕ)) (rest : List ResolvedRunStatement) → ((variables : List (Option ℕ)) → place_after here (Step variables) ≡ Some here) → InOrder here rest → InOrder here (map step_of steps ++ rest)
 steps-in_order here [] rest stays h = h
-steps-in_order here (flips ∷ steps) rest stays h = λ line. rw stays (steps-in_order here steps rest stays h (suc line))
+steps-in_order here (flips ∷ steps) rest stays h = λ line. rw (stays (map Some flips)) (steps-in_order here steps rest stays h (suc line))
 
-cycle-in_order : (cycle : Option (List (List ℕ))) (rest : List ResolvedRunStatement) → ((here : Place) → InOrder here rest) → InOrder place.Lead (cycle_statements cycle ++ rest)
-cycle-in_order None rest h = h place.Lead
-cycle-in_order (Some steps) rest h = λ line. steps-in_order place.Cycle steps rest refl (h place.Cycle) (suc line)
+cycle-in_order : (cycle : Option (List (List ℕ))) (rest : List ResolvedRunStatement) → InOrder at.Lead rest → InOrder at.Cycle rest → InOrder at.Lead (cycle_statements cycle ++ rest)
+cycle-in_order None rest lead cycle = lead
+cycle-in_order (Some steps) rest lead cycle = λ line. steps-in_order at.Cycle steps rest (λ variables. refl) cycle (suc line)
 
-run-in_order : (here : Place) (run : RunOf) (rest : List ResolvedRunStatement) → ((here : Place) → InOrder here rest) → InOrder here (run_statements run ++ rest)
-run-in_order here run rest h = λ line.
-    let after : InOrder place.Lead (map step_of run.lead ++ cycle_statements run.cycle ++ rest) =
-    subst (InOrder place.Lead) (sym (append_assoc (map step_of run.lead) (cycle_statements run.cycle) rest))
-    (steps-in_order place.Lead run.lead (cycle_statements run.cycle ++ rest) refl (cycle-in_order run.cycle rest h)) in
-    after (suc line)
+-- where a run stands in order behind another one, and behind its cycle, it does before the first run
+record AreInOrder (statements : List ResolvedRunStatement) : Type 0 where
+  runs : InOrder at.Runs statements
+  lead : InOrder at.Lead statements
+  cycle : InOrder at.Cycle statements
 
-runs-in_order : (runs : List RunOf) (here : Place) → InOrder here (flat_map run_statements runs ++ End ∷ [])
-runs-in_order [] here = λ line. refl
-runs-in_order (run ∷ runs) here =
-    subst (InOrder here) (sym (append_assoc (run_statements run) (flat_map run_statements runs) (End ∷ [])))
-    (run-in_order here run (flat_map run_statements runs ++ End ∷ []) (runs-in_order runs))
+runs-in_order : (runs : List RunOf) → AreInOrder (flat_map run_statements runs ++ End ∷ [])
+runs-in_order [] = record { runs = λ line. refl; lead = λ line. refl; cycle = λ line. refl }
+runs-in_order (run ∷ runs) =
+    let rest = flat_map run_statements runs ++ End ∷ [] in
+    let those = runs-in_order runs in
+    let after : InOrder at.Lead (map step_of run.lead ++ cycle_statements run.cycle ++ rest) =
+    subst (InOrder at.Lead) (sym (append_assoc (map step_of run.lead) (cycle_statements run.cycle) rest))
+    (steps-in_order at.Lead run.lead (cycle_statements run.cycle ++ rest) (λ variables. refl) (cycle-in_order run.cycle rest those.lead those.cycle)) in
+    let whole = sym (append_assoc (run_statements run) (flat_map run_statements runs) (End ∷ [])) in
+    record {
+      runs = subst (InOrder at.Runs) whole (λ line. after (suc line));
+      lead = subst (InOrder at.Lead) whole (λ line. after (suc line));
+      cycle = subst (InOrder at.Cycle) whole (λ line. after (suc line));
+    }
 
 -- how many variables the steps among statements have
 abbrev variables_count : ResolvedRunStatement → ℕ
@@ -207,6 +214,14 @@ sent-whole netlist value h =
     let inputs = listed-whole (map Some value.input) netlist.inputs (listed-some value.input netlist.inputs h.inputs) in
     rw (nodes, inputs) refl
 
+-- a size does not differ from itself
+same_size : (size : Size) → difference size size ≡ None
+same_size size =
+    let a : nat_eq size.inputs size.inputs ≡ true = grind (arith, nat_tests) in
+    let b : nat_eq size.gates size.gates ≡ true = grind (arith, nat_tests) in
+    let c : nat_eq size.wires size.wires ≡ true = grind (arith, nat_tests) in
+    rw (a, b, c) refl
+
 sent-clear : (netlist : Netlist) (value : RunTextOf) → IsRunTextFor netlist value → first_run_fault netlist (numbered 1 (sent netlist value)) ≡ None
 sent-clear netlist value h =
     let all = numbered 1 (sent netlist value) in
@@ -216,7 +231,7 @@ sent-clear netlist value h =
     let twice : first_passing_line names_node_twice all ≡ None = none-passes names_node_twice 1 (sent netlist value) (λ k d l. (sound k d l).once) in
     let bit : first_passing_line lacks_bit all ≡ None = none-passes lacks_bit 1 (sent netlist value) (λ k d l. (sound k d l).bits) in
     let missing : least_missing_node netlist all ≡ None = sent-whole netlist value h in
-    let order : first_misplaced all ≡ None = runs-in_order value.runs place.Between 5 in
+    let order : first_misplaced at.Header all ≡ None = (runs-in_order value.runs).runs 5 in
     let few : beyond_from 0 0 all ≡ None = none-beyond 0 0 1 (sent netlist value) (omega (arith, count.steps_are, h.few_steps)) (omega (arith, count.variables_are, h.few_variables)) in
     let size : first_mismatch (size_of netlist) all ≡ None = ap (option_map (λ counts. record { line = 2; told = counts.0; real = counts.1 })) (same_size (size_of netlist)) in
     rw (unknown, twice, missing, bit, order, few, size) refl

@@ -17,7 +17,7 @@ use Rattle.hz_line.proofs.WrittenLemmas.{is_word_byte-is, word_bytes, tokens_of-
 use Rattle.hz_write.specs.Writes.{line_of}
 use Rattle.hz_run_text.specs.declared.format.Format.TheVariants.{Two}
 use Rattle.hz_run_text.specs.RunSize.{size_of}
-use Rattle.hz_run_text.specs.RunKeyword as keyword
+use Rattle.hz_run_text.specs.declared.keyword.RunKeyword.TheVariants as keyword
 use Rattle.hz_text.specs.Printed.{assignment_text, statement_text, all_listed}
 use Rattle.hz_text.specs.Assignment.{assignment_to}
 use Rattle.hz_run_text.specs.RunStatement.{Variable, Node, Pin, Header, Net, Start, Input, Run, Step, Cycle, End, with_first, variables_of_tokens, run_keyword_of}

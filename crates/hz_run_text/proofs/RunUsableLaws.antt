@@ -24,10 +24,9 @@ use Rattle.hz_text.specs.Decimal.{number_by}
 use Rattle.hz_run_text.specs.RunResolution.{RunEntry, ResolvedRunStatement, wire_into, variable_named, resolve_run_statement, resolve_numbered_run, numbered_run_resolutions}
 use Rattle.hz_text.specs.RunParts.{RunOf, cycle_steps}
 use Rattle.hz_run_text.specs.RunValue.{RunTextOf, all_steps}
-use Rattle.hz_run_text.specs.RunFault.{variables_in, steps_in}
-use Rattle.hz_run_text.specs.RunRules.{beyond_from, IsAcceptedRunText}
-use Rattle.hz_run_text.specs.RunText.{step_of, cycle_statements, run_statements, IsRunTextBy, IsRunTextFor}
-use Rattle.hz_run_text.specs.RunOrder.{header_lines, statements_without_lines}
+use Rattle.hz_run_text.specs.RunFault.{variables_in, steps_in, beyond_from}
+use Rattle.hz_run_text.specs.RunRules.{IsAcceptedRunText}
+use Rattle.hz_run_text.specs.RunText.{step_of, cycle_statements, run_statements, IsRunTextBy, IsRunTextFor, header_lines, statements_without_lines}
 use Rattle.hz_run_text.proofs.VariableLemmas.{node_named-below}
 use Rattle.hz_text.proofs.BuildLemmas.{or_parts}
 use Rattle.hz_text.proofs.PassLaws.{All-unmap}

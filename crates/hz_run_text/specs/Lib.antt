@@ -3,7 +3,7 @@
 -- most_steps: the limit
 -- Variable, variable_named netlist variable: a node, or a wire as a pin of its gate
 -- StatementOf, run_statement_of tokens: a statement of a run text
--- IsOrdered statements, BreaksOrder statements line: the order of statements
+-- place_after place statement, first_misplaced place statements: the order of statements
 -- ResolvedRunStatement, resolve_run_statement netlist statement: a statement by nodes, bits and variables
 -- HasRunFault netlist text fault: the fault is in a run text
 -- IsLeastRunFault netlist text fault, IsRunFaultless netlist text: the first fault, and none
@@ -13,14 +13,12 @@
 -- run_text netlist run, run_text_printed netlist runs: the text of a run, and of a run text
 
 pub mod Limits
-pub mod RunKeyword
 pub mod RunStatement
 pub mod RunSize
 pub mod RunResolution
 pub mod VariablesRead
 pub mod RunOrder
 pub mod RunFault
-pub mod OrderPass
 pub mod RunRules
 pub mod RunValue
 pub mod RunText

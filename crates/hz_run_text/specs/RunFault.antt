@@ -1,20 +1,21 @@
 -- The faults of a run text.
-use Rattle.std.specs.Prelude.{◌≡◌, ℕ, ◌<◌, Bool, true, false, List, [], ◌∷◌, ◌++◌, length, map, sum_by, Option, Some, None, is_none, ◌⊎◌, if◌then◌else◌}
+use Rattle.std.specs.Prelude.{◌≡◌, ℕ, ◌+◌, ◌<◌, Bool, true, false, ◌||◌, nat_lt, List, [], ◌∷◌, length, map, Option, Some, None, is_none, ◌⊎◌, option_and_then, if◌then◌else◌}
 use Rattle.std.specs.List.{list_any}
-use Rattle.std.specs.Option.{option_map_or}
+use Rattle.std.specs.Option.{option_map, option_map_or}
 use Rattle.hz_core.specs.Netlist.{Netlist}
 use Rattle.hz_line.specs.Statement.{Numbered, PassesOn, Malformed, meaning_at}
 use Rattle.hz_text.specs.declared.fault.TextFault.{TextFault}
 use Rattle.hz_text.specs.declared.fault.TextFault.TheVariants as fault
+use Rattle.hz_text.specs.declared.fault.Mismatch.{Mismatch}
+use Rattle.hz_run_text.specs.declared.order.Place.TheVariants as at
 use Rattle.hz_run_text.specs.declared.size.Size.{Size}
-use Rattle.hz_run_text.specs.declared.format.Format.{Format}
 use Rattle.hz_run_text.specs.declared.format.Format.TheVariants.{Two}
 use Rattle.hz_text.specs.Assignment.{Assigned, Nodes, Inputs, any_unknown, any_twice, any_bitless, assigns}
 use Rattle.hz_text.specs.Fault.{IsLeastFaultOf, IsLeastFaultOrMemory}
-use Rattle.hz_run_text.specs.RunStatement.{StatementOf, Header, Net, Start, Input, Step, RunStatement, run_statement_of, run_statements_of}
-use Rattle.hz_run_text.specs.RunSize.{size_of, counts_of, DifferFirst}
+use Rattle.hz_run_text.specs.RunStatement.{StatementOf, Header, Net, Start, Input, Step, run_statement_of, run_statements_of}
+use Rattle.hz_run_text.specs.RunSize.{size_of, difference}
 use Rattle.hz_run_text.specs.RunResolution.{ResolvedRunStatement, resolve_numbered_run}
-use Rattle.hz_run_text.specs.RunOrder.{BreaksOrder}
+use Rattle.hz_run_text.specs.RunOrder.{first_misplaced}
 use Rattle.hz_run_text.specs.Limits.{most_steps}
 
 -- the statements of a run text, looked up in a network
@@ -39,14 +40,6 @@ names_unknown inputs (Input assigned) = any_unknown inputs Inputs assigned
 names_unknown inputs (Step variables) = list_any is_none variables
 names_unknown inputs _ = false
 
--- the statement assigns a name twice
-abbrev pub names_twice : RunStatement → Bool
-names_twice statement = any_twice (assignments_in statement)
-
--- the statement assigns a word that is no bit
-abbrev pub lacks_bit : ResolvedRunStatement → Bool
-lacks_bit statement = any_bitless (assignments_in statement)
-
 -- the statement is a start
 abbrev pub is_start_line : {A V : Type 0} → StatementOf A V → Bool
 is_start_line (Start assignments) = true
@@ -65,13 +58,6 @@ first_assigned test (first ∷ later) =
     if test first.statement then Some (assignments_in first.statement)
     else first_assigned test later
 
--- what the first start assigns, and what the first input line does
-abbrev pub first_start : List (Numbered ResolvedRunStatement) → Option (List Assigned)
-first_start statements = first_assigned is_start_line statements
-
-abbrev pub first_input : List (Numbered ResolvedRunStatement) → Option (List Assigned)
-first_input statements = first_assigned is_input_line statements
-
 -- the assignments are there, and leave this one of so many nodes out
 abbrev pub LeavesOut : Option (List Assigned) → ℕ → ℕ → Type 0
 LeavesOut None nodes node = ⊥
@@ -80,51 +66,29 @@ LeavesOut (Some assigned) nodes node = (node < nodes) × (assigns assigned node 
 -- the first start leaves this node out, or the first input line leaves this input out
 abbrev pub IsUnassigned : Netlist → List (Numbered ResolvedRunStatement) → ℕ → Type 0
 IsUnassigned netlist statements node =
-    LeavesOut (first_start statements) (length netlist.names) node
-    ⊎ LeavesOut (first_input statements) netlist.inputs node
+    LeavesOut (first_assigned is_start_line statements) (length netlist.names) node
+    ⊎ LeavesOut (first_assigned is_input_line statements) netlist.inputs node
 
 -- how many steps a statement is
 abbrev pub steps_in : {A V : Type 0} → StatementOf A V → ℕ
 steps_in (Step variables) = 1
 steps_in _ = 0
 
--- how many steps the statements are
-abbrev pub statement_step_count : List (Numbered ResolvedRunStatement) → ℕ
-statement_step_count statements = sum_by (λ numbered. steps_in numbered.statement) statements
-
--- how many variables the statements name, each counted as often as it is named
-abbrev pub named_count : List (Numbered ResolvedRunStatement) → ℕ
-named_count statements = sum_by (λ numbered. length (variables_in numbered.statement)) statements
-
--- there are more than 2,000,000 steps, or more than 2,000,000 variables in steps
-abbrev pub AreTooMany : List (Numbered ResolvedRunStatement) → Type 0
-AreTooMany statements =
-    (most_steps < statement_step_count statements) ⊎ (most_steps < named_count statements)
-
--- up to the statement on this line there are too many, and before it there are not
-pub record IsBeyond (statements : List (Numbered ResolvedRunStatement)) (line : ℕ) : Type 0 where
-  pub before : List (Numbered ResolvedRunStatement)
-  pub last : Numbered ResolvedRunStatement
-  pub after : List (Numbered ResolvedRunStatement)
-  pub are : statements ≡ before ++ last ∷ after
-  pub here : last.line ≡ line
-  pub beyond : AreTooMany (before ++ last ∷ [])
-  pub within : ¬ AreTooMany before
-
--- the format of a text whose first statement this is
-abbrev pub format_in : {A V : Type 0} → StatementOf A V → Option Format
-format_in (Header format) = Some format
-format_in _ = None
+-- the first line up to which there are more than 2,000,000 steps, or more than 2,000,000 variables in steps, if there
+-- were so many before
+abbrev pub beyond_from : ℕ → ℕ → List (Numbered ResolvedRunStatement) → Option ℕ
+beyond_from steps variables [] = None
+beyond_from steps variables (first ∷ later) =
+    if nat_lt most_steps (steps + steps_in first.statement)
+    || nat_lt most_steps (variables + length (variables_in first.statement))
+    then Some first.line
+    else beyond_from (steps + steps_in first.statement)
+    (variables + length (variables_in first.statement)) later
 
 -- the statement is the header of format 2
 abbrev pub is_second : {A V : Type 0} → StatementOf A V → Bool
 is_second (Header Two) = true
 is_second _ = false
-
--- the text is in format 2: its first statement is that header
-abbrev pub IsInFormatTwo : List (Numbered ResolvedRunStatement) → Type 0
-IsInFormatTwo [] = ⊥
-IsInFormatTwo (first ∷ later) = is_second first.statement ≡ true
 
 -- the size that a statement tells
 abbrev pub size_in : {A V : Type 0} → StatementOf A V → Option Size
@@ -137,30 +101,34 @@ first_size [] = None
 first_size (first ∷ later) =
     option_map_or (λ size. Some (first.line, size)) (size_in first.statement) (first_size later)
 
--- a text in format 2 tells a size, first on this line, in which this count is the first that is not the network's
-pub record IsMismatch (netlist : Netlist) (statements : List (Numbered ResolvedRunStatement))
-    (line told real : ℕ) : Type 0 where
-  pub format : IsInFormatTwo statements
-  pub size : Size
-  pub tells : first_size statements ≡ Some (line, size)
-  pub counts : DifferFirst (counts_of size) (counts_of (size_of netlist)) told real
+-- the first count of the network's size that a text in format 2 tells wrongly, on the first line that tells the size
+abbrev pub first_mismatch : Size → List (Numbered ResolvedRunStatement) → Option Mismatch
+first_mismatch real [] = None
+first_mismatch real (first ∷ later) =
+    if is_second first.statement then option_and_then
+    (λ told. option_map (λ counts. record { line = told.0; told = counts.0; real = counts.1 })
+    (difference told.1 real)) (first_size (first ∷ later)) else None
 
 -- the fault stands in the text
 abbrev pub HasRunFault : Netlist → List ℕ → TextFault → Type 0
 HasRunFault netlist text (fault.Form line) = meaning_at run_statement_of text line ≡ Malformed
 HasRunFault netlist text (fault.Unknown line) =
     PassesOn (names_unknown netlist.inputs) (resolved_run_statements netlist text) line
-HasRunFault netlist text (fault.Twice line) = PassesOn names_twice (run_statements_of text) line
+HasRunFault netlist text (fault.Twice line) =
+    PassesOn (λ statement. any_twice (assignments_in statement)) (run_statements_of text) line
 HasRunFault netlist text (fault.Missing node) =
     IsUnassigned netlist (resolved_run_statements netlist text) node
 HasRunFault netlist text (fault.Bit line) =
-    PassesOn lacks_bit (resolved_run_statements netlist text) line
+    PassesOn (λ statement. any_bitless (assignments_in statement))
+    (resolved_run_statements netlist text) line
 HasRunFault netlist text (fault.Order line) =
-    BreaksOrder (resolved_run_statements netlist text) line
-HasRunFault netlist text (fault.TooMany line) = IsBeyond (resolved_run_statements netlist text) line
+    first_misplaced at.Header (resolved_run_statements netlist text) ≡ Some line
+HasRunFault netlist text (fault.TooMany line) =
+    beyond_from 0 0 (resolved_run_statements netlist text) ≡ Some line
 HasRunFault netlist text fault.Memory = ⊥
 HasRunFault netlist text (fault.Mismatch line told real) =
-    IsMismatch netlist (resolved_run_statements netlist text) line told real
+    first_mismatch (size_of netlist) (resolved_run_statements netlist text)
+    ≡ Some (record { line = line; told = told; real = real })
 
 -- the fault stands in the text and comes before each other that does
 abbrev pub IsLeastRunFault : Netlist → List ℕ → TextFault → Type 0

@@ -1,68 +1,39 @@
 -- The order of the statements of a run text.
-use Rattle.std.specs.Prelude.{◌≡◌, ℕ, List, [], ◌∷◌, ◌++◌, map, Option, Some, None, ◌⊎◌}
-use Rattle.std.specs.List.{flat_map}
+use Rattle.std.specs.Prelude.{ℕ, List, [], ◌∷◌, Option, Some, None}
+use Rattle.std.specs.Option.{option_map_or}
 use Rattle.hz_line.specs.Statement.{Numbered}
-use Rattle.hz_run_text.specs.declared.size.Size.{Size}
+use Rattle.hz_run_text.specs.declared.order.Place.{Place}
+use Rattle.hz_run_text.specs.declared.order.Place.TheVariants as at
 use Rattle.hz_run_text.specs.declared.format.Format.TheVariants.{One, Two}
-use Rattle.hz_run_text.specs.RunStatement.{StatementOf, Header, Net, Start, Input, Run, Step, Cycle, End}
+use Rattle.hz_run_text.specs.RunStatement.{Header, Net, Start, Input, Run, Step, Cycle, End}
+use Rattle.hz_run_text.specs.RunResolution.{ResolvedRunStatement}
 
--- the statements of a cycle, if there is one: its first line and its steps
-abbrev pub cycle_lines : {F A V : Type 0} → (F → StatementOf A V) → Option (List F) →
-    List (StatementOf A V)
-cycle_lines step None = []
-cycle_lines step (Some steps) = Cycle ∷ map step steps
+-- where one is behind a statement, if it may stand at this place
+abbrev pub place_after : Place → ResolvedRunStatement → Option Place
+place_after at.Header (Header One) = Some at.Start
+place_after at.Header (Header Two) = Some at.Net
+place_after at.Net (Net size) = Some at.Start
+place_after at.Start (Start assigned) = Some at.Input
+place_after at.Input (Input assigned) = Some at.Runs
+place_after at.Runs Run = Some at.Lead
+place_after at.Runs End = Some at.Over
+place_after at.Lead Run = Some at.Lead
+place_after at.Lead (Step variables) = Some at.Lead
+place_after at.Lead Cycle = Some at.Cycle
+place_after at.Lead End = Some at.Over
+place_after at.Cycle Run = Some at.Lead
+place_after at.Cycle (Step variables) = Some at.Cycle
+place_after at.Cycle End = Some at.Over
+place_after _ _ = None
 
--- the statements of a run: its first line, its steps, and its cycle
-abbrev pub run_lines : {F A V : Type 0} → (F → StatementOf A V) → List F → Option (List F) →
-    List (StatementOf A V)
-run_lines step lead cycle = Run ∷ map step lead ++ cycle_lines step cycle
+-- a text may stop behind its end alone: elsewhere line 0 breaks the order
+abbrev pub line_at_stop : Place → Option ℕ
+line_at_stop at.Over = None
+line_at_stop _ = Some 0
 
--- a run by the variables of its steps: those of its lead, and those of its cycle, if it has one
-pub record RunShape (V : Type 0) : Type 0 where
-  pub lead : List (List V)
-  pub cycle : Option (List (List V))
-
--- the statements of such a run
-abbrev pub shape_lines : {A V : Type 0} → RunShape V → List (StatementOf A V)
-shape_lines run = run_lines Step run.lead run.cycle
-
--- the first statements: the header of format 1, or that of format 2 and the size of the network
-abbrev pub header_lines : {A V : Type 0} → Option Size → List (StatementOf A V)
-header_lines None = Header One ∷ []
-header_lines (Some size) = Header Two ∷ Net size ∷ []
-
--- statements in order: the header, in format 2 with the size of the network, the start, the input, the statements of runs,
--- and the end
-pub record IsOrdered {A V : Type 0} (statements : List (StatementOf A V)) : Type 0 where
-  pub size : Option Size
-  pub start : List A
-  pub input : List A
-  pub runs : List (RunShape V)
-  pub are : statements
-      ≡ header_lines size ++ (Start start ∷ Input input ∷ flat_map shape_lines runs ++ End ∷ [])
-
--- some more statements would make an order of them
-abbrev pub MayGoOn : {A V : Type 0} → List (StatementOf A V) → Type 0
-MayGoOn statements = (more : List (StatementOf _ _)) × IsOrdered (statements ++ more)
-
--- statements without their lines
-abbrev pub statements_without_lines : {S : Type 0} → List (Numbered S) → List S
-statements_without_lines statements = map (λ numbered. numbered.statement) statements
-
--- the statements before this line may go on, and with it no longer
-pub record IsOutOfPlace {A V : Type 0} (statements : List (Numbered (StatementOf A V)))
-    (line : ℕ) : Type 0 where
-  pub before : List (Numbered (StatementOf A V))
-  pub last : Numbered (StatementOf A V)
-  pub after : List (Numbered (StatementOf A V))
-  pub are : statements ≡ before ++ last ∷ after
-  pub here : last.line ≡ line
-  pub went_on : MayGoOn (statements_without_lines before)
-  pub stops : ¬ MayGoOn (statements_without_lines (before ++ last ∷ []))
-
--- this line breaks the order; it is 0 if the statements may go on and are not whole
-abbrev pub BreaksOrder : {A V : Type 0} → List (Numbered (StatementOf A V)) → ℕ → Type 0
-BreaksOrder statements line =
-    IsOutOfPlace statements line
-    ⊎ ((line ≡ 0) × MayGoOn (statements_without_lines statements)
-    × (¬ IsOrdered (statements_without_lines statements)))
+-- the line that breaks the order, from a place on: the first statement that may not stand where it does, or else the stop
+abbrev pub first_misplaced : Place → List (Numbered ResolvedRunStatement) → Option ℕ
+first_misplaced here [] = line_at_stop here
+first_misplaced here (first ∷ later) =
+    option_map_or (λ next. first_misplaced next later) (place_after here first.statement)
+    (Some first.line)

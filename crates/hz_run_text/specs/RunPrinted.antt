@@ -1,5 +1,5 @@
 -- The printed text of a run text.
-use Rattle.std.specs.Prelude.{ℕ, ◌+◌, Bool, List, [], ◌∷◌, ◌++◌, codes, decimal, Option, Some, None}
+use Rattle.std.specs.Prelude.{ℕ, Bool, List, [], ◌∷◌, ◌++◌, codes, decimal, Option, Some, None}
 use Rattle.std.specs.List.{flat_map}
 use Rattle.hz_core.specs.Netlist.{Netlist}
 use Rattle.hz_write.specs.Writes.{line_of}

@@ -7,13 +7,10 @@ use Rattle.hz_line.specs.Statement.{Numbered}
 use Rattle.hz_line.specs.Token.{TokenOf}
 use Rattle.hz_line.specs.declared.statements.Numbered.{Numbered as Entered}
 use Rattle.hz_line.specs.Reading.{numbered_by}
-use Rattle.hz_run_text.specs.declared.keyword.RunKeyword.{RunKeyword as KeywordHere}
-use Rattle.hz_run_text.specs.declared.keyword.RunKeyword.TheVariants as here
+use Rattle.hz_run_text.specs.declared.keyword.RunKeyword.{RunKeyword}
 use Rattle.hz_run_text.specs.declared.statement.RunHeld.{RunHeld}
 use Rattle.hz_run_text.specs.declared.statement.RunHeld.TheVariants as held
 use Rattle.hz_text.specs.Assignment.{Assigned, assigned_of}
-use Rattle.hz_run_text.specs.RunKeyword.{RunKeyword}
-use Rattle.hz_run_text.specs.RunKeyword as keyword
 use Rattle.hz_run_text.specs.RunStatement.{Variable, Node, Pin, StatementOf, Header, Net, Start, Input, Run, Step, Cycle, End, RunStatement, run_statement_of, run_statement_with, variables_of_tokens}
 use Rattle.hz_text.specs.Decimal.{number_by}
 
@@ -55,17 +52,6 @@ resolve_numbered_run netlist numbered =
 abbrev pub resolve_run_tokens : Netlist → List TokenOf → Option ResolvedRunStatement
 resolve_run_tokens netlist tokens =
     option_map (resolve_run_statement netlist) (run_statement_of tokens)
-
--- what a keyword is
-abbrev pub run_keyword_by : KeywordHere → RunKeyword
-run_keyword_by here.Runs = keyword.Runs
-run_keyword_by here.Net = keyword.Net
-run_keyword_by here.Start = keyword.Start
-run_keyword_by here.Input = keyword.Input
-run_keyword_by here.Run = keyword.Run
-run_keyword_by here.Step = keyword.Step
-run_keyword_by here.Cycle = keyword.Cycle
-run_keyword_by here.End = keyword.End
 
 -- the statement of a keyword and the tokens after it, looked up
 abbrev pub resolve_run_keyword : Netlist → Option RunKeyword → List TokenOf →

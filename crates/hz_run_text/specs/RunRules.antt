@@ -1,23 +1,31 @@
 -- What the passes over a run text's statements answer.
-use Rattle.std.specs.Prelude.{◌≡◌, ℕ, ◌+◌, Bool, ◌||◌, nat_lt, List, [], ◌∷◌, length, All, Option, Some, None, if◌then◌else◌}
-use Rattle.std.specs.Option.{option_map}
+use Rattle.std.specs.Prelude.{◌≡◌, ℕ, Bool, List, length, All, Option, Some, None}
 use Rattle.hz_lists.specs.Least.{option_min}
 use Rattle.hz_core.specs.Netlist.{Netlist}
 use Rattle.hz_line.specs.Statement.{Numbered}
-use Rattle.hz_text.specs.Assignment.{Assigned}
+use Rattle.hz_text.specs.Assignment.{Assigned, any_bitless}
 use Rattle.hz_text.specs.declared.fault.TextFault.{TextFault}
-use Rattle.hz_text.specs.declared.fault.Mismatch.{Mismatch}
-use Rattle.hz_run_text.specs.declared.size.Size.{Size}
-use Rattle.hz_run_text.specs.RunSize.{size_of, difference}
+use Rattle.hz_run_text.specs.declared.order.Place.TheVariants as at
+use Rattle.hz_run_text.specs.RunSize.{size_of}
 use Rattle.hz_text.specs.Rules.{repeats_node, least_unassigned, AreBelow, Rules, first_fault_in}
 use Rattle.hz_run_text.specs.RunResolution.{ResolvedRunStatement, RunEntry, run_resolution_of, numbered_run_resolutions}
-use Rattle.hz_run_text.specs.RunFault.{resolved_run_statements, IsRunFaultless, assignments_in, variables_in, steps_in, names_unknown, lacks_bit, first_start, first_input, is_second, first_size}
-use Rattle.hz_run_text.specs.OrderPass.{first_misplaced}
-use Rattle.hz_run_text.specs.Limits.{most_steps}
+use Rattle.hz_run_text.specs.RunFault.{resolved_run_statements, IsRunFaultless, assignments_in, names_unknown, is_start_line, is_input_line, first_assigned, beyond_from, first_mismatch}
+use Rattle.hz_run_text.specs.RunOrder.{first_misplaced}
 
 -- the statement assigns a node twice
 abbrev pub names_node_twice : ResolvedRunStatement → Bool
 names_node_twice statement = repeats_node (assignments_in statement)
+
+-- the statement assigns a word that is no bit
+abbrev pub lacks_bit : ResolvedRunStatement → Bool
+lacks_bit statement = any_bitless (assignments_in statement)
+
+-- what the first start assigns, and what the first input line does
+abbrev pub first_start : List (Numbered ResolvedRunStatement) → Option (List Assigned)
+first_start statements = first_assigned is_start_line statements
+
+abbrev pub first_input : List (Numbered ResolvedRunStatement) → Option (List Assigned)
+first_input statements = first_assigned is_input_line statements
 
 -- the nodes that an entry assigns are below a bound
 abbrev pub AssignsBelow : ℕ → RunEntry → Type 0
@@ -34,30 +42,6 @@ least_missing_node netlist statements =
     option_min (least_left_out (first_start statements) (length netlist.names))
     (least_left_out (first_input statements) netlist.inputs)
 
--- the first line up to which there are more than 2,000,000 steps, or more than 2,000,000 variables in steps, if there
--- were so many before
-abbrev pub beyond_from : ℕ → ℕ → List (Numbered ResolvedRunStatement) → Option ℕ
-beyond_from steps variables [] = None
-beyond_from steps variables (first ∷ later) =
-    if nat_lt most_steps (steps + steps_in first.statement)
-    || nat_lt most_steps (variables + length (variables_in first.statement))
-    then Some first.line
-    else beyond_from (steps + steps_in first.statement)
-    (variables + length (variables_in first.statement)) later
-
--- the first count of the network's size that is told wrongly, by the size that is told first
-abbrev pub mismatch_with : Size → Option (ℕ × Size) → Option Mismatch
-mismatch_with real None = None
-mismatch_with real (Some told) =
-    option_map (λ counts. record { line = told.0; told = counts.0; real = counts.1 })
-    (difference told.1 real)
-
--- the same in a text, if it is in format 2
-abbrev pub first_mismatch : Size → List (Numbered ResolvedRunStatement) → Option Mismatch
-first_mismatch real [] = None
-first_mismatch real (first ∷ later) =
-    if is_second first.statement then mismatch_with real (first_size (first ∷ later)) else None
-
 -- the passes over a run text of a circuit
 abbrev pub run_rules : Netlist → Rules ResolvedRunStatement
 run_rules netlist = record {
@@ -65,7 +49,7 @@ run_rules netlist = record {
   assigned = assignments_in;
   bitless = lacks_bit;
   missing = least_missing_node netlist;
-  order = first_misplaced;
+  order = first_misplaced at.Header;
   beyond = beyond_from 0 0;
   mismatch = first_mismatch (size_of netlist);
 }

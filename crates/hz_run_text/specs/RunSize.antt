@@ -1,5 +1,5 @@
 -- The size of a network, and where a size that is told differs from it.
-use Rattle.std.specs.Prelude.{◌≡◌, ◌≢◌, ℕ, nat_eq, List, [], ◌∷◌, ◌++◌, length, Option, Some, None, if◌then◌else◌}
+use Rattle.std.specs.Prelude.{ℕ, nat_eq, length, Option, Some, None, if◌then◌else◌}
 use Rattle.hz_core.specs.Netlist.{Netlist, pin_count}
 use Rattle.hz_run_text.specs.declared.size.Size.{Size}
 
@@ -7,19 +7,6 @@ use Rattle.hz_run_text.specs.declared.size.Size.{Size}
 abbrev pub size_of : Netlist → Size
 size_of netlist =
     record { inputs = netlist.inputs; gates = length netlist.gates; wires = pin_count netlist }
-
--- the counts of a size, in their order
-abbrev pub counts_of : Size → List ℕ
-counts_of size = size.inputs ∷ size.gates ∷ size.wires ∷ []
-
--- two lists begin alike, and then the first has this number where the second has that other one
-pub record DifferFirst (list other : List ℕ) (told real : ℕ) : Type 0 where
-  pub front : List ℕ
-  pub after : List ℕ
-  pub other_after : List ℕ
-  pub list_is : list ≡ front ++ told ∷ after
-  pub other_is : other ≡ front ++ real ∷ other_after
-  pub differ : told ≢ real
 
 -- the first count in which two sizes differ, as each has it
 abbrev pub difference : Size → Size → Option (ℕ × ℕ)

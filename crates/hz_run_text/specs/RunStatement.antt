@@ -1,5 +1,5 @@
 -- The statements of run texts.
-use Rattle.std.specs.Prelude.{ℕ, ◌-◌, ◌+◌, ◌*◌, ◌&&◌, ◌||◌, ◌==◌, List, [], ◌∷◌, codes, Option, Some, None, if◌then◌else◌}
+use Rattle.std.specs.Prelude.{ℕ, List, [], ◌∷◌, codes, Option, Some, None, option_and_then, if◌then◌else◌}
 use Rattle.std.specs.Option.{option_map}
 use Rattle.std.specs.Str.{bytes_eq}
 use Rattle.hz_line.specs.declared.bytes.Punctuation.TheVariants.{Open, Close}
@@ -10,8 +10,8 @@ use Rattle.hz_text.specs.Assignment.{Assignment, assignments_of}
 use Rattle.hz_run_text.specs.declared.size.Size.{Size}
 use Rattle.hz_run_text.specs.declared.format.Format.{Format}
 use Rattle.hz_run_text.specs.declared.format.Format.TheVariants.{One, Two}
-use Rattle.hz_run_text.specs.RunKeyword.{RunKeyword}
-use Rattle.hz_run_text.specs.RunKeyword as keyword
+use Rattle.hz_run_text.specs.declared.keyword.RunKeyword.{RunKeyword}
+use Rattle.hz_run_text.specs.declared.keyword.RunKeyword.TheVariants as keyword
 use Rattle.hz_text.specs.Decimal.{is_decimal, count_of}
 
 -- a variable as it is written: a node by its name, or a wire by the name of its gate and the number of its pin
@@ -67,34 +67,25 @@ format_of (WordOf word ∷ []) =
     else (if bytes_eq word (codes "2") then Some Two else None)
 format_of _ = None
 
--- the size with these counts, if all are there
-abbrev pub size_with : Option ℕ → Option ℕ → Option ℕ → Option Size
-size_with (Some inputs) (Some gates) (Some wires) =
-    Some (record { inputs = inputs; gates = gates; wires = wires })
-size_with _ _ _ = None
-
 -- the size that tokens are: the numbers of the inputs, of the gates and of the wires
 abbrev pub size_by : List TokenOf → Option Size
 size_by (WordOf inputs ∷ WordOf gates ∷ WordOf wires ∷ []) =
-    size_with (count_of inputs) (count_of gates) (count_of wires)
+    option_and_then (λ inputs. option_and_then (λ gates.
+    option_map (λ wires. record { inputs = inputs; gates = gates; wires = wires })
+    (count_of wires)) (count_of gates)) (count_of inputs)
 size_by _ = None
-
--- the statement, if no token is left
-abbrev pub if_at_end : RunStatement → List TokenOf → Option RunStatement
-if_at_end statement [] = Some statement
-if_at_end statement (token ∷ tokens) = None
 
 -- the statement of a keyword and the tokens after it
 abbrev pub run_statement_with : Option RunKeyword → List TokenOf → Option RunStatement
-run_statement_with None rest = None
 run_statement_with (Some keyword.Runs) rest = option_map Header (format_of rest)
 run_statement_with (Some keyword.Net) rest = option_map Net (size_by rest)
 run_statement_with (Some keyword.Start) rest = option_map Start (assignments_of rest)
 run_statement_with (Some keyword.Input) rest = option_map Input (assignments_of rest)
-run_statement_with (Some keyword.Run) rest = if_at_end Run rest
+run_statement_with (Some keyword.Run) [] = Some Run
 run_statement_with (Some keyword.Step) rest = option_map Step (variables_of_tokens rest)
-run_statement_with (Some keyword.Cycle) rest = if_at_end Cycle rest
-run_statement_with (Some keyword.End) rest = if_at_end End rest
+run_statement_with (Some keyword.Cycle) [] = Some Cycle
+run_statement_with (Some keyword.End) [] = Some End
+run_statement_with _ _ = None
 
 -- the one statement of a token list, if it is one
 abbrev pub run_statement_of : List TokenOf → Option RunStatement

@@ -1,16 +1,15 @@
 // The run text of statements without a fault.
 
-ghost use Rattle.std.specs.Prelude.{◌≡◌, ◌≤◌, ◌++◌, ◌∷◌, [], length, map, drop, All, Some, None, IsSome, false, is_none, IfOk, OnOk};
+ghost use Rattle.std.specs.Prelude.{◌≡◌, ◌≤◌, ◌++◌, ◌∷◌, [], length, map, drop, All, Some, None, IsSome, true, false, is_none, IfOk, OnOk};
 ghost use Rattle.std.specs.List.{flat_map, list_any, range_with_len};
-ghost use Rattle.hz_run_text.specs.declared.order.Place.TheVariants.{Between};
+ghost use Rattle.hz_run_text.specs.declared.order.Place.TheVariants as at;
 ghost use Rattle.hz_run_text.specs.RunStatement.{Step, Cycle, End};
 ghost use Rattle.hz_run_text.specs.RunResolution.{run_resolution_of, numbered_run_resolutions};
 ghost use Rattle.hz_run_text.specs.RunFault.{variables_in};
-ghost use Rattle.hz_run_text.specs.OrderPass.{place_after, runs_out_of_order};
+ghost use Rattle.hz_run_text.specs.RunOrder.{place_after, first_misplaced};
 ghost use Rattle.hz_run_text.specs.RunRules.{AssignsBelow, first_run_fault};
-ghost use Rattle.hz_run_text.specs.RunText.{IsRunTextBy, run_statements};
-ghost use Rattle.hz_run_text.specs.RunOrder.{statements_without_lines};
-ghost use Rattle.hz_run_text.specs.RunBuilt.{after_header, last_place, IsRunAdded};
+ghost use Rattle.hz_run_text.specs.RunText.{IsRunTextBy, run_statements, statements_without_lines};
+ghost use Rattle.hz_run_text.specs.RunBuilt.{after_header, last_place, is_run_line, IsRunAdded};
 ghost use Rattle.hz_text.specs.Assignment.{assigned_bit};
 ghost use Rattle.hz_text.specs.Bits.{IsWholeStart};
 
@@ -88,7 +87,7 @@ fn read_bits(alloc: Global, all: &[Assigned], nodes: u32) -> Result<Vec<bool>, M
 
 // The runs that statements before the end are.
 fn read_runs(alloc: Global, entries: &[RunEntry]) -> Result<ToldRuns, Memory>
-    requires ordered { runs_out_of_order Between (numbered_run_resolutions entries.now) ≡ None }
+    requires ordered { first_misplaced at.Runs (numbered_run_resolutions entries.now) ≡ None }
     requires known { All
         (λ entry. list_any is_none (variables_in (run_resolution_of entry.held))
         ≡ false) entries.now }
@@ -116,6 +115,7 @@ fn add_statement(
     flips: &mut Vec<u32>,
 ) -> Result<(), Memory>
     requires follows { IsSome (place_after (last_place runs.old) (run_resolution_of held.now)) }
+    requires line { is_run_line (run_resolution_of held.now) ≡ true }
     requires known { list_any is_none (variables_in (run_resolution_of held.now)) ≡ false }
     ensures { OnOk result (IsRunAdded runs.old (run_resolution_of held.now) runs.new) }
 {

@@ -2,7 +2,7 @@
 
 ghost use Rattle.std.specs.Prelude.{◌≡◌, [], ◌++◌, ◌∷◌, IsSome, Some, None, IfOk, OnOk};
 ghost use Rattle.hz_run_text.specs.RunStatement.{Run as RunLine, Cycle};
-ghost use Rattle.hz_run_text.specs.OrderPass.{place_after};
+ghost use Rattle.hz_run_text.specs.RunOrder.{place_after};
 ghost use Rattle.hz_run_text.specs.RunValue.{with_step};
 ghost use Rattle.hz_run_text.specs.RunText.{step_of};
 ghost use Rattle.hz_run_text.specs.RunBuilt.{last_place, IsRunAdded};

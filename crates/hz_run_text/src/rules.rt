@@ -4,8 +4,8 @@ ghost use Rattle.std.specs.Prelude.{◌≡◌, ◌≤◌, IfOk, is_none};
 ghost use Rattle.std.specs.List.{list_any};
 ghost use Rattle.std.specs.Option.{option_map};
 ghost use Rattle.hz_run_text.specs.RunResolution.{run_resolution_of, numbered_run_resolutions};
-ghost use Rattle.hz_run_text.specs.RunFault.{assignments_in, variables_in, names_unknown, first_start, first_input, steps_in, is_second, size_in, first_size};
-ghost use Rattle.hz_run_text.specs.RunRules.{least_left_out, least_missing_node, beyond_from, first_mismatch};
+ghost use Rattle.hz_run_text.specs.RunFault.{assignments_in, variables_in, names_unknown, steps_in, beyond_from, is_second, size_in, first_size, first_mismatch};
+ghost use Rattle.hz_run_text.specs.RunRules.{first_start, first_input, least_left_out, least_missing_node};
 
 use crate::format::Format;
 use crate::order::{is_input_line, is_start_line};

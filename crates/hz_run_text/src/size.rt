@@ -1,10 +1,9 @@
 // The size of a network, as a run text has it.
 
-ghost use Rattle.std.specs.Prelude.{◌≡◌, Some, MatchResult};
+ghost use Rattle.std.specs.Prelude.{◌≡◌, ◌∷◌, [], Some, MatchResult};
 ghost use Rattle.hz_line.specs.Reading.{by_tokens, IsUnread};
-ghost use Rattle.hz_line.specs.Token.{tokens_of};
-ghost use Rattle.hz_text.specs.Decimal.{count_of};
-ghost use Rattle.hz_run_text.specs.RunStatement.{size_with, size_by};
+ghost use Rattle.hz_line.specs.Token.{WordOf, tokens_of};
+ghost use Rattle.hz_run_text.specs.RunStatement.{size_by};
 ghost use Rattle.hz_run_text.specs.RunSize.{size_of, difference};
 
 use crate::number::read_count;
@@ -43,10 +42,10 @@ pub(crate) fn read_size(line: &[u8]) -> Result<Size, StatementFault>
 // The size with the counts that these words are.
 fn read_counts(inputs: &[u8], gates: &[u8], wires: &[u8]) -> Result<Size, StatementFault>
     ensures { MatchResult result
-        (λ size. size_with (count_of inputs.now) (count_of gates.now) (count_of wires.now)
+        (λ size. size_by (WordOf inputs.now ∷ WordOf gates.now ∷ WordOf wires.now ∷ [])
         ≡ Some size)
         (λ why. IsUnread
-        (size_with (count_of inputs.now) (count_of gates.now) (count_of wires.now)) why) }
+        (size_by (WordOf inputs.now ∷ WordOf gates.now ∷ WordOf wires.now ∷ [])) why) }
 {
     match (read_count(inputs), read_count(gates), read_count(wires)) {
         (Some(inputs), Some(gates), Some(wires)) => Ok(Size {

@@ -1,14 +1,13 @@
 // The statements of a run text, looked up in a network.
 
 ghost use Rattle.std.specs.Prelude.{◌≡◌, length, IfOk, MatchResult, Some};
-ghost use Rattle.std.specs.Option.{option_map};
 ghost use Rattle.hz_line.specs.Reading.{by_tokens, IsUnread};
 ghost use Rattle.hz_line.specs.Token.{tokens_of};
 ghost use Rattle.hz_text.specs.Assignment.{assigned_by};
 ghost use Rattle.hz_text.specs.Rules.{AreBelow};
-ghost use Rattle.hz_run_text.specs.RunKeyword.{Step as StepWord};
+ghost use Rattle.hz_run_text.specs.declared.keyword.RunKeyword.TheVariants.{Step as StepWord};
 ghost use Rattle.hz_run_text.specs.RunStatement.{run_keyword_of};
-ghost use Rattle.hz_run_text.specs.RunResolution.{resolve_run_tokens, resolve_run_keyword, run_resolution_of, run_keyword_by};
+ghost use Rattle.hz_run_text.specs.RunResolution.{resolve_run_tokens, resolve_run_keyword, run_resolution_of};
 ghost use Rattle.hz_run_text.specs.RunFault.{assignments_in};
 ghost use Rattle.hz_run_text.specs.RunRules.{run_rules};
 
@@ -152,10 +151,10 @@ fn read_statement_of<'a>(
     variables: &mut Vec<Option<u32>>,
 ) -> Result<RunHeld<'a>, StatementFault>
     ensures read { MatchResult result
-        (λ held. by_tokens (resolve_run_keyword net.now (Some (run_keyword_by keyword)))
+        (λ held. by_tokens (resolve_run_keyword net.now (Some keyword))
         (tokens_of rest.now)
         ≡ Some (run_resolution_of held))
-        (λ why. IsUnread (by_tokens (resolve_run_keyword net.now (Some (run_keyword_by keyword)))
+        (λ why. IsUnread (by_tokens (resolve_run_keyword net.now (Some keyword))
         (tokens_of rest.now)) why) }
     ensures below { IfOk result
         (λ held. AreBelow (length net.now.names) (assignments_in (run_resolution_of held))) }
@@ -220,7 +219,7 @@ fn boxed_assignments(
 // The keyword that a word is, in any letter case.
 #[tactic(auto, unfolding(crate::specs::RunStatement::run_keyword_of))]
 fn run_keyword(word: &[u8]) -> Option<RunKeyword>
-    ensures { option_map run_keyword_by result ≡ run_keyword_of word.now }
+    ensures { result ≡ run_keyword_of word.now }
 {
     if is_keyword(word, b"runs") {
         Some(RunKeyword::Runs)

@@ -1,4 +1,3 @@
-use Rattle.std.proofs.Common.{◌≡◌, ◌∙◌}
 use Rattle.hz_run_text.proofs.RunBuildLaws.{all_known}
 use Rattle.hz_run_text.proofs.build.add_step.Goals as goal
 

@@ -2,13 +2,12 @@ use Rattle.std.proofs.Common.{◌≡◌, ◌∙◌, ◌-◌, List, None, false, 
 use Rattle.std.specs.List.{All, list_any, range_with_len}
 use Rattle.std.specs.Option.{is_none}
 use Rattle.std.proofs.lemmas.List.{length-drop, take_all}
-use Rattle.hz_run_text.specs.declared.order.Place.TheVariants.{Between}
+use Rattle.hz_run_text.specs.declared.order.Place.TheVariants as at
 use Rattle.hz_run_text.specs.RunStatement.{Start, Input}
 use Rattle.hz_run_text.specs.RunResolution.{RunEntry, numbered_run_resolutions, run_resolution_of}
-use Rattle.hz_run_text.specs.OrderPass.{runs_out_of_order}
+use Rattle.hz_run_text.specs.RunOrder.{first_misplaced}
 use Rattle.hz_run_text.specs.RunFault.{variables_in}
-use Rattle.hz_run_text.specs.RunText.{IsRunTextBy}
-use Rattle.hz_run_text.specs.RunOrder.{header_lines, statements_without_lines}
+use Rattle.hz_run_text.specs.RunText.{IsRunTextBy, header_lines, statements_without_lines}
 use Rattle.hz_run_text.specs.RunBuilt.{after_header}
 use Rattle.hz_run_text.specs.RunRules.{AssignsBelow, first_run_fault}
 use Rattle.hz_core.specs.Netlist.{Netlist}
@@ -44,7 +43,7 @@ later_are states entries are =
 
 pub read_runs-requires-clause-ordered : goal.read_runs-requires-clause-ordered
 read_runs-requires-clause-ordered c =
-    let P : List RunEntry → Type 0 = λ later. runs_out_of_order Between (numbered_run_resolutions later) ≡ None in
+    let P : List RunEntry → Type 0 = λ later. first_misplaced at.Runs (numbered_run_resolutions later) ≡ None in
     subst P (sym (later_are c.after_header-states.result.now c.args.entries.now c.after_header-states.ensures))
     (two_of c.args.circuit.now c.args.entries.now c.after_header-states.result.now c.start-item.result c.input-item.result c.after_header-states.ensures c.start-item.is c.input-item.is c.requires.below c.requires.clear).ordered
 

@@ -8,11 +8,11 @@ use Rattle.hz_run_text.specs.declared.order.Place.{Place}
 use Rattle.hz_run_text.specs.RunResolution.{RunEntry, ResolvedRunStatement, numbered_run_resolution, numbered_run_resolutions, run_resolution_of}
 use Rattle.hz_run_text.specs.RunStatement.{End}
 use Rattle.hz_run_text.specs.RunFault.{variables_in}
-use Rattle.hz_run_text.specs.OrderPass.{runs_out_of_order}
-use Rattle.hz_run_text.specs.RunText.{run_statements}
-use Rattle.hz_run_text.specs.RunOrder.{statements_without_lines}
+use Rattle.hz_run_text.specs.RunOrder.{line_at_stop, first_misplaced}
+use Rattle.hz_run_text.specs.RunText.{run_statements, statements_without_lines}
 use Rattle.hz_run_text.specs.RunBuilt.{last_place}
-use Rattle.hz_run_text.proofs.RunBuildLaws.{entries-at, next_in_order, ended}
+use Rattle.hz_run_text.proofs.OrderLaws.{next_in_order}
+use Rattle.hz_run_text.proofs.RunBuildLaws.{among, entries-at, run_line, ended}
 use Rattle.hz_run_text.proofs.build.read_runs.Goals as goal
 
 pub returns-then-is_end : goal.returns-then-is_end
@@ -23,11 +23,11 @@ returns-then-is_end c =
     let runs = c.loop-entry.runs in
     let rest = numbered_run_resolutions (drop (i + 1) entries) in
     let at = entries-at entries i entry c.loop-entry-test.true c.entry-item.is in
-    let P : List (Numbered ResolvedRunStatement) → Type 0 = λ statements. runs_out_of_order (last_place runs) statements ≡ None in
+    let P : List (Numbered ResolvedRunStatement) → Type 0 = λ statements. first_misplaced (last_place runs) statements ≡ None in
     c.loop-entry.invariant.read
     ∙ ap (λ statements. flat_map run_statements runs ++ statements_without_lines statements) at
     ∙ ap (λ statements. flat_map run_statements runs ++ statements)
-    (ended (last_place runs) (numbered_run_resolution entry) rest (sym c.is_end.ensures ∙ c.if-is_end.true) (subst P at c.loop-entry.invariant.ordered))
+    (ended runs (numbered_run_resolution entry) rest (sym c.is_end.ensures ∙ c.if-is_end.true) (subst P at c.loop-entry.invariant.ordered))
     ∙ ap (λ those. flat_map run_statements those ++ End ∷ []) (sym c.in_ok-told.ensures)
 
 pub add_statement-requires-clause-follows : goal.add_statement-requires-clause-follows
@@ -38,10 +38,22 @@ add_statement-requires-clause-follows c =
     let runs = c.loop-entry.runs in
     let rest = numbered_run_resolutions (drop (i + 1) entries) in
     let at = entries-at entries i entry c.loop-entry-test.true c.entry-item.is in
-    let P : List (Numbered ResolvedRunStatement) → Type 0 = λ statements. runs_out_of_order (last_place runs) statements ≡ None in
-    let next = next_in_order (last_place runs) (numbered_run_resolution entry) rest (sym c.is_end.ensures ∙ c.if-is_end.false) (subst P at c.loop-entry.invariant.ordered) in
+    let P : List (Numbered ResolvedRunStatement) → Type 0 = λ statements. first_misplaced (last_place runs) statements ≡ None in
+    let next = next_in_order (last_place runs) (numbered_run_resolution entry) rest (subst P at c.loop-entry.invariant.ordered) in
     let Q : Option Place → Type 0 = IsSome in
     subst Q (sym next.place) refl
+
+pub add_statement-requires-clause-line : goal.add_statement-requires-clause-line
+add_statement-requires-clause-line c =
+    let entries = c.args.entries.now in
+    let i = c.loop-entry.entry-index in
+    let entry = c.entry-item.result in
+    let runs = c.loop-entry.runs in
+    let rest = numbered_run_resolutions (drop (i + 1) entries) in
+    let at = entries-at entries i entry c.loop-entry-test.true c.entry-item.is in
+    let P : List (Numbered ResolvedRunStatement) → Type 0 = λ statements. first_misplaced (last_place runs) statements ≡ None in
+    let next = next_in_order (last_place runs) (numbered_run_resolution entry) rest (subst P at c.loop-entry.invariant.ordered) in
+    run_line runs (run_resolution_of entry.held) next.next (sym c.is_end.ensures ∙ c.if-is_end.false) next.place
 
 pub add_statement-requires-clause-known : goal.add_statement-requires-clause-known
 add_statement-requires-clause-known c =
@@ -58,12 +70,12 @@ loop-entry-preserved c =
     let more = c.add_statement.new.runs in
     let rest = numbered_run_resolutions (drop (i + 1) entries) in
     let at = entries-at entries i entry c.loop-entry-test.true c.entry-item.is in
-    let P : List (Numbered ResolvedRunStatement) → Type 0 = λ statements. runs_out_of_order (last_place runs) statements ≡ None in
-    let next = next_in_order (last_place runs) (numbered_run_resolution entry) rest (sym c.is_end.ensures ∙ c.if-is_end.false) (subst P at c.loop-entry.invariant.ordered) in
+    let P : List (Numbered ResolvedRunStatement) → Type 0 = λ statements. first_misplaced (last_place runs) statements ≡ None in
+    let next = next_in_order (last_place runs) (numbered_run_resolution entry) rest (subst P at c.loop-entry.invariant.ordered) in
     let added = c.in_ok-add_statement.ensures in
     let same : Some next.next ≡ Some (last_place more) = sym next.place ∙ added.place in
     let here : next.next ≡ last_place more = cc in
-    let Q : Place → Type 0 = λ place. runs_out_of_order place rest ≡ None in
+    let Q : Place → Type 0 = λ place. first_misplaced place rest ≡ None in
     record {
       read =
           c.loop-entry.invariant.read
@@ -77,6 +89,7 @@ pub returns : goal.returns
 returns c =
     let entries = c.args.entries.now in
     let none = drop_all c.loop-entry.entry-index entries c.loop-entry-test.false in
-    let P : List RunEntry → Type 0 = λ left. runs_out_of_order (last_place c.loop-entry.runs) (numbered_run_resolutions left) ≡ None in
-    let wrong : Some 0 ≡ None = subst P none c.loop-entry.invariant.ordered in
+    let P : List RunEntry → Type 0 = λ left. first_misplaced (last_place c.loop-entry.runs) (numbered_run_resolutions left) ≡ None in
+    let stops = among (λ here. line_at_stop here ≡ Some 0) refl refl refl c.loop-entry.runs in
+    let wrong : Some 0 ≡ None = sym stops ∙ subst P none c.loop-entry.invariant.ordered in
     absurd (none-some 0 (sym wrong))

@@ -1,8 +1,7 @@
 use Rattle.std.proofs.Common.{List, ap, subst, inl, inr, Err}
 use Rattle.hz_line.specs.Statement.{Numbered}
 use Rattle.hz_run_text.specs.RunResolution.{ResolvedRunStatement}
-use Rattle.hz_run_text.specs.RunText.{IsRunTextBy}
-use Rattle.hz_run_text.specs.RunOrder.{statements_without_lines}
+use Rattle.hz_run_text.specs.RunText.{IsRunTextBy, statements_without_lines}
 use Rattle.hz_run_text.proofs.RunBuildLaws.{states_of}
 use Rattle.hz_run_text.proofs.RunUsableLaws.{usable_run}
 use Rattle.std.proofs.lemmas.Result.{err_from_is_err_and}

@@ -1,5 +1,5 @@
 use Rattle.std.proofs.Common.{◌≡◌, drop}
-use Rattle.hz_run_text.specs.RunFault.{first_start}
+use Rattle.hz_run_text.specs.RunRules.{first_start}
 use Rattle.hz_run_text.specs.RunResolution.{numbered_run_resolutions}
 use Rattle.hz_run_text.proofs.rules.first_start.Given as goal
 

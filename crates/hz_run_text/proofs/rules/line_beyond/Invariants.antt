@@ -1,5 +1,5 @@
 use Rattle.std.proofs.Common.{◌≡◌, ◌≤◌, drop}
-use Rattle.hz_run_text.specs.RunRules.{beyond_from}
+use Rattle.hz_run_text.specs.RunFault.{beyond_from}
 use Rattle.hz_run_text.specs.RunResolution.{numbered_run_resolutions}
 use Rattle.hz_run_text.proofs.rules.line_beyond.Given as goal
 use Rattle.hz_run_text.specs.Limits.{most_steps}

@@ -1,7 +1,7 @@
 use Rattle.std.proofs.Common.{◌≡◌, ◌∙◌, ◌++◌, ◌∷◌, [], List, Option, ap, sym, subst}
 use Rattle.std.specs.Prelude.{option_to_list, IsSome}
 use Rattle.hz_run_text.specs.RunStatement.{Cycle}
-use Rattle.hz_run_text.specs.OrderPass.{place_after}
+use Rattle.hz_run_text.specs.RunOrder.{place_after}
 use Rattle.hz_text.specs.RunParts.{RunOf}
 use Rattle.hz_run_text.specs.RunBuilt.{last_place, IsRunAdded}
 use Rattle.hz_run_text.proofs.RunBuildLaws.{added_cycle}
