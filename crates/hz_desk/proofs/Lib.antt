@@ -18,11 +18,3 @@ pub mod RightFindings
 pub mod ClassTable
 -- A right finding for every change: each of its parts is there
 pub mod FindingsExist
--- What a right finding says of a variable that its spread run doesn't change
-pub mod KeptValues
--- In a right finding all variables rest but those that the spread run changes
-pub mod FoundAtRest
--- The finding of a change that changes nothing is right
-pub mod QuietFindings
--- What is left to rest once a row more does
-pub mod OtherRows

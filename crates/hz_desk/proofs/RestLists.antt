@@ -2,7 +2,7 @@
 use Rattle.std.proofs.Common.{◌≡◌, ◌≢◌, ◌∙◌, refl, sym, ap, subst, ℕ, ◌<◌, Bool, true, false, Option, Some, None, List, length, set, replicate, get_or, get_or-set_same, get_or-set_other, length-set, arith, inl, inr}
 use Rattle.std.specs.List.{slice_get, slice_index_or}
 use Rattle.std.proofs.lemmas.Bool.{cases_eq}
-use Rattle.std.proofs.lemmas.List.{get_or-replicate, length-replicate, get_or-set_same as same_place, get_or-set_other as other_place}
+use Rattle.std.proofs.lemmas.List.{get_or-replicate, length-replicate}
 use Rattle.std.proofs.lemmas.List.FromFn.{fill_by_all, get_or-map-range_with_len, length-map-range_with_len}
 use Rattle.hz_core.specs.declared.tri.Tri.{Tri}
 use Rattle.hz_core.specs.declared.tri.Tri.TheVariants.{Zero, Unknown}
@@ -105,50 +105,3 @@ rests-in start a b words values counted i long inside told a_is b_is start_is wo
       rest-there values counted i told ∙ (ap (λ (v : Tri). rest_told v counts) (sym start_is) ∙ told-some value counts),
       row-there start a b words i inside ∙ ap (λ (r : Row). Some r) row,
     )
-
--- one variable gets such a row
-module _ (start : List Bool) (a b : List Tri) (words : List (Option Word)) (var : ℕ) (rest : Rest) (long : AreEquallyLong start a b words) (inside : var < length start) where
-  abbrev row : Row
-  row = row_at_rest rest
-
-  abbrev rows : List Row
-  rows = rows_of start a b words
-
-  abbrev now_start : List Bool
-  now_start = set start var rest.value
-
-  abbrev now_a : List Tri
-  now_a = set a var (tri_of rest.value)
-
-  abbrev now_b : List Tri
-  now_b = set b var (tri_of rest.value)
-
-  abbrev now_words : List (Option Word)
-  now_words = set words var (constant_if rest.counted rest.value)
-
-  row-here : get_or (set rows var row) var row ≡ row_at now_start now_a now_b now_words var
-  row-here =
-      let bit : bit_at now_start var ≡ rest.value = same_place start var rest.value false inside in
-      let of_a : value_at now_a var ≡ tri_of rest.value = same_place a var (tri_of rest.value) Zero (omega (arith, inside, long.a_long)) in
-      let of_b : value_at now_b var ≡ tri_of rest.value = same_place b var (tri_of rest.value) Zero (omega (arith, inside, long.b_long)) in
-      let word : slice_index_or now_words var None ≡ constant_if rest.counted rest.value = same_place words var (constant_if rest.counted rest.value) None (omega (arith, inside, long.words_long)) in
-      same_place rows var row row (omega (arith, inside, length-rows start a b words))
-      ∙ (sym (resting-row rest.value rest.counted) ∙ sym (rw (bit, of_a, of_b, word) refl))
-
-  row-aside : (k : ℕ) → k < length start → k ≢ var → get_or (set rows var row) k row ≡ row_at now_start now_a now_b now_words k
-  row-aside k within ne =
-      let bit : bit_at now_start k ≡ bit_at start k = other_place start var k rest.value false ne in
-      let of_a : value_at now_a k ≡ value_at a k = other_place a var k (tri_of rest.value) Zero ne in
-      let of_b : value_at now_b k ≡ value_at b k = other_place b var k (tri_of rest.value) Zero ne in
-      let word : slice_index_or now_words k None ≡ slice_index_or words k None = other_place words var k (constant_if rest.counted rest.value) None ne in
-      other_place rows var k row row ne
-      ∙ (get_or-map-range_with_len (row_at start a b words) 0 (length start) k k row within (omega arith) ∙ sym (rw (bit, of_a, of_b, word) refl))
-
-  pub rows-set : rows_of now_start now_a now_b now_words ≡ set rows var row
-  rows-set =
-      sym (fill_by_all (row_at now_start now_a now_b now_words) (set rows var row) (length now_start) row
-      (length-set rows var row ∙ (length-rows start a b words ∙ sym (length-set start var rest.value))) (λ k less.
-      elim (cases_eq k var) [
-        | inl at ↦ subst (λ (n : ℕ). get_or (set rows var row) n row ≡ row_at now_start now_a now_b now_words n) (sym at) row-here
-        | inr ne ↦ row-aside k (omega (arith, less, length-set start var rest.value)) ne
-      ]))

@@ -17,9 +17,6 @@
 -- AreRacesOf net input start spread settle cycle ..: their race states
 -- ArePassResults netlist input start a ranks b when rounds_a rounds_b: the results of both algorithms
 -- HavePassRoom, HasRunRoom, HasRooms, IsRoomFor: there is room for the analysis of every change
--- OthersRest free rows steps: all variables have the rows of ones that rest, but for those that some steps change
--- IsQuiet netlist free input start rows: a change changes nothing, and the rows are its rows
--- finding_at_rest variables rows input: what is then found
 -- DeskOf, LeavesDesk: what the code's Desk holds, and what it leaves behind
 -- IsAlong net input start steps rest races state: how far a follower has gone along a run
 -- BeginAlike first second common: two runs begin with the same steps
@@ -32,7 +29,6 @@ pub mod Rows
 pub mod ClassTable
 pub mod RowsOf
 pub mod RestsOf
-pub mod Resting
 pub mod ResultsOfPasses
 pub mod Room
 pub mod RoomFor

@@ -6,16 +6,12 @@ use Rattle.hz_free.specs.FreePart.{IsFreePart}
 use Rattle.hz_reach.specs.Given.{IsScratchFor}
 use Rattle.hz_desk.specs.ResultsOfPasses.{HavePassRoom}
 use Rattle.hz_desk.specs.FindingRoom.{HasRooms}
-use Rattle.hz_desk.specs.Finding.{finding_of}
-use Rattle.hz_desk.specs.Resting.{OthersRestOnceFound}
 use Rattle.hz_desk.specs.declared.room.Room.{Room}
 
--- all parts are those of the network, and have its room; the finding of a change leaves the rows that no step of its spread run changes
--- as the next change may need them
+-- all parts are those of the network, and have its room
 pub record IsRoomFor (netlist : Netlist) (room : Room) : Type 0 where
   pub free : IsFreePart netlist room.free
   pub passes : HavePassRoom netlist room.passes
   pub scratch : IsScratchFor netlist room.scratch
   pub follower : room.follower.circuit ≡ netlist
   pub finding : HasRooms (length (network_of netlist)) netlist.inputs room.finding
-  pub others : OthersRestOnceFound room.free.free (finding_of room.finding)

@@ -1,12 +1,10 @@
 //! What is found of one change.
-ghost use Rattle.std.specs.Prelude.{◌≡◌, ◌<◌, ◌≤◌, ℕ, Some, length, map, slice_set, IfOk, IfSome};
+ghost use Rattle.std.specs.Prelude.{◌≡◌, ◌<◌, ◌≤◌, ℕ, Some, length, map, IfOk, IfSome};
 ghost use Rattle.std.specs.List.{slice_get};
-ghost use Rattle.hz_desk.specs.Finding.{finding_of, values_a, values_b};
+ghost use Rattle.hz_desk.specs.Finding.{values_a, values_b};
 ghost use Rattle.hz_desk.specs.Rows.{changes_of};
 ghost use Rattle.hz_desk.specs.RowsOf.{row_with, row_at_rest};
 ghost use Rattle.hz_desk.specs.FindingRoom.{HasRooms};
-ghost use Rattle.hz_desk.specs.Resting.{finding_at_rest};
-ghost use Rattle.hz_free.specs.CappedWords.{constant_if};
 ghost use Rattle.hz_core.specs.Limits.{most_variables};
 
 use crate::class::{Class, class_of};
@@ -113,18 +111,6 @@ impl Rows {
         )
     }
 
-    // Writes the row of a variable that never changes.
-    pub(crate) fn set_at_rest(&mut self, var: usize, rest: Rest)
-        requires { var < length self.old }
-        ensures { self.new ≡ slice_set self.old var (row_at_rest rest) }
-    {
-        let value = Tri::of(rest.value);
-        self.start[var] = rest.value;
-        self.a[var] = value;
-        self.b[var] = value;
-        self.words[var] = word_at_rest(rest);
-    }
-
     /// The values of all variables at the start.
     pub fn starts(&self) -> &[bool]
         ensures { result.now ≡ map (λ row. row.start) self.now }
@@ -200,20 +186,6 @@ fn rest_of(start: bool, a: Tri, b: Tri, word: Option<Word>) -> Option<Rest>
     }
 }
 
-// The word of a variable that never changes, if it has a number of changes.
-fn word_at_rest(rest: Rest) -> PackedWord
-    ensures { result ≡ constant_if rest.counted rest.value }
-{
-    if rest.counted {
-        PackedWord::of(Word {
-            first: rest.value,
-            changes: Count::Exact(0),
-        })
-    } else {
-        PackedWord::none()
-    }
-}
-
 // The number of changes of a word, if there is one.
 fn changes_of(word: Option<Word>) -> Option<Count>
     ensures { result ≡ changes_of word }
@@ -284,8 +256,7 @@ impl Finding {
     // Room for the finding of a change, in which nothing is found.
     pub(crate) fn with_room(alloc: Global, variables: u32, inputs: u32) -> Result<Finding, Memory>
         requires { variables ≤ most_variables }
-        ensures rooms { IfOk result (HasRooms variables inputs) }
-        ensures none { IfOk result (λ finding. finding.rounds_a ≡ 0) }
+        ensures { IfOk result (HasRooms variables inputs) }
     {
         let room = variables as usize;
         Ok(Finding {
@@ -301,23 +272,5 @@ impl Finding {
             settle_races: 0,
             cycle_races: 0,
         })
-    }
-    // Leaves what is found of a change that changes nothing, to an input. The rows are there.
-    pub(crate) fn find_nothing(&mut self, input: &[bool])
-        requires { length input.now ≡ length self.old.input }
-        ensures found { finding_of self.new
-            ≡ finding_at_rest self.old.variables self.old.rows input.now }
-        ensures rooms { (variables inputs : ℕ) → HasRooms variables inputs self.old
-            → HasRooms variables inputs self.new }
-    {
-        self.rounds_a = 1;
-        self.rounds_b = 1;
-        self.input.write(input);
-        self.spread.clear();
-        self.settle.clear();
-        self.cycle.clear();
-        self.spread_races = 0;
-        self.settle_races = 0;
-        self.cycle_races = 0;
     }
 }

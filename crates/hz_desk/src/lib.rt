@@ -7,7 +7,6 @@
 //! | `class` | [`Class`]: what a change may do to a variable |
 //! | `existence` | the law that every change has a right finding |
 //! | `room` | what an analysis works with, and the analysis in it |
-//! | `quiet` | changes that change nothing, and the rows of the variables that never change |
 //! | `passes` | both passes, and what they leave for the runs |
 //! | `runs` | the three runs |
 //! | `races` | race states, counted while a follower goes along the runs |
@@ -18,7 +17,6 @@ mod desk;
 mod existence;
 mod finding;
 mod passes;
-mod quiet;
 mod races;
 mod rests;
 mod room;

@@ -12,7 +12,6 @@ ghost use Rattle.hz_word.specs.Capped.{greatest_cap};
 
 use crate::finding::{Finding, Rows};
 use crate::passes::{Passes, Rounds};
-use crate::quiet::{is_quiet, others_rest, quiet_is_right};
 use crate::races::count_races;
 use crate::runs::make_runs;
 use hz_core::Memory;
@@ -51,7 +50,7 @@ impl<'n> Room<'n> {
         })
     }
 
-    // Analyses one change of the network for which the room was made. If it changes nothing, it is found without a pass.
+    // Analyses one change of the network for which the room was made.
     pub(crate) fn analyse(&mut self, net: &Net, start: &[bool], input: &[bool], cap: u64)
         requires room { IsRoomFor net.now self.old }
         requires start { IsStableStart net.now start.now }
@@ -63,29 +62,7 @@ impl<'n> Room<'n> {
         ensures room { IsRoomFor net.now self.new }
     {
         net.keeps_shape();
-        quiet_is_right();
-        let change = Change { net, start, input };
-        if is_quiet(&change, &self.free, &mut self.finding) {
-            self.finding.find_nothing(input);
-            return;
-        }
-        self.analyse_anew(net, start, input, cap);
-    }
-
-    // Analyses one change, whatever the change before left.
-    fn analyse_anew(&mut self, net: &Net, start: &[bool], input: &[bool], cap: u64)
-        requires room { IsRoomFor net.now self.old }
-        requires start { IsStableStart net.now start.now }
-        requires input { IsInput net.now input.now }
-        requires cap_low { 1 ≤ cap }
-        requires cap_high { cap ≤ greatest_cap }
-        ensures right { IsRightFinding (network_of net.now) input.now start.now cap
-            (finding_of self.new.finding) }
-        ensures room { IsRoomFor net.now self.new }
-    {
-        net.keeps_shape();
         filled_is_right();
-        others_rest();
         let change = Change { net, start, input };
         let rounds = fill_rows(
             &change,

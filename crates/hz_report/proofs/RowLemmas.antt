@@ -9,31 +9,13 @@ use Rattle.hz_net.proofs.Places.{length-network_of}
 use Rattle.hz_desk.specs.declared.finding.Row.{Row}
 use Rattle.hz_options.specs.declared.show.Show.{Show}
 use Rattle.hz_options.specs.declared.show.Show.TheVariants.{Nodes, All}
-use Rattle.hz_text.specs.Printed.{letter_of}
-use Rattle.hz_text.specs.VariableWord.{variable_word}
-use Rattle.hz_report.specs.Report.{changes_word, class_word, row_line, row_lines, shown_count, shown_rows}
-use Rattle.hz_core.specs.Letters.{tri_letter}
+use Rattle.hz_report.specs.Report.{row_line, row_lines, shown_count, shown_rows}
 
 -- the pieces of what stands after the variable
 pub row-pieces : (start : ℕ) (a b changes class : List ℕ)
-    → ((codes " start " ++ start ∷ codes " A " ++ a ++ codes " B " ++ b ++ codes " changes ") ++ changes) ++ (32 ∷ class)
+    → (((codes " start " ++ start ∷ []) ++ (codes " A " ++ a) ++ (codes " B " ++ b ++ codes " changes ")) ++ changes) ++ (32 ∷ class)
     ≡ codes " start " ++ (start ∷ []) ++ codes " A " ++ a ++ codes " B " ++ b ++ codes " changes " ++ changes ++ 32 ∷ class
 row-pieces start a b changes class = simp append_assoc
-
--- the pieces of a line whose variable has a name
-rare-pieces : (name : List ℕ) (start : ℕ) (a b changes class : List ℕ)
-    → (name ++ (codes " start " ++ start ∷ codes " A " ++ a ++ codes " B " ++ b ++ codes " changes ") ++ changes) ++ ((32 ∷ class) ++ (10 ∷ []) ++ [])
-    ≡ name ++ (codes " start " ++ (start ∷ []) ++ codes " A " ++ a ++ codes " B " ++ b ++ codes " changes " ++ changes ++ 32 ∷ class) ++ (10 ∷ [])
-rare-pieces name start a b changes class = simp append_assoc
-
-pub rare-line : (netlist : Netlist) (node : ℕ) (row : Row) (name : List ℕ) → variable_word netlist node ≡ name
-    → (name ++ (codes " start " ++ letter_of row.start ∷ codes " A " ++ tri_letter row.a ++ codes " B " ++ tri_letter row.b ++ codes " changes ") ++ changes_word row.changes)
-    ++ ((32 ∷ class_word row.class) ++ (10 ∷ []) ++ []) ≡ row_line netlist node row
-unfolding row_line
-rare-line netlist node row name is =
-    rare-pieces name (letter_of row.start) (tri_letter row.a) (tri_letter row.b) (changes_word row.changes) (class_word row.class)
-    ∙ ap (λ (word : List ℕ). word ++ (codes " start " ++ (letter_of row.start ∷ []) ++ codes " A " ++ tri_letter row.a ++ codes " B " ++ tri_letter row.b ++ codes " changes "
-    ++ changes_word row.changes ++ 32 ∷ class_word row.class) ++ (10 ∷ [])) (sym is)
 
 row_lines-append : (netlist : Netlist) (var : ℕ) (rows : List Row) (row : Row) → row_lines netlist var (rows ++ row ∷ []) ≡ row_lines netlist var rows ++ row_line netlist (var + length rows) row
 row_lines-append netlist var [] row =

@@ -26,9 +26,6 @@ use hz_word::Count::{Exact, Many};
 use hz_write::Piece::Long;
 use hz_write::Writer;
 
-// How many bytes say the values of a row.
-const VALUES: usize = 25;
-
 // Gives the line of each variable that is shown.
 pub(crate) fn write_rows<K: Sink>(writer: &mut Writer<'_, K>, net: &Net, rows: &Rows, show: Show)
     requires rows { AreByVariable net.now rows.now }
@@ -74,7 +71,7 @@ pub(crate) fn write_kept_rows<K: Sink>(
             }
             None => {
                 write_kept_lines(writer, net, text, begins, from, var);
-                write_rare_row(writer, net, var as u32, rows.row(var));
+                write_row(writer, net, rows, var as u32);
                 from = var + 1;
             }
         }
@@ -245,62 +242,6 @@ fn write_row<K: Sink>(writer: &mut Writer<'_, K>, net: &Net, rows: &Rows, var: u
     writer.end();
 }
 
-// Gives a node with a row that is not a common one. It is kept apart, so that its caller stays short.
-#[inline(never)]
-fn write_rare_row<K: Sink>(writer: &mut Writer<'_, K>, net: &Net, node: u32, row: Row)
-    requires { node < length net.now.names }
-    ensures gave { Writes K.output K.faults (row_line net.now node row) writer.old writer.new }
-    ensures none_waits { NoneWaits writer.new }
-{
-    let values = values_text(row.start, row.a, row.b);
-    write_front(writer, net.circuit().name(node), values, row.changes);
-    writer.end_by_three(spaced_class(row.class), b"\n", b"");
-}
-
-// Gives a name, values and a number of changes. Most numbers are short.
-#[inline(always)]
-fn write_front<K: Sink>(
-    writer: &mut Writer<'_, K>,
-    name: &[u8],
-    values: &[u8; VALUES],
-    changes: Option<Count>,
-)
-    ensures { Writes K.output K.faults
-        (name.now ++ values.now ++ changes_word changes) writer.old writer.new }
-{
-    match one_digit(changes) {
-        Some(digit) => writer.three(name, values.as_slice(), &[digit]),
-        None => {
-            writer.three(name, values.as_slice(), b"");
-            write_changes(writer, changes);
-        }
-    }
-}
-
-// The digit of a number of changes, if it has just one.
-#[inline(always)]
-fn one_digit(changes: Option<Count>) -> Option<u8>
-    ensures { IfSome result (λ digit. changes_word changes ≡ digit ∷ []) }
-{
-    let Some(Exact(number)) = changes else {
-        return None;
-    };
-    if number < 10 {
-        Some(digit_of(number))
-    } else {
-        None
-    }
-}
-
-// The digit of a number below 10.
-#[inline(always)]
-fn digit_of(number: u64) -> u8
-    requires { number < 10 }
-    ensures { result ≡ 48 + number }
-{
-    b'0' + number as u8
-}
-
 // Gives what stands after the variable of a row. It is one piece for nearly every row, since each piece of a line takes its time,
 // and a report has millions of these lines.
 fn write_row_text<K: Sink>(writer: &mut Writer<'_, K>, rows: &Rows, var: usize)
@@ -340,36 +281,37 @@ fn single_text(row: Row) -> Option<&'static [u8; COMMON]>
 fn write_pieces<K: Sink>(writer: &mut Writer<'_, K>, row: Row)
     ensures { Writes K.output K.faults (row_text row) writer.old writer.new }
 {
-    writer.text(values_text(row.start, row.a, row.b).as_slice());
+    writer.three(start_text(row.start), a_text(row.a), b_text(row.b));
     write_changes(writer, row.changes);
     writer.text(spaced_class(row.class));
 }
 
-// What stands between a variable and its number of changes: its values at the start, in A and in B.
-fn values_text(start: bool, a: Tri, b: Tri) -> &'static [u8; VALUES]
-    ensures { result.now
-        ≡ codes " start " ++ letter_of start ∷ codes " A " ++ tri_letter a ++ codes " B "
-        ++ tri_letter b ++ codes " changes " }
+// What stands for a value at the start.
+fn start_text(start: bool) -> &'static [u8]
+    ensures { result.now ≡ codes " start " ++ letter_of start ∷ [] }
 {
-    match (start, a, b) {
-        (false, Zero, Zero) => b" start 0 A 0 B 0 changes ",
-        (false, Zero, One) => b" start 0 A 0 B 1 changes ",
-        (false, Zero, Unknown) => b" start 0 A 0 B X changes ",
-        (false, One, Zero) => b" start 0 A 1 B 0 changes ",
-        (false, One, One) => b" start 0 A 1 B 1 changes ",
-        (false, One, Unknown) => b" start 0 A 1 B X changes ",
-        (false, Unknown, Zero) => b" start 0 A X B 0 changes ",
-        (false, Unknown, One) => b" start 0 A X B 1 changes ",
-        (false, Unknown, Unknown) => b" start 0 A X B X changes ",
-        (true, Zero, Zero) => b" start 1 A 0 B 0 changes ",
-        (true, Zero, One) => b" start 1 A 0 B 1 changes ",
-        (true, Zero, Unknown) => b" start 1 A 0 B X changes ",
-        (true, One, Zero) => b" start 1 A 1 B 0 changes ",
-        (true, One, One) => b" start 1 A 1 B 1 changes ",
-        (true, One, Unknown) => b" start 1 A 1 B X changes ",
-        (true, Unknown, Zero) => b" start 1 A X B 0 changes ",
-        (true, Unknown, One) => b" start 1 A X B 1 changes ",
-        (true, Unknown, Unknown) => b" start 1 A X B X changes ",
+    if start { b" start 1" } else { b" start 0" }
+}
+
+// What stands for a value in A.
+fn a_text(a: Tri) -> &'static [u8]
+    ensures { result.now ≡ codes " A " ++ tri_letter a }
+{
+    match a {
+        Zero => b" A 0",
+        One => b" A 1",
+        Unknown => b" A X",
+    }
+}
+
+// What stands for a value in B, before the number of changes.
+fn b_text(b: Tri) -> &'static [u8]
+    ensures { result.now ≡ codes " B " ++ tri_letter b ++ codes " changes " }
+{
+    match b {
+        Zero => b" B 0 changes ",
+        One => b" B 1 changes ",
+        Unknown => b" B X changes ",
     }
 }
 
@@ -379,19 +321,8 @@ fn write_changes<K: Sink>(writer: &mut Writer<'_, K>, changes: Option<Count>)
 {
     match changes {
         None => writer.text(b"-"),
-        Some(Exact(changes)) => write_exact(writer, changes),
+        Some(Exact(changes)) => writer.add(&[Long(changes)]),
         Some(Many) => writer.text(b"many"),
-    }
-}
-
-// Gives a number of changes in decimal digits. Most variables change at most once.
-fn write_exact<K: Sink>(writer: &mut Writer<'_, K>, changes: u64)
-    ensures { Writes K.output K.faults (decimal changes) writer.old writer.new }
-{
-    match changes {
-        0 => writer.text(b"0"),
-        1 => writer.text(b"1"),
-        _ => writer.add(&[Long(changes)]),
     }
 }
 

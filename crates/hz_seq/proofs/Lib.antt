@@ -2,8 +2,6 @@
 pub mod NextStart
 -- What the loop over the values knows
 pub mod Settling
--- What is left to settle once a variable more has its value, and once a step has none left
-pub mod ChangedSettling
 -- What a finding leaves, in the words of the code
 pub mod FindingEffects
 -- The analyses of the changes so far, for a loop that makes one change after the other

@@ -9,11 +9,9 @@
 -- SequenceState: a desk, the start of the next change, and the variable that stops
 -- IsLeftBy finding old new: what a change leaves
 -- GoesOn cap change analysis old new: a sequence goes on by a change
--- IsSettledBut b steps state first: a state has the values of all variables but those that are X or that some steps change
 -- HoldsSequence fields, LeavesSequence: what the code's Sequence holds
 
 pub mod Sequence
 pub mod Analyses
-pub mod Settling
 pub mod Inside
 pub mod Lent

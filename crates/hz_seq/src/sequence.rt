@@ -125,7 +125,7 @@ impl<'n> Sequence<'n> {
             .change(self.start.as_slice(), self.input.as_slice(), cap);
         let found = self.desk.finding();
         let values = found.rows.values_b();
-        self.stopped = settle(&found.spread, values, self.start.as_mut_slice());
+        self.stopped = settle(values, self.start.as_mut_slice());
         Ok(())
     }
 }

@@ -43,20 +43,14 @@ kept_text-requires-clause-var g c =
     let count : c.nodes-count.result ≡ length netlist.names = rw c.circuit.ensures.same at c.nodes-count.ensures.nodes in
     omega (arith, count, c.loop-var-test.true, c.requires.rows, length-network_of netlist c.circuit.ensures.circuit)
 
-pub row-requires : goal.row-requires
-row-requires g c =
-    let netlist = c.args.net.now in
-    let count : c.nodes-count.result ≡ length netlist.names = rw c.circuit.ensures.same at c.nodes-count.ensures.nodes in
-    omega (arith, count, c.loop-var-test.true, c.requires.rows, length-network_of netlist c.circuit.ensures.circuit)
-
 pub first_not_shown-var-requires-in-loop-var-clause-rows : goal.first_not_shown-var-requires-in-loop-var-clause-rows
 first_not_shown-var-requires-in-loop-var-clause-rows g c =
     let netlist = c.args.net.now in
     let count : c.nodes-count.result ≡ length netlist.names = rw c.circuit.ensures.same at c.nodes-count.ensures.nodes in
     omega (arith, count, c.requires.rows, length-network_of netlist c.circuit.ensures.circuit)
 
-pub write_rare_row-requires : goal.write_rare_row-requires
-write_rare_row-requires g c =
+pub write_row-requires-clause-var : goal.write_row-requires-clause-var
+write_row-requires-clause-var g c =
     let netlist = c.args.net.now in
     let count : c.nodes-count.result ≡ length netlist.names = rw c.circuit.ensures.same at c.nodes-count.ensures.nodes in
     omega (arith, count, c.loop-var-test.true, length-network_of netlist c.circuit.ensures.circuit)
@@ -93,8 +87,8 @@ loop-var-preserved g c =
             (writes_then so_far.1
             (writes_same w.write_kept_lines.ensures.gave (kept-lines netlist rows from var text begins enough (omega (arith, within)) under))
             (lines-joined netlist rows from var so_far.0.ordered (omega (arith, within, enough))))
-            w.write_rare_row.ensures.gave (sym (row_lines_more netlist rows var w.row.result w.row.ensures)),
-        w.write_rare_row.ensures.none_waits,
+            (w.write_row.ensures.gave (get_or rows var no_row) there) (sym (row_lines_more netlist rows var (get_or rows var no_row) there)),
+        w.write_row.ensures.none_waits,
       )
     ] in
     let few : next.result ≤ length netlist.names = omega (arith, count, next.ensures.inside) in (

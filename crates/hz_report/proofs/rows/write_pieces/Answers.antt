@@ -10,7 +10,7 @@ use Rattle.hz_report.proofs.rows.write_pieces.Goals as goal
 pub returns : goal.returns
 returns g c =
     let row = c.args.row in
-    let values = rw (c.as_slice.ensures, c.values_text.ensures) at c.text.ensures in
-    let class = rw c.spaced_class.ensures at c.text-2.ensures in
+    let values = rw (c.start_text.ensures, c.a_text.ensures, c.b_text.ensures) at c.three.ensures in
+    let class = rw c.spaced_class.ensures at c.text.ensures in
     writes_then (writes_then values c.write_changes.ensures refl) class
     (row-pieces (letter_of row.start) (tri_letter row.a) (tri_letter row.b) (changes_word row.changes) (class_word row.class))

@@ -1,5 +1,5 @@
--- No change was analysed yet.
-use Rattle.std.proofs.Common.{◌∙◌, ℕ, false, length, ap, subst, arith}
+-- The room of each part is that of the network.
+use Rattle.std.proofs.Common.{◌∙◌, ℕ, false, length, ap, subst}
 use Rattle.std.proofs.lemmas.List.{length-replicate}
 use Rattle.hz_core.specs.Netlist.{Netlist}
 use Rattle.hz_net.specs.Network.{network_of}
@@ -19,6 +19,5 @@ returns c = record {
   follower = ap (λ (f : FollowerOf). f.circuit) c.in_ok-follower.ensures;
   finding =
       subst (λ (n : ℕ). HasRooms n c.args.net.now.inputs c.in_ok-finding.finding) c.len.ensures.len
-      (subst (λ (n : ℕ). HasRooms c.len.result n c.in_ok-finding.finding) (c.inputs.ensures.inputs ∙ ap (λ (netlist : Netlist). netlist.inputs) c.circuit.ensures.same) c.in_ok-finding.ensures.rooms);
-  others = λ some. absurd (omega (arith, some, c.in_ok-finding.ensures.none));
+      (subst (λ (n : ℕ). HasRooms c.len.result n c.in_ok-finding.finding) (c.inputs.ensures.inputs ∙ ap (λ (netlist : Netlist). netlist.inputs) c.circuit.ensures.same) c.in_ok-finding.ensures);
 }

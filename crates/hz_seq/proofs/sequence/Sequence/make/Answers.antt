@@ -10,8 +10,6 @@ use Rattle.hz_desk.specs.Finding.{FindingOf, finding_of, values_b}
 use Rattle.hz_desk.specs.RightFinding.{IsRightFinding}
 use Rattle.hz_net.proofs.Places.{length-network_of}
 use Rattle.hz_seq.specs.Sequence.{IsSettledAt, IsFirstUnknown}
-use Rattle.hz_seq.specs.Settling.{IsSettledBut}
-use Rattle.hz_seq.proofs.ChangedSettling.{begun}
 use Rattle.hz_seq.proofs.FindingEffects.{left-by, stable-left}
 use Rattle.hz_seq.proofs.sequence.Sequence.make.Goals as goal
 
@@ -70,13 +68,3 @@ write_input-requires-clause-state c =
       length-network_of c.self.inside.desk.netlist circuit,
       circuit.nodes,
     )
-
-pub settle-self-inside-requires-clause-others : goal.settle-self-inside-requires-clause-others
-settle-self-inside-requires-clause-others c =
-    let net = network_of c.self.inside.desk.netlist in
-    let found : FindingOf = finding_of c.finding-found.result.now in
-    let right : IsRightFinding net c.as_slice-3.result.now c.as_slice-2.result.now c.args.cap found =
-    subst (IsRightFinding net c.as_slice-3.result.now c.as_slice-2.result.now c.args.cap) (sym (c.finding-found.ensures.same ∙ c.change.follows.holds-at-none.1)) c.change.ensures.right in
-    subst (λ (list : List Tri). IsSettledBut list found.spread c.as_mut_slice-2.result.now (length list)) (sym c.values_b-values.ensures)
-    (subst (λ (bits : List Bool). IsSettledBut (values_b found.rows) found.spread bits (length (values_b found.rows))) (c.as_slice-2.ensures.value ∙ sym c.as_mut_slice-2.ensures.value)
-    (begun net c.as_slice-3.result.now c.as_slice-2.result.now c.args.cap found right))
