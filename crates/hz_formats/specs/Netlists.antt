@@ -2,7 +2,9 @@
 use Rattle.std.specs.Prelude.{◌≡◌, ℕ, ◌-◌, ◌⊎◌, Bool, true, false, List, length, drop, codes}
 use Rattle.hz_core.specs.Netlist.{Netlist, IsCircuit, IsWhole}
 use Rattle.hz_line.specs.Keyword.{is_keyword}
+use Rattle.hz_bench.specs.Rows.{IsLeastBy, NoneStands}
 use Rattle.hz_bench.specs.Fault as bench
+use Rattle.hz_bench.specs.Fault.{bench_row}
 use Rattle.hz_bench.specs.declared.fault.BenchFault.TheVariants as bench_fault
 use Rattle.hz_bench.specs.Netlist.{circuit_of_statements}
 use Rattle.hz_bench.specs.Text.{statements_of}
@@ -23,13 +25,13 @@ has_blif_name name = is_keyword (drop (length name - 5) name) (codes ".blif")
 -- the answer among the faults of a text, which is in the format of its file's name
 abbrev pub IsLeastNetlistFault : (name bytes : List ℕ) → NetlistFault → Type 0
 IsLeastNetlistFault name bytes (Bench fault) =
-    (has_blif_name name ≡ false) × bench.IsLeastFault bytes fault
+    (has_blif_name name ≡ false) × IsLeastBy bench_row bytes fault
 IsLeastNetlistFault name bytes (Blif fault) =
     (has_blif_name name ≡ true) × blif.IsLeastFault bytes fault
 
 -- the line of the text that a fault names; 0 if it names none
 abbrev pub named_netlist_line : NetlistFault → ℕ
-named_netlist_line (Bench fault) = bench.fault_line_number fault
+named_netlist_line (Bench fault) = (bench_row fault).line
 named_netlist_line (Blif fault) = blif.fault_line fault
 
 -- The line that is told of a netlist's text: that of its least fault, 0 if it names none. If the call was cut short, none is told.
@@ -61,7 +63,7 @@ IsNetlistRefusal name bytes (Blif fault) =
 abbrev pub IsTextIn : (is_blif : Bool) → (bytes : List ℕ) → Netlist → Type 0
 IsTextIn true bytes netlist = blif.IsFaultless bytes × (netlist ≡ blif_circuit bytes)
 IsTextIn false bytes netlist =
-    bench.IsFaultless bytes × (netlist ≡ circuit_of_statements (statements_of bytes))
+    NoneStands bench_row bytes × (netlist ≡ circuit_of_statements (statements_of bytes))
 
 -- the first text is that of this circuit
 abbrev pub IsNetlistText : (name bytes : List ℕ) → Netlist → Type 0

@@ -2,6 +2,7 @@
 use Rattle.std.specs.Prelude.{◌≢◌, ℕ, List}
 use Rattle.hz_bench.specs.declared.fault.BenchFault.{BenchFault}
 use Rattle.hz_bench.specs.declared.fault.BenchFault.TheVariants as bench
+use Rattle.hz_bench.specs.Fault.{bench_row}
 use Rattle.hz_blif.specs.declared.fault.BlifFault.{BlifFault}
 use Rattle.hz_blif.specs.declared.fault.BlifFault.TheVariants as blif
 use Rattle.hz_refusal.specs.declared.status.Status.{Status}
@@ -9,12 +10,12 @@ use Rattle.hz_refusal.specs.declared.status.Status.TheVariants as status
 use Rattle.hz_refusal.specs.Answer.{Prints}
 use Rattle.hz_formats.specs.declared.netlist.NetlistFault.{NetlistFault}
 use Rattle.hz_formats.specs.declared.netlist.NetlistFault.TheVariants.{Bench, Blif}
-use Rattle.hz_formats.specs.Refusal.{bench_fault_line, blif_fault_line}
+use Rattle.hz_formats.specs.Refusal.{refused_line, blif_fault_line}
 
 -- what is written of a fault of a netlist in the .bench format: nothing if memory ran out
 abbrev pub BenchPrints : BenchFault → Status → List ℕ → Type 0
 BenchPrints fault own written =
-    (fault ≢ bench.Memory) × Prints status.Netlist (bench_fault_line fault) own written
+    (fault ≢ bench.Memory) × Prints status.Netlist (refused_line (bench_row fault).said) own written
 
 -- what is written of a fault of a netlist in BLIF: nothing if memory ran out
 abbrev pub BlifPrints : BlifFault → Status → List ℕ → Type 0

@@ -1,6 +1,6 @@
 //! The first text: a netlist, in the format that the name of its file tells.
 ghost use Rattle.std.specs.Prelude.{◌≡◌, ◌≤◌, IfOk, IfErr, length};
-ghost use Rattle.hz_bench.specs.Fault.{fault_line_number};
+ghost use Rattle.hz_bench.specs.Fault.{bench_row};
 ghost use Rattle.hz_blif.specs.Fault.{fault_line};
 ghost use Rattle.hz_core.specs.Netlist.{IsWhole};
 ghost use Rattle.hz_line.specs.Line.{most_text_bytes};
@@ -36,7 +36,7 @@ impl NetlistFault {
 
 // The line that a fault of a netlist in the .bench format names.
 fn bench_line(fault: BenchFault) -> u32
-    ensures { result ≡ fault_line_number fault }
+    ensures { result ≡ (bench_row fault).line }
 {
     match fault {
         BenchFault::Form { line }
