@@ -11,11 +11,16 @@ use Rattle.hz_options.specs.declared.show.Show.{Show}
 use Rattle.hz_options.specs.declared.show.Show.TheVariants.{Nodes, All}
 use Rattle.hz_report.specs.Report.{row_line, row_lines, shown_count, shown_rows}
 
+-- six lists, grouped in pairs or one after the other
+grouped : (s t u v w x : List ℕ) → (s ++ (t ++ u)) ++ ((v ++ w) ++ x) ≡ ((((s ++ t) ++ u) ++ v) ++ w) ++ x
+grouped s t u v w x = simp append_assoc
+
 -- the pieces of what stands after the variable
 pub row-pieces : (start : ℕ) (a b changes class : List ℕ)
     → (((codes " start " ++ start ∷ []) ++ (codes " A " ++ a) ++ (codes " B " ++ b ++ codes " changes ")) ++ changes) ++ (32 ∷ class)
     ≡ codes " start " ++ (start ∷ []) ++ codes " A " ++ a ++ codes " B " ++ b ++ codes " changes " ++ changes ++ 32 ∷ class
-row-pieces start a b changes class = simp append_assoc
+row-pieces start a b changes class =
+    ap (λ (front : List ℕ). (front ++ changes) ++ (32 ∷ class)) (grouped (codes " start " ++ start ∷ []) (codes " A ") a (codes " B ") b (codes " changes "))
 
 row_lines-append : (netlist : Netlist) (var : ℕ) (rows : List Row) (row : Row) → row_lines netlist var (rows ++ row ∷ []) ≡ row_lines netlist var rows ++ row_line netlist (var + length rows) row
 row_lines-append netlist var [] row =
