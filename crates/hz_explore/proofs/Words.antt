@@ -34,4 +34,5 @@ pub use Rattle.std.proofs.lemmas.List.{length-map, length-take-le}
 pub use Rattle.std.proofs.lemmas.List.Concat.{flat_map-append}
 pub use Rattle.std.proofs.lemmas.List.Elements.{All-append, All-cons, All-head, All-nil, All-tail}
 pub use Rattle.std.proofs.lemmas.List.FromFn.{length-map-range_with_len}
-pub use Rattle.std.specs.List.{IsDistinct, flat_map, list_all, list_any, range_with_len}
+unfoldable pub use Rattle.std.specs.List.{IsDistinct}
+pub use Rattle.std.specs.List.{flat_map, list_all, list_any, range_with_len}
