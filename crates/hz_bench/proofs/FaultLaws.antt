@@ -7,15 +7,16 @@ use Rattle.std.proofs.lemmas.Bool.Decides.{nat_tests}
 use Rattle.std.proofs.lemmas.List.Folds.{Any-from_list_any, list_any_at}
 use Rattle.std.proofs.lemmas.Slice.Eq.{bytes_eq-Decides}
 use Rattle.hz_line.specs.Line.{lines_of}
-use Rattle.hz_line.specs.Statement.{Malformed, Numbered, first_malformed}
+use Rattle.hz_line.specs.Statement.{Malformed, Means, Numbered, first_malformed}
 use Rattle.hz_line.proofs.LeastLaws as least
 use Rattle.hz_line.proofs.StatementLemmas.{Ascends, numbered_from-Ascends, meaning_at-first, meaning_at-none, find-Some, find-None, stated, stating, first_passing_line-found, first_passing_line-unfound, Ascends-front, Ascends-before}
 use Rattle.hz_bench.specs.declared.fault.BenchFault.{BenchFault}
 use Rattle.hz_bench.specs.declared.fault.BenchFault.TheVariants.{Form, Name, KindUnknown, Twice, Pins, Undefined, TooMany, Memory}
 use Rattle.hz_bench.specs.Check.{uses_undefined, fault_or, too_many_fault, first_fault}
 use Rattle.hz_bench.specs.Definition.{is_that, defines, definer}
-use Rattle.hz_bench.specs.Fault.{States, HasThat, Defines, Uses, IsSecond, HasFault, fault_number, fault_line_number, bench_faults, IsLeastFault, IsFaultless}
+use Rattle.hz_bench.specs.Fault.{Has, Defines, IsSecond, bench_row}
 use Rattle.hz_netlist.specs.Element.{variable_total}
+use Rattle.hz_netlist.specs.Rows.{faults_by, IsLeastBy, NoneStands}
 use Rattle.hz_bench.specs.Netlist.{elements_of}
 use Rattle.hz_bench.specs.Statement.{Statement, statement_of, defined_name, used_names, has_long_name, has_unknown_kind, has_wrong_pins, statement_pin_count}
 use Rattle.hz_bench.specs.Text.{bench_meaning_at, bench_statements, plain, statements_of}
@@ -26,6 +27,10 @@ use Rattle.hz_core.specs.Limits.{most_variables}
 ascending : (text : List ℕ) → Ascends 1 (bench_statements text)
 ascending text = numbered_from-Ascends statement_of 1 (lines_of text)
 
+-- the line has a statement
+abbrev pub States : List ℕ → ℕ → Statement → Type 0
+States text line statement = bench_meaning_at text line ≡ Means statement
+
 -- the line has a statement that passes a test with its line
 abbrev HasOn : (Numbered Statement → Bool) → List ℕ → ℕ → Type 0
 HasOn test text line = (statement : Statement) × States text line statement × (test (record { line = line; statement = statement }) ≡ true)
@@ -34,28 +39,28 @@ HasOn test text line = (statement : Statement) × States text line statement × 
 abbrev ByNumber : List ℕ → ℕ → ℕ → Type 0
 ByNumber text zero line = ⊥
 ByNumber text (suc zero) line = bench_meaning_at text line ≡ Malformed
-ByNumber text (suc (suc zero)) line = HasThat has_long_name text line
-ByNumber text (suc (suc (suc zero))) line = HasThat has_unknown_kind text line
+ByNumber text (suc (suc zero)) line = Has (λ it. has_long_name it ≡ true) line text
+ByNumber text (suc (suc (suc zero))) line = Has (λ it. has_unknown_kind it ≡ true) line text
 ByNumber text (suc (suc (suc (suc zero)))) line = ⊥
 ByNumber text (suc (suc (suc (suc (suc zero))))) line = (first : ℕ) × ((name : List ℕ) × IsSecond text line first name)
-ByNumber text (suc (suc (suc (suc (suc (suc zero)))))) line = HasThat has_wrong_pins text line
-ByNumber text (suc (suc (suc (suc (suc (suc (suc zero))))))) line = (name : List ℕ) × Uses text line name × ((other : ℕ) → ¬ Defines text other name)
+ByNumber text (suc (suc (suc (suc (suc (suc zero)))))) line = Has (λ it. has_wrong_pins it ≡ true) line text
+ByNumber text (suc (suc (suc (suc (suc (suc (suc zero))))))) line = (name : List ℕ) × Has (λ it. Contains (used_names it) name) line text × ((other : ℕ) → ¬ Defines text other name)
 ByNumber text (suc (suc (suc (suc (suc (suc (suc (suc zero)))))))) line = most_variables < variable_total (elements_of (statements_of text))
 ByNumber text (suc (suc (suc (suc (suc (suc (suc (suc (suc more))))))))) line = ⊥
 
-by_number : (text : List ℕ) (fault : BenchFault) → HasFault text fault → ByNumber text (fault_number fault) (fault_line_number fault)
+by_number : (text : List ℕ) (fault : BenchFault) → (bench_row fault).stands text → ByNumber text ((bench_row fault).number) ((bench_row fault).line)
 by_number text (Form line) p = p
 by_number text (Name line) p = p
 by_number text (KindUnknown line) p = p
 by_number text (Twice line first) p = (first, p)
-by_number text (Pins line count) p = (p.0, p.1, p.2)
+by_number text (Pins line count) p = (p.0, p.1, p.2.0)
 by_number text (Undefined line) p = p
 by_number text (TooMany variables) p = omega (arith, p.0, p.1)
 by_number text Memory p = p
 
 -- each fault that stands in the text has at least this number
 abbrev pub NoneBelow : List ℕ → ℕ → Type 0
-NoneBelow text number = least.NoneBelow (bench_faults text) number
+NoneBelow text number = least.NoneBelow (faults_by bench_row text) number
 
 none_below-one : (text : List ℕ) → NoneBelow text 1
 none_below-one text (Form line) p = lit≤ tt
@@ -68,14 +73,14 @@ none_below-one text (TooMany variables) p = lit≤ tt
 none_below-one text Memory p = absurd p
 
 -- what stands in a text where a fault with this number stands
-at_number : (text : List ℕ) (number : ℕ) (fault : BenchFault) → HasFault text fault → fault_number fault ≡ number → ByNumber text number (fault_line_number fault)
-at_number text number fault p same = subst (λ n. ByNumber text n (fault_line_number fault)) same (by_number text fault p)
+at_number : (text : List ℕ) (number : ℕ) (fault : BenchFault) → (bench_row fault).stands text → (bench_row fault).number ≡ number → ByNumber text number ((bench_row fault).line)
+at_number text number fault p same = subst (λ n. ByNumber text n ((bench_row fault).line)) same (by_number text fault p)
 
 none_below-next : (text : List ℕ) (number : ℕ) → NoneBelow text number → ((line : ℕ) → ByNumber text number line → ⊥) → NoneBelow text (suc number)
 none_below-next text number low none =
-    least.none_below-next (bench_faults text) number low (λ other p same. none (fault_line_number other) (at_number text number other p same))
+    least.none_below-next (faults_by bench_row text) number low (λ other p same. none ((bench_row other).line) (at_number text number other p same))
 
-none_below-end : (text : List ℕ) → NoneBelow text 9 → IsFaultless text
+none_below-end : (text : List ℕ) → NoneBelow text 9 → NoneStands bench_row text
 none_below-end text low (Form line) p = absurd (omega (arith, low (Form line) p))
 none_below-end text low (Name line) p = absurd (omega (arith, low (Name line) p))
 none_below-end text low (KindUnknown line) p = absurd (omega (arith, low (KindUnknown line) p))
@@ -86,22 +91,22 @@ none_below-end text low (TooMany variables) p = absurd (omega (arith, low (TooMa
 none_below-end text low Memory p = p
 
 -- a fault is the least if none has a lesser number, and none of its number an earlier line
-IsLeastFault-from : (text : List ℕ) (number : ℕ) (fault : BenchFault) → fault_number fault ≡ number → HasFault text fault → NoneBelow text number → ((line : ℕ) → ByNumber text number line → fault_line_number fault ≤ line) → IsLeastFault text fault
+IsLeastFault-from : (text : List ℕ) (number : ℕ) (fault : BenchFault) → (bench_row fault).number ≡ number → (bench_row fault).stands text → NoneBelow text number → ((line : ℕ) → ByNumber text number line → (bench_row fault).line ≤ line) → IsLeastBy bench_row text fault
 IsLeastFault-from text number fault is stands low earliest =
-    least.least-from (bench_faults text) number fault low (record {
+    least.least-from (faults_by bench_row text) number fault low (record {
       stands = stands;
       number_is = is;
-      least = λ other p same. earliest (fault_line_number other) (at_number text number other p same);
+      least = λ other p same. earliest ((bench_row other).line) (at_number text number other p same);
     })
 
 -- what an answer says of the text
 abbrev pub Outcome : List ℕ → Option BenchFault → Type 0
-Outcome text answer = MatchOption answer (IsFaultless text) (IsLeastFault text)
+Outcome text answer = MatchOption answer (NoneStands bench_row text) (IsLeastBy bench_row text)
 
 -- a pass over the statements finds the least fault of its number, if there is one
 outcome-found : (text : List ℕ) (number : ℕ) (test : Numbered Statement → Bool) (fault : Numbered Statement → BenchFault) (answer : Option (Numbered Statement)) (rest : Option BenchFault)
-    → NoneBelow text number → ((found : Numbered Statement) → fault_number (fault found) ≡ number) → ((found : Numbered Statement) → fault_line_number (fault found) ≡ found.line)
-    → ((found : Numbered Statement) → States text found.line found.statement → test found ≡ true → HasFault text (fault found))
+    → NoneBelow text number → ((found : Numbered Statement) → (bench_row (fault found)).number ≡ number) → ((found : Numbered Statement) → (bench_row (fault found)).line ≡ found.line)
+    → ((found : Numbered Statement) → States text found.line found.statement → test found ≡ true → (bench_row (fault found)).stands text)
     → ((line : ℕ) → ByNumber text number line → HasOn test text line)
     → find test (bench_statements text) ≡ answer
     → (find test (bench_statements text) ≡ None → NoneBelow text (suc number) → Outcome text rest) → Outcome text (fault_or fault answer rest)
@@ -114,13 +119,13 @@ outcome-found text number test fault (Some found) rest low is at stands has e ne
     let h = find-Some test (bench_statements text) 1 found (ascending text) e in
     IsLeastFault-from text number (fault found) (is found) (stands found (stated statement_of text found h.among) h.passes) low (λ line p. passed line h.least (has line p))
   where
-    passed : (line : ℕ) → ((other : Numbered Statement) → Contains (bench_statements text) other → test other ≡ true → found.line ≤ other.line) → HasOn test text line → fault_line_number (fault found) ≤ line
+    passed : (line : ℕ) → ((other : Numbered Statement) → Contains (bench_statements text) other → test other ≡ true → found.line ≤ other.line) → HasOn test text line → (bench_row (fault found)).line ≤ line
     passed line least (statement, states, passes) =
         let no_less = least (record { line = line; statement = statement }) (stating statement_of text line statement states) passes in
         omega (arith, at found, no_less)
 
 -- the first malformed line comes before all
-pub form-least : (text : List ℕ) (line : ℕ) → first_malformed statement_of 1 (lines_of text) ≡ Some line → IsLeastFault text (Form line)
+pub form-least : (text : List ℕ) (line : ℕ) → first_malformed statement_of 1 (lines_of text) ≡ Some line → IsLeastBy bench_row text (Form line)
 form-least text line e =
     let first = meaning_at-first statement_of text line e in
     IsLeastFault-from text 1 (Form line) refl first.0 (none_below-one text) first.1
@@ -174,10 +179,10 @@ not-some : (line : Option ℕ) → not (is_some line) ≡ true → line ≡ None
 not-some None h = refl
 not-some (Some line) h = cc
 
-undefined-stands : (text : List ℕ) (found : Numbered Statement) → States text found.line found.statement → uses_undefined (bench_statements text) found.statement ≡ true → HasFault text (Undefined found.line)
+undefined-stands : (text : List ℕ) (found : Numbered Statement) → States text found.line found.statement → uses_undefined (bench_statements text) found.statement ≡ true → (bench_row (Undefined found.line)).stands text
 undefined-stands text found states h = by_use (Any-from_list_any (λ name. not (is_some (definer (bench_statements text) name))) (used_names found.statement) h)
   where
-    by_use : Any (λ name. not (is_some (definer (bench_statements text) name)) ≡ true) (used_names found.statement) → HasFault text (Undefined found.line)
+    by_use : Any (λ name. not (is_some (definer (bench_statements text) name)) ≡ true) (used_names found.statement) → (bench_row (Undefined found.line)).stands text
     by_use (k, name, l, is, none) = (name, (found.statement, states, (k, l, is)), definer-None text name (not-some _ none))
 
 undefined-none : (text name : List ℕ) (line : Option ℕ) → definer (bench_statements text) name ≡ line → ((other : ℕ) → ¬ Defines text other name) → not (is_some line) ≡ true
@@ -244,16 +249,16 @@ twice_after-find all seen (next ∷ rest) e h =
         let second : is_second all next ≡ false = rw e (earlier_line-here seen rest next (defined_name next.statement) refl is) in
         rw second ih
 
-second-stands : (text : List ℕ) (found : Numbered Statement) → States text found.line found.statement → is_second (bench_statements text) found ≡ true → HasFault text (second_fault (bench_statements text) found)
+second-stands : (text : List ℕ) (found : Numbered Statement) → States text found.line found.statement → is_second (bench_statements text) found ≡ true → (bench_row (second_fault (bench_statements text) found)).stands text
 second-stands text found states h = by_name (defined_name found.statement) refl h
   where
-    by_line : (name : List ℕ) (line : Option ℕ) → defined_name found.statement ≡ Some name → definer (bench_statements text) name ≡ line → is_before line found.line ≡ true → HasFault text (Twice found.line (line_found line))
+    by_line : (name : List ℕ) (line : Option ℕ) → defined_name found.statement ≡ Some name → definer (bench_statements text) name ≡ line → is_before line found.line ≡ true → (bench_row (Twice found.line (line_found line))).stands text
     by_line name None is e h = cc
     by_line name (Some first) is e h =
         let law = definer-Some text name first e in
         (name, record { here = (found.statement, states, is); there = law.there; earlier = grind (arith, nat_tests, h); earliest = law.earliest })
 
-    by_name : (defined : Option (List ℕ)) → defined_name found.statement ≡ defined → is_before (earlier_line (bench_statements text) defined) found.line ≡ true → HasFault text (Twice found.line (line_found (earlier_line (bench_statements text) defined)))
+    by_name : (defined : Option (List ℕ)) → defined_name found.statement ≡ defined → is_before (earlier_line (bench_statements text) defined) found.line ≡ true → (bench_row (Twice found.line (line_found (earlier_line (bench_statements text) defined)))).stands text
     by_name None is h = cc
     by_name (Some name) is h = by_line name (definer (bench_statements text) name) is refl h
 
@@ -296,6 +301,6 @@ first_fault-outcome text low2 =
     outcome-found text 2 (λ numbered. has_long_name numbered.statement) (λ found. Name found.line) _ _ low2 (λ found. refl) (λ found. refl) (λ found states p. (found.statement, states, p)) (λ line p. p) refl
     (λ none low3. outcome-found text 3 (λ numbered. has_unknown_kind numbered.statement) (λ found. KindUnknown found.line) _ _ low3 (λ found. refl) (λ found. refl) (λ found states p. (found.statement, states, p)) (λ line p. p) refl
     (λ none low4. subst (Outcome text) (sym (twice-found text _)) (outcome-found text 5 (is_second all) (second_fault all) _ _ (none_below-next text 4 low4 (λ line p. p)) (λ found. refl) (λ found. refl) (second-stands text) (second-has text) refl
-    (λ none low6. outcome-found text 6 (λ numbered. has_wrong_pins numbered.statement) (λ found. Pins found.line (statement_pin_count found.statement)) _ _ low6 (λ found. refl) (λ found. refl) (λ found states p. (found.statement, states, p, refl)) (λ line p. p) refl
+    (λ none low6. outcome-found text 6 (λ numbered. has_wrong_pins numbered.statement) (λ found. Pins found.line (statement_pin_count found.statement)) _ _ low6 (λ found. refl) (λ found. refl) (λ found states p. (found.statement, states, (p, refl))) (λ line p. p) refl
     (λ none low7. outcome-found text 7 (λ numbered. uses_undefined all numbered.statement) (λ found. Undefined found.line) _ _ low7 (λ found. refl) (λ found. refl) (undefined-stands text) (undefined-has text) refl
     (λ none low8. outcome-many text (variable_total (elements_of (plain all))) refl low8))))))

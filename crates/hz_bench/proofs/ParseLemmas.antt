@@ -1,5 +1,6 @@
 -- Reading the statements of a text line by line.
-use Rattle.std.proofs.Common.{◌≡◌, ◌∙◌, ℕ, ◌+◌, ◌≤◌, suc, List, [], ◌∷◌, ◌++◌, Option, Some, None, option_map, length, map, refl, sym, ap, arith, add-one, append_assoc, IfSome, is_some, lit≤, subst, Bool, true, false, cond}
+use Rattle.std.proofs.Common.{◌≡◌, ◌∙◌, ℕ, ◌+◌, ◌≤◌, suc, List, [], ◌∷◌, ◌++◌, Option, Some, None, option_map, length, map, refl, sym, ap, arith, add-one, append_assoc, IfSome, is_some, lit≤, subst, inl, inr, Bool, true, false, cond}
+use Rattle.std.specs.Prelude.{◌⊎◌}
 use Rattle.std.specs.Borrow.{Bor}
 use Rattle.hz_netlist.specs.Names.{AreNamesOf, Names, seen_names}
 use Rattle.std.specs.List.{IsDistinct}
@@ -17,7 +18,7 @@ use Rattle.hz_bench.specs.ReaderState.{AreGathered, IsNothingRead, AddsStatement
 use Rattle.hz_bench.specs.FaultIn.{redefinition_fault}
 use Rattle.hz_netlist.specs.Element.{element_variables, variable_total}
 use Rattle.hz_bench.specs.Netlist.{element_of, elements_of}
-use Rattle.hz_bench.specs.Statement.{Statement, Input, Output, FlipFlop, Gate, statement_of, name_list_of, Port, InputPort, OutputPort, port_word, port_of, defined_by, is_flip_flop, kind_named, words_of}
+use Rattle.hz_bench.specs.Statement.{Statement, Input, Output, FlipFlop, Gate, statement_of, name_list_of, defined_by, is_flip_flop, kind_named, words_of}
 use Rattle.hz_bench.specs.Text.{bench_meaning, bench_statements, plain}
 use Rattle.hz_bench.proofs.ReaderLemmas.{gathered-more}
 use Rattle.hz_bench.proofs.NoteLemmas.{variables-push}
@@ -72,16 +73,9 @@ pub IsParsing-roomier : (text : List ℕ) (statements : Statements) (names : Nam
 IsParsing-roomier text statements names line left same was = subst (λ names. IsParsing text (record statements { names = names }) line left) (sym same) was
 
 -- a statement has no more variables than its line has tokens
-port_weight : (name : List ℕ) (made : Option Port) (statement : Statement) → option_map (port_of name) made ≡ Some statement → element_variables (element_of statement) ≤ 4
-port_weight name None statement h = cc
-port_weight name (Some InputPort) (Input other) h = lit≤ tt
-port_weight name (Some InputPort) (Output other) h = lit≤ tt
-port_weight name (Some InputPort) (FlipFlop other sources) h = cc
-port_weight name (Some InputPort) (Gate other kind sources) h = cc
-port_weight name (Some OutputPort) (Input other) h = lit≤ tt
-port_weight name (Some OutputPort) (Output other) h = lit≤ tt
-port_weight name (Some OutputPort) (FlipFlop other sources) h = cc
-port_weight name (Some OutputPort) (Gate other kind sources) h = cc
+port_weight : (name : List ℕ) (statement : Statement) → (Input name ≡ statement) ⊎ (Output name ≡ statement) → element_variables (element_of statement) ≤ 4
+port_weight name statement (inl is) = subst (λ (one : Statement). element_variables (element_of one) ≤ 4) is (lit≤ tt)
+port_weight name statement (inr is) = subst (λ (one : Statement). element_variables (element_of one) ≤ 4) is (lit≤ tt)
 
 gate_weight : (name word : List ℕ) (rest : List TokenOf) (names : Option (List (List ℕ))) (statement : Statement) → names ≡ name_list_of rest → option_map (defined_by name word) names ≡ Some statement → element_variables (element_of statement) ≤ length rest + 4
 gate_weight name word rest None statement same h = cc
@@ -101,7 +95,7 @@ gate_weight name word rest (Some names) statement same h = by_word (is_flip_flop
 
 -- only a head of two words, each with punctuation after it, begins a statement
 statement_weight : (tokens : List TokenOf) (statement : Statement) → statement_of tokens ≡ Some statement → element_variables (element_of statement) ≤ length tokens
-statement_weight = by_form (λ tokens statement. element_variables (element_of statement) ≤ length tokens) (λ word name statement h. port_weight name (port_word word) statement h)
+statement_weight = by_form (λ tokens statement. element_variables (element_of statement) ≤ length tokens) (λ word name statement h. port_weight name statement h)
     (λ name kind rest statement h. (let few = gate_weight name kind rest (name_list_of rest) statement refl h in omega arith))
 
 found_weight : (tokens : List TokenOf) (found : Option Statement) (statement : Statement) → found ≡ statement_of tokens → meaning_by found ≡ Means statement → element_variables (element_of statement) ≤ length tokens

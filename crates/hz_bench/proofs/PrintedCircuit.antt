@@ -17,7 +17,7 @@ use Rattle.hz_line.specs.Statement.{Meaning, Nothing, Malformed, Means, Numbered
 use Rattle.hz_netlist.specs.Circuit.{all_inputs, node_names, number_in, gates_of, data_nodes, add_once, each_once}
 use Rattle.hz_netlist.specs.Element.{input_names, cut_names, data_names, gate_names, output_names}
 use Rattle.hz_bench.specs.Netlist.{circuit_of_statements, elements_of}
-use Rattle.hz_bench.specs.Statement.{InputPort, OutputPort, Statement, statement_of}
+use Rattle.hz_bench.specs.Statement.{Input, Output, Statement, statement_of}
 use Rattle.hz_bench.specs.Text.{bench_meaning, statements_of}
 use Rattle.hz_bench.specs.Printed.{netlist_text}
 use Rattle.hz_netlist.proofs.Circuits.{each_once-append}
@@ -113,13 +113,13 @@ record Adds (names : List (List ℕ)) (first rest : List Statement) (inputs cuts
   outputs_are : output_names (elements_of (first ++ rest)) ≡ outputs ++ output_names (elements_of rest)
   made_are : gates_of names (elements_of (first ++ rest)) ≡ made ++ gates_of names (elements_of rest)
 
-inputs_add : (names inputs : List (List ℕ)) (rest : List Statement) → Adds names (ports InputPort inputs) rest inputs [] [] [] [] []
+inputs_add : (names inputs : List (List ℕ)) (rest : List Statement) → Adds names (ports Input inputs) rest inputs [] [] [] [] []
 inputs_add names [] rest = record { inputs_are = refl; cuts_are = refl; sources_are = refl; gates_are = refl; outputs_are = refl; made_are = refl }
 inputs_add names (name ∷ inputs) rest =
     let ih = inputs_add names inputs rest in
     record { inputs_are = ap (λ all. name ∷ all) ih.inputs_are; cuts_are = ih.cuts_are; sources_are = ih.sources_are; gates_are = ih.gates_are; outputs_are = ih.outputs_are; made_are = ih.made_are }
 
-outputs_add : (names outputs : List (List ℕ)) (rest : List Statement) → Adds names (ports OutputPort outputs) rest [] [] [] [] outputs []
+outputs_add : (names outputs : List (List ℕ)) (rest : List Statement) → Adds names (ports Output outputs) rest [] [] [] [] outputs []
 outputs_add names [] rest = record { inputs_are = refl; cuts_are = refl; sources_are = refl; gates_are = refl; outputs_are = refl; made_are = refl }
 outputs_add names (name ∷ outputs) rest =
     let ih = outputs_add names outputs rest in
@@ -202,7 +202,7 @@ circuit_back netlist circuit whole =
     let fourth = gates_add names netlist.inputs netlist.gates circuit.names_distinct (sym circuit.nodes) circuit.gates in
     let third : Adds names middle last [] cuts sources [] [] [] = subst (λ all. Adds names (cut_statements names primary all) last [] cuts sources [] [] []) (sym set.are) (cuts_add names primary set.nodes last) in
     let second = outputs_add names outputs (middle ++ last) in
-    let first = inputs_add names inputs (ports OutputPort outputs ++ (middle ++ last)) in
+    let first = inputs_add names inputs (ports Output outputs ++ (middle ++ last)) in
     let ins : input_names (elements_of statements) ≡ inputs = first.inputs_are ∙ ap (λ all. inputs ++ all) (second.inputs_are ∙ third.inputs_are ∙ rw nil at fourth.inputs_are) ∙ append-nil inputs in
     let cut : cut_names (elements_of statements) ≡ cuts = first.cuts_are ∙ second.cuts_are ∙ third.cuts_are ∙ ap (λ all. cuts ++ all) (rw nil at fourth.cuts_are) ∙ append-nil cuts in
     let read : data_names (elements_of statements) ≡ sources = first.sources_are ∙ second.sources_are ∙ third.sources_are ∙ ap (λ all. sources ++ all) (rw nil at fourth.sources_are) ∙ append-nil sources in

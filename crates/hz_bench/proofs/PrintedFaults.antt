@@ -16,13 +16,15 @@ use Rattle.hz_core.proofs.CircuitLemmas.{takes-from_bounds}
 use Rattle.hz_line.specs.Line.{lines_of}
 use Rattle.hz_line.specs.Statement.{Meaning, Nothing, Malformed, Means}
 use Rattle.hz_bench.specs.declared.fault.BenchFault.TheVariants.{Form, Name, KindUnknown, Twice, Pins, Undefined, TooMany, Memory}
-use Rattle.hz_bench.specs.Fault.{States, HasThat, Defines, Uses, IsSecond, IsFaultless}
+use Rattle.hz_netlist.specs.Rows.{NoneStands}
+use Rattle.hz_bench.specs.Fault.{Has, Defines, IsSecond, bench_row}
 use Rattle.hz_netlist.specs.Element.{element_variables, variable_total}
 use Rattle.hz_netlist.specs.Element as element
 use Rattle.hz_bench.specs.Netlist.{element_of, elements_of}
-use Rattle.hz_bench.specs.Statement.{InputPort, OutputPort, Statement, Input, Output, FlipFlop, Gate, defined_name, used_names, has_long_name, is_long, port_of, has_unknown_kind, has_wrong_pins}
+use Rattle.hz_bench.specs.Statement.{Statement, Input, Output, FlipFlop, Gate, defined_name, used_names, has_long_name, is_long, has_unknown_kind, has_wrong_pins}
 use Rattle.hz_bench.specs.Text.{bench_meaning, bench_meaning_at}
 use Rattle.hz_bench.specs.Printed.{netlist_text}
+use Rattle.hz_bench.proofs.FaultLaws.{States}
 use Rattle.hz_bench.proofs.NoteLemmas.{variable_total-append}
 use Rattle.hz_bench.proofs.PrintedLines.{ports, HasPin, cut_statements, gate_statement, gate_statements, statements_for, IsReadAs, printed-IsReadAs}
 use Rattle.hz_bench.proofs.PrintedCircuit.{IsReadAs-statements, named_from, named_from-drop, set_nodes}
@@ -128,7 +130,7 @@ record IsSound (names : List (List ℕ)) (statement : Statement) : Type 0 where
   pins : has_wrong_pins statement ≡ false
   uses : All (Contains names) (used_names statement)
 
-passes_none : (names : List (List ℕ)) (text : List ℕ) (statements : List Statement) (test : Statement → Bool) (line : ℕ) → IsReadAs text statements → All (IsSound names) statements → ((statement : Statement) → IsSound names statement → test statement ≡ false) → HasThat test text line → ⊥
+passes_none : (names : List (List ℕ)) (text : List ℕ) (statements : List Statement) (test : Statement → Bool) (line : ℕ) → IsReadAs text statements → All (IsSound names) statements → ((statement : Statement) → IsSound names statement → test statement ≡ false) → Has (λ it. test it ≡ true) line text → ⊥
 passes_none names text statements test line read sound fails (statement, states, passes) =
     let on = IsOn-from_States text statements line statement read states in
     let this : IsSound names statement = subst (IsSound names) on.is (sound on.above statement on.below) in
@@ -144,7 +146,7 @@ twice_none text statements line first name read distinct second = both_places se
         let l : low.above < high.above = omega (arith, second.earlier, low.line_is, high.line_is) in
         defined_once statements name low.above high.above earlier here distinct l high.below (ap defined_name low.is ∙ e') (ap defined_name high.is ∙ e)
 
-undefined_none : (names : List (List ℕ)) (text : List ℕ) (statements : List Statement) (line : ℕ) (name : List ℕ) → IsReadAs text statements → All (IsSound names) statements → defined_names statements ≡ names → Uses text line name → ((other : ℕ) → ¬ Defines text other name) → ⊥
+undefined_none : (names : List (List ℕ)) (text : List ℕ) (statements : List Statement) (line : ℕ) (name : List ℕ) → IsReadAs text statements → All (IsSound names) statements → defined_names statements ≡ names → Has (λ it. Contains (used_names it) name) line text → ((other : ℕ) → ¬ Defines text other name) → ⊥
 undefined_none names text statements line name read sound defined (statement, states, (k, l, at)) none =
     let on = IsOn-from_States text statements line statement read states in
     let this : IsSound names statement = subst (IsSound names) on.is (sound on.above statement on.below) in
@@ -153,13 +155,13 @@ undefined_none names text statements line name read sound defined (statement, st
     none (suc place.0) (get_or statements place.0 statement, meaning_read text statements place.0 read ∙ there statements place.0 statement place.1, place.2)
 
 -- statements without faults make a text without one
-faultless : (names : List (List ℕ)) (text : List ℕ) (statements : List Statement) → IsReadAs text statements → All (IsSound names) statements → defined_names statements ≡ names → IsDistinct bytes_eq names → variable_total (elements_of statements) ≤ most_variables → IsFaultless text
+faultless : (names : List (List ℕ)) (text : List ℕ) (statements : List Statement) → IsReadAs text statements → All (IsSound names) statements → defined_names statements ≡ names → IsDistinct bytes_eq names → variable_total (elements_of statements) ≤ most_variables → NoneStands bench_row text
 faultless names text statements read sound defined distinct few (Form zero) h = cc
 faultless names text statements read sound defined distinct few (Form (suc above)) h = formed statements above (sym (meaning_read text statements above read) ∙ h)
 faultless names text statements read sound defined distinct few (Name line) h = passes_none names text statements has_long_name line read sound (λ statement is. is.short) h
 faultless names text statements read sound defined distinct few (KindUnknown line) h = passes_none names text statements has_unknown_kind line read sound (λ statement is. is.known) h
 faultless names text statements read sound defined distinct few (Twice line first) h = twice_none text statements line first h.0 read (subst (IsDistinct bytes_eq) (sym defined) distinct) h.1
-faultless names text statements read sound defined distinct few (Pins line count) h = passes_none names text statements has_wrong_pins line read sound (λ statement is. is.pins) (h.0, h.1, h.2)
+faultless names text statements read sound defined distinct few (Pins line count) h = passes_none names text statements has_wrong_pins line read sound (λ statement is. is.pins) (h.0, h.1, h.2.0)
 faultless names text statements read sound defined distinct few (Undefined line) h = undefined_none names text statements line h.0 read sound defined h.1 h.2
 faultless names text statements read sound defined distinct few (TooMany variables) h = omega (arith, h.0, h.1, few, ap (λ all. variable_total (elements_of all)) (IsReadAs-statements text statements read))
 faultless names text statements read sound defined distinct few Memory h = h
@@ -223,20 +225,20 @@ statements_sound netlist circuit whole =
     let cuts = cut_statements names primary netlist.cuts in
     let gates = gate_statements names netlist.inputs netlist.gates in
     let named = All-take IsName primary names circuit.names in
-    let first = All-map P (λ name. port_of name InputPort) inputs (λ k d below. input_sound names _ (named k d below)) in
-    let second = All-map P (λ name. port_of name OutputPort) outputs (All-map (λ name. P (Output name)) (node_name names) netlist.outputs
+    let first = All-map P Input inputs (λ k d below. input_sound names _ (named k d below)) in
+    let second = All-map P Output outputs (All-map (λ name. P (Output name)) (node_name names) netlist.outputs
     (λ k d below. output_sound names _ (circuit.names _ [] (circuit.outputs k d below)) (node_among names _ (circuit.outputs k d below)))) in
     let third = subst (λ all. All P (cut_statements names primary all)) (sym set.are)
     (cuts_sound names primary set.nodes circuit.names (omega (arith, count, circuit.cuts, circuit.nodes)) set.below) in
     let fourth = gates_sound names netlist.inputs netlist.gates circuit.names (omega (arith, circuit.nodes)) circuit.gates whole.gates in
-    All-append P (ports InputPort inputs) (ports OutputPort outputs ++ (cuts ++ gates)) first
-    (All-append P (ports OutputPort outputs) (cuts ++ gates) second (All-append P cuts gates third fourth))
+    All-append P (ports Input inputs) (ports Output outputs ++ (cuts ++ gates)) first
+    (All-append P (ports Output outputs) (cuts ++ gates) second (All-append P cuts gates third fourth))
 
-inputs_define : (names : List (List ℕ)) → defined_names (ports InputPort names) ≡ names
+inputs_define : (names : List (List ℕ)) → defined_names (ports Input names) ≡ names
 inputs_define [] = refl
 inputs_define (name ∷ names) = ap (λ rest. name ∷ rest) (inputs_define names)
 
-outputs_define : (names : List (List ℕ)) → defined_names (ports OutputPort names) ≡ []
+outputs_define : (names : List (List ℕ)) → defined_names (ports Output names) ≡ []
 outputs_define [] = refl
 outputs_define (name ∷ names) = outputs_define names
 
@@ -265,18 +267,18 @@ nodes_define netlist circuit whole =
     let defined : defined_names cuts ≡ named_from names primary set.nodes = ap (λ all. defined_names (cut_statements names primary all)) set.are ∙ cuts_define names primary set.nodes in
     let behind : named_from names primary set.nodes ++ drop netlist.inputs names ≡ drop primary names =
     sym (named_from-drop names primary set.nodes (omega (arith, total, circuit.nodes)) ∙ ap (λ n. named_from names primary set.nodes ++ drop n names) total) in
-    filter_map-append defined_name (ports InputPort inputs) (ports OutputPort outputs ++ (cuts ++ gates))
-    ∙ ap (λ later. defined_names (ports InputPort inputs) ++ later) (filter_map-append defined_name (ports OutputPort outputs) (cuts ++ gates))
-    ∙ ap (λ later. defined_names (ports InputPort inputs) ++ (defined_names (ports OutputPort outputs) ++ later)) (filter_map-append defined_name cuts gates)
+    filter_map-append defined_name (ports Input inputs) (ports Output outputs ++ (cuts ++ gates))
+    ∙ ap (λ later. defined_names (ports Input inputs) ++ later) (filter_map-append defined_name (ports Output outputs) (cuts ++ gates))
+    ∙ ap (λ later. defined_names (ports Input inputs) ++ (defined_names (ports Output outputs) ++ later)) (filter_map-append defined_name cuts gates)
     ∙ rw (inputs_define inputs, outputs_define outputs, defined, gates_define names netlist.inputs netlist.gates (sym circuit.nodes), behind) (take-append-drop primary names)
 
-inputs_count : (names : List (List ℕ)) → variable_total (elements_of (ports InputPort names)) ≡ length names
+inputs_count : (names : List (List ℕ)) → variable_total (elements_of (ports Input names)) ≡ length names
 inputs_count [] = refl
-inputs_count (name ∷ names) = let first = sum_by-cons element_variables (element.Input name) (elements_of (ports InputPort names)) in omega (arith, first, inputs_count names)
+inputs_count (name ∷ names) = let first = sum_by-cons element_variables (element.Input name) (elements_of (ports Input names)) in omega (arith, first, inputs_count names)
 
-outputs_count : (names : List (List ℕ)) → variable_total (elements_of (ports OutputPort names)) ≡ 0
+outputs_count : (names : List (List ℕ)) → variable_total (elements_of (ports Output names)) ≡ 0
 outputs_count [] = refl
-outputs_count (name ∷ names) = let first = sum_by-cons element_variables (element.Output name) (elements_of (ports OutputPort names)) in omega (arith, first, outputs_count names)
+outputs_count (name ∷ names) = let first = sum_by-cons element_variables (element.Output name) (elements_of (ports Output names)) in omega (arith, first, outputs_count names)
 
 gates_count : (names : List (List ℕ)) (node : ℕ) (gates : List GateOf) → variable_total (elements_of (gate_statements names node gates)) ≡ length gates + sum_by (λ gate. length gate.sources) gates
 gates_count names node [] = refl
@@ -303,14 +305,14 @@ nodes_count netlist circuit whole =
     let outputs = map (node_name names) netlist.outputs in
     let cuts = cut_statements names primary netlist.cuts in
     let gates = gate_statements names netlist.inputs netlist.gates in
-    let first = variable_total-append (ports InputPort inputs) (ports OutputPort outputs ++ (cuts ++ gates)) in
-    let second = variable_total-append (ports OutputPort outputs) (cuts ++ gates) in
+    let first = variable_total-append (ports Input inputs) (ports Output outputs ++ (cuts ++ gates)) in
+    let second = variable_total-append (ports Output outputs) (cuts ++ gates) in
     let third = variable_total-append cuts gates in
     let made : variable_total (elements_of cuts) ≡ length set.nodes = ap (λ all. variable_total (elements_of (cut_statements names primary all))) set.are ∙ cuts_count names primary set.nodes in
     let few = length-take-le primary names (omega (arith, circuit.nodes)) in
     omega (arith, first, second, third, inputs_count inputs, outputs_count outputs, made, count, gates_count names netlist.inputs netlist.gates, few, circuit.nodes, circuit.cuts)
 
 -- a printed text has no fault
-pub printed-faultless : (netlist : Netlist) → IsCircuit netlist → IsWhole netlist → IsFaultless (netlist_text netlist)
+pub printed-faultless : (netlist : Netlist) → IsCircuit netlist → IsWhole netlist → NoneStands bench_row (netlist_text netlist)
 printed-faultless netlist circuit whole =
     faultless netlist.names (netlist_text netlist) (statements_for netlist) (printed-IsReadAs netlist circuit whole) (statements_sound netlist circuit whole) (nodes_define netlist circuit whole) circuit.names_distinct (omega (arith, nodes_count netlist circuit whole, circuit.variables))

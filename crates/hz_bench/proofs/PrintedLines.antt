@@ -14,7 +14,7 @@ use Rattle.hz_line.specs.Line.{lines_of}
 use Rattle.hz_line.specs.Token.{TokenOf, WordOf, PunctuationOf, tokens_of, with_token, begins_in_word}
 use Rattle.hz_line.specs.Statement.{Meaning, Nothing, Means, meaning_of_tokens}
 use Rattle.hz_line.proofs.WrittenLemmas.{tokens_of-open, tokens_of-close, tokens_of-comma, tokens_of-equals, tokens_of-space, is_word_byte-separators, tokens_of-word_before, is_inline, is_word_byte-is, word_bytes, lines_of-written}
-use Rattle.hz_bench.specs.Statement.{Port, InputPort, OutputPort, Statement, Gate, kind_named, port_word, port_of, name_list_of, statement_of, FlipFlop, is_flip_flop}
+use Rattle.hz_bench.specs.Statement.{Statement, Input, Output, Gate, kind_named, port_statement, name_list_of, statement_of, FlipFlop, is_flip_flop}
 use Rattle.hz_bench.specs.Text.{bench_meaning}
 use Rattle.hz_bench.specs.Printed.{kind_name, port_line, port_lines, cut_line, cut_lines, more_sources, source_list, gate_head, gate_line, gate_texts, netlist_text}
 
@@ -69,17 +69,17 @@ unfolding class_of is_flip_flop
 flip_flop_word = (record { some = omega arith; letters = refl; inline = refl }, refl)
 
 -- a word that makes an input or an output of a name
-record IsPortWord (word : List ℕ) (made : Port) : Type 0 where
+record IsPortWord (word : List ℕ) (made : List ℕ → Statement) : Type 0 where
   written : IsWritten word
-  makes : port_word word ≡ Some made
+  makes : (name : List ℕ) → port_statement word name ≡ Some (made name)
 
-input_word : IsPortWord (codes "INPUT") InputPort
-unfolding class_of port_word
-input_word = record { written = record { some = omega arith; letters = refl; inline = refl }; makes = refl }
+input_word : IsPortWord (codes "INPUT") Input
+unfolding class_of port_statement
+input_word = record { written = record { some = omega arith; letters = refl; inline = refl }; makes = λ name. refl }
 
-output_word : IsPortWord (codes "OUTPUT") OutputPort
-unfolding class_of port_word
-output_word = record { written = record { some = omega arith; letters = refl; inline = refl }; makes = refl }
+output_word : IsPortWord (codes "OUTPUT") Output
+unfolding class_of port_statement
+output_word = record { written = record { some = omega arith; letters = refl; inline = refl }; makes = λ name. refl }
 
 -- what each line of a text is
 abbrev pub meanings_of : List ℕ → List (Meaning Statement)
@@ -106,29 +106,29 @@ port_tokens word name first second =
     tokens_of-word_before word (40 ∷ (name ++ 41 ∷ [])) first.some first.letters is_word_byte-separators.1
     ∙ ap (with_token (WordOf word)) (tokens_of-open (name ++ 41 ∷ []) ∙ ap (with_token (PunctuationOf Open)) named)
 
-port_meaning : (word name : List ℕ) (made : Port) → IsPortWord word made → IsWritten name → bench_meaning (port_body word name) ≡ Means (port_of name made)
-port_meaning word name made is written = ap (meaning_of_tokens statement_of) (port_tokens word name is.written written) ∙ rw is.makes refl
+port_meaning : (word name : List ℕ) (made : List ℕ → Statement) → IsPortWord word made → IsWritten name → bench_meaning (port_body word name) ≡ Means (made name)
+port_meaning word name made is written = ap (meaning_of_tokens statement_of) (port_tokens word name is.written written) ∙ rw (is.makes name) refl
 
 port_inline : (word name : List ℕ) → IsWritten word → IsWritten name → list_all is_inline (port_body word name) ≡ true
 port_inline word name first second =
     let back : list_all is_inline (name ++ 41 ∷ []) ≡ true = rw (list_all-append is_inline name (41 ∷ []), second.inline) refl in
     rw (list_all-append is_inline word (40 ∷ (name ++ 41 ∷ [])), first.inline, back) refl
 
-port_read : (word name rest : List ℕ) (made : Port) → IsPortWord word made → IsWritten name → meanings_of (port_line word name ++ rest) ≡ Means (port_of name made) ∷ meanings_of rest
+port_read : (word name rest : List ℕ) (made : List ℕ → Statement) → IsPortWord word made → IsWritten name → meanings_of (port_line word name ++ rest) ≡ Means (made name) ∷ meanings_of rest
 port_read word name rest made is written =
     ap (λ line. meanings_of (line ++ rest)) (port_split word name)
-    ∙ one_line (port_body word name) rest (port_of name made) (port_inline word name is.written written) (port_meaning word name made is written)
+    ∙ one_line (port_body word name) rest (made name) (port_inline word name is.written written) (port_meaning word name made is written)
 
 -- names as inputs, or as outputs
-abbrev pub ports : Port → List (List ℕ) → List Statement
-ports made names = map (λ name. port_of name made) names
+abbrev pub ports : (List ℕ → Statement) → List (List ℕ) → List Statement
+ports made names = map made names
 
-ports_read : (word : List ℕ) (made : Port) (names : List (List ℕ)) (rest : List ℕ) → IsPortWord word made → All IsName names → meanings_of (port_lines word names ++ rest) ≡ map Means (ports made names) ++ meanings_of rest
+ports_read : (word : List ℕ) (made : List ℕ → Statement) (names : List (List ℕ)) (rest : List ℕ) → IsPortWord word made → All IsName names → meanings_of (port_lines word names ++ rest) ≡ map Means (ports made names) ++ meanings_of rest
 ports_read word made [] rest is named = refl
 ports_read word made (name ∷ names) rest is named =
     ap meanings_of (append_assoc (port_line word name) (port_lines word names) rest)
     ∙ port_read word name (port_lines word names ++ rest) made is (IsWritten-name name (All-head IsName name names named))
-    ∙ ap (λ later. Means (port_of name made) ∷ later) (ports_read word made names rest is (All-tail IsName name names named))
+    ∙ ap (λ later. Means (made name) ∷ later) (ports_read word made names rest is (All-tail IsName name names named))
 
 -- the tokens of further names, up to the closing parenthesis
 abbrev further : List (List ℕ) → List TokenOf
@@ -311,8 +311,8 @@ gates_read names node (gate ∷ rest) named room among pins =
 -- a circuit as statements: its primary inputs, its outputs, its cuts and its gates
 abbrev pub statements_for : Netlist → List Statement
 statements_for netlist =
-    ports InputPort (take (primary_inputs netlist) netlist.names)
-    ++ (ports OutputPort (map (node_name netlist.names) netlist.outputs)
+    ports Input (take (primary_inputs netlist) netlist.names)
+    ++ (ports Output (map (node_name netlist.names) netlist.outputs)
     ++ (cut_statements netlist.names (primary_inputs netlist) netlist.cuts
     ++ gate_statements netlist.names netlist.inputs netlist.gates))
 
@@ -341,13 +341,13 @@ printed-IsReadAs netlist circuit whole =
     let third = cuts_read names primary netlist.cuts gate_text circuit.names (omega (arith, circuit.nodes, circuit.cuts)) circuit.data_nodes
     ∙ ap (λ later. map Means cuts ++ later) last in
     let outputs_named = All-map IsName (node_name names) netlist.outputs (λ k d below. circuit.names _ [] (circuit.outputs k d below)) in
-    let second = ports_read (codes "OUTPUT") OutputPort outputs (cut_text ++ gate_text) output_word outputs_named
-    ∙ ap (λ later. map Means (ports OutputPort outputs) ++ later) third in
+    let second = ports_read (codes "OUTPUT") Output outputs (cut_text ++ gate_text) output_word outputs_named
+    ∙ ap (λ later. map Means (ports Output outputs) ++ later) third in
     ap meanings_of (append_assoc (input_lines ++ output_lines) cut_text gate_text ∙ append_assoc input_lines output_lines (cut_text ++ gate_text))
-    ∙ ports_read (codes "INPUT") InputPort inputs (output_lines ++ (cut_text ++ gate_text)) input_word (All-take IsName primary names circuit.names)
-    ∙ ap (λ later. map Means (ports InputPort inputs) ++ later) second
+    ∙ ports_read (codes "INPUT") Input inputs (output_lines ++ (cut_text ++ gate_text)) input_word (All-take IsName primary names circuit.names)
+    ∙ ap (λ later. map Means (ports Input inputs) ++ later) second
     ∙ sym (
-    means_append (ports InputPort inputs) (ports OutputPort outputs ++ (cuts ++ gates)) end
-    ∙ ap (λ later. map Means (ports InputPort inputs) ++ later) (means_append (ports OutputPort outputs) (cuts ++ gates) end
-    ∙ ap (λ later. map Means (ports OutputPort outputs) ++ later) (means_append cuts gates end))
+    means_append (ports Input inputs) (ports Output outputs ++ (cuts ++ gates)) end
+    ∙ ap (λ later. map Means (ports Input inputs) ++ later) (means_append (ports Output outputs) (cuts ++ gates) end
+    ∙ ap (λ later. map Means (ports Output outputs) ++ later) (means_append cuts gates end))
     )

@@ -7,7 +7,8 @@ use Rattle.hz_bench.specs.declared.fault.BenchFault.TheVariants.{Form, Name, Kin
 use Rattle.hz_line.proofs.LeastLaws.{both-first}
 use Rattle.hz_netlist.specs.Element.{variable_total}
 use Rattle.hz_bench.specs.Netlist.{elements_of}
-use Rattle.hz_bench.specs.Fault.{Defines, HasFault, fault_number, fault_line_number, bench_faults, IsLeastFault, IsNetlistRefusal}
+use Rattle.hz_netlist.specs.Rows.{faults_by, IsLeastBy}
+use Rattle.hz_bench.specs.Fault.{Defines, bench_row, IsNetlistRefusal}
 use Rattle.hz_bench.specs.Pass.{IsParsed, IsParseFault, IsAccepted}
 use Rattle.hz_bench.specs.Statement.{defined_name, statement_pin_count}
 use Rattle.hz_bench.specs.Text.{bench_meaning_at, statement_meant, bench_statements, statements_of}
@@ -57,7 +58,7 @@ fault_at text number line =
     else (if number == 7 then Undefined line
     else (if number == 8 then TooMany (variable_total (elements_of (statements_of text))) else Memory))))))
 
-fault_at-back : (text : List ℕ) (fault : BenchFault) → HasFault text fault → fault_at text (fault_number fault) (fault_line_number fault) ≡ fault
+fault_at-back : (text : List ℕ) (fault : BenchFault) → (bench_row fault).stands text → fault_at text ((bench_row fault).number) ((bench_row fault).line) ≡ fault
 fault_at-back text (Form line) p = refl
 fault_at-back text (Name line) p = refl
 fault_at-back text (KindUnknown line) p = refl
@@ -67,17 +68,17 @@ fault_at-back text (Twice line first) (name, second) = by_statement second.here
     by_statement (statement, states, is) =
         let named : defined_name (statement_meant (bench_meaning_at text line)) ≡ Some name = ap (λ meaning. defined_name (statement_meant meaning)) states ∙ is in
         ap (λ line_of_first. Twice line (line_found line_of_first)) (ap (earlier_line (bench_statements text)) named ∙ second-first text line first name second)
-fault_at-back text (Pins line count) (statement, states, wrong, is) = ap (Pins line) (ap (λ meaning. statement_pin_count (statement_meant meaning)) states ∙ is)
+fault_at-back text (Pins line count) (statement, states, (wrong, is)) = ap (Pins line) (ap (λ meaning. statement_pin_count (statement_meant meaning)) states ∙ is)
 fault_at-back text (Undefined line) p = refl
 fault_at-back text (TooMany variables) p = ap TooMany p.1
 fault_at-back text Memory p = absurd p
 
 -- the least fault is one
-pub least-unique : (text : List ℕ) (fault other : BenchFault) → IsLeastFault text fault → IsLeastFault text other → fault ≡ other
+pub least-unique : (text : List ℕ) (fault other : BenchFault) → IsLeastBy bench_row text fault → IsLeastBy bench_row text other → fault ≡ other
 least-unique text fault other a b =
-    let same = both-first (bench_faults text) fault other (a.least other b.stands) (b.least fault a.stands) in
-    sym (fault_at-back text fault a.stands) ∙ ap (λ number. fault_at text number (fault_line_number fault)) same.0 ∙ ap (fault_at text (fault_number other)) same.1 ∙ fault_at-back text other b.stands
+    let same = both-first (faults_by bench_row text) fault other (a.least other b.stands) (b.least fault a.stands) in
+    sym (fault_at-back text fault a.stands) ∙ ap (λ number. fault_at text number ((bench_row fault).line)) same.0 ∙ ap (fault_at text ((bench_row other).number)) same.1 ∙ fault_at-back text other b.stands
 
-pub answer-exact : (text : List ℕ) (fault other : BenchFault) → IsNetlistRefusal text fault → IsLeastFault text other → (fault ≡ other) ⊎ (fault ≡ Memory)
+pub answer-exact : (text : List ℕ) (fault other : BenchFault) → IsNetlistRefusal text fault → IsLeastBy bench_row text other → (fault ≡ other) ⊎ (fault ≡ Memory)
 answer-exact text fault other (inl memory) least = inr memory
 answer-exact text fault other (inr h) least = inl (least-unique text fault other h least)

@@ -1,8 +1,10 @@
 -- The statement that a line means, from the head of its tokens.
-use Rattle.std.proofs.Common.{◌≡◌, ◌∙◌, ℕ, ◌*◌, ◌||◌, List, [], ◌∷◌, Bool, true, false, Option, Some, None, option_map, is_some, cond, length, refl, sym, ap, subst, arith, IfSome, true≢false}
+use Rattle.std.proofs.Common.{◌≡◌, ◌∙◌, ℕ, ◌*◌, ◌||◌, List, [], ◌∷◌, Bool, true, false, Option, Some, None, option_map, is_some, cond, length, refl, sym, ap, subst, arith, inl, inr, IfSome, true≢false}
+use Rattle.std.specs.Prelude.{◌⊎◌, codes}
 use Rattle.std.specs.List.{list_any}
 use Rattle.hz_line.specs.declared.bytes.Punctuation.{Punctuation}
 use Rattle.hz_line.specs.declared.bytes.Punctuation.TheVariants.{Open, Close, Comma, Equals}
+use Rattle.hz_line.specs.Keyword.{is_keyword}
 use Rattle.hz_line.specs.Statement.{Means, meaning_of_tokens}
 use Rattle.hz_line.specs.Token.{TokenOf, WordOf, PunctuationOf, tokens_of, with_token, has_no_token, IsWordToken, AreWordTokens}
 use Rattle.hz_line.proofs.TokenLemmas.{tokens_of-AreWordTokens}
@@ -11,7 +13,7 @@ use Rattle.hz_bench.specs.declared.statement.Head.{Head}
 use Rattle.hz_bench.specs.declared.statement.NameList.{NameList}
 use Rattle.hz_bench.specs.Head.{has_punctuated_first, head_tokens, names_by, name_list_with, no_name_list}
 use Rattle.hz_bench.specs.Form.{form_named, statement_with}
-use Rattle.hz_bench.specs.Statement.{Statement, Gate, statement_of, name_list_of, words_of, port_word, port_of, kind_named, has_long_name, is_long, words_by, are_punctuated, are_punctuated_words, FlipFlop, name_of, sources_of, defined_by, is_flip_flop, words_in}
+use Rattle.hz_bench.specs.Statement.{Statement, Input, Output, Gate, statement_of, name_list_of, words_of, port_statement, kind_named, has_long_name, is_long, words_by, are_punctuated, are_punctuated_words, FlipFlop, name_of, sources_of, defined_by, is_flip_flop, words_in}
 use Rattle.hz_bench.specs.Text.{bench_meaning}
 
 or_false : (a : Bool) → (a || false) ≡ a
@@ -154,8 +156,18 @@ none_marked (Some (WordOf word ∷ [])) e h = cc
 none_marked (Some (WordOf word ∷ WordOf next ∷ rest)) e h = cc
 none_marked (Some (WordOf word ∷ PunctuationOf punctuation ∷ rest)) e h = cc
 
+-- a word before a name in parentheses makes an input or an output of it
+port_is : (word name : List ℕ) (statement : Statement) → port_statement word name ≡ Some statement → (Input name ≡ statement) ⊎ (Output name ≡ statement)
+unfolding port_statement
+port_is word name statement h = by_word (is_keyword word (codes "INPUT")) (is_keyword word (codes "OUTPUT")) h
+  where
+    by_word : (input output : Bool) → cond input (Some (Input name)) (cond output (Some (Output name)) None) ≡ Some statement → (Input name ≡ statement) ⊎ (Output name ≡ statement)
+    by_word true output h = inl (cc h)
+    by_word false true h = inr (cc h)
+    by_word false false h = cc
+
 -- what holds of the two forms of a statement holds of each statement
-pub by_form : (P : List TokenOf → Statement → Type 0) → ((word name : List ℕ) (statement : Statement) → option_map (port_of name) (port_word word) ≡ Some statement → P (WordOf word ∷ PunctuationOf Open ∷ WordOf name ∷ PunctuationOf Close ∷ []) statement)
+pub by_form : (P : List TokenOf → Statement → Type 0) → ((word name : List ℕ) (statement : Statement) → (Input name ≡ statement) ⊎ (Output name ≡ statement) → P (WordOf word ∷ PunctuationOf Open ∷ WordOf name ∷ PunctuationOf Close ∷ []) statement)
     → ((name kind : List ℕ) (rest : List TokenOf) (statement : Statement) → option_map (defined_by name kind) (name_list_of rest) ≡ Some statement → P (WordOf name ∷ PunctuationOf Equals ∷ WordOf kind ∷ PunctuationOf Open ∷ rest) statement)
     → (tokens : List TokenOf) (statement : Statement) → statement_of tokens ≡ Some statement → P tokens statement
 by_form P port defined [] statement h = cc
@@ -171,7 +183,7 @@ by_form P port defined (WordOf first ∷ PunctuationOf Open ∷ WordOf second �
 by_form P port defined (WordOf first ∷ PunctuationOf Open ∷ WordOf second ∷ PunctuationOf Open ∷ rest) statement h = cc
 by_form P port defined (WordOf first ∷ PunctuationOf Open ∷ WordOf second ∷ PunctuationOf Comma ∷ rest) statement h = cc
 by_form P port defined (WordOf first ∷ PunctuationOf Open ∷ WordOf second ∷ PunctuationOf Equals ∷ rest) statement h = cc
-by_form P port defined (WordOf first ∷ PunctuationOf Open ∷ WordOf second ∷ PunctuationOf Close ∷ []) statement h = port first second statement h
+by_form P port defined (WordOf first ∷ PunctuationOf Open ∷ WordOf second ∷ PunctuationOf Close ∷ []) statement h = port first second statement (port_is first second statement h)
 by_form P port defined (WordOf first ∷ PunctuationOf Open ∷ WordOf second ∷ PunctuationOf Close ∷ token ∷ rest) statement h = cc
 by_form P port defined (WordOf first ∷ PunctuationOf Equals ∷ []) statement h = cc
 by_form P port defined (WordOf first ∷ PunctuationOf Equals ∷ PunctuationOf punctuation ∷ rest) statement h = cc

@@ -6,12 +6,10 @@
 -- defined_name statement, used_names statement: what it defines and uses
 -- elements_of statements: the elements of a circuit that statements are
 -- circuit_of_statements statements: the circuit of these elements
--- Defines text line name, Uses text line name: a line does
--- HasFault text fault: the fault is in the text
--- fault_number fault, fault_line_number fault: the order of faults: by number, then by line
--- IsLeastFault text fault: the first fault of a text in this order
--- IsNetlistRefusal text fault: that, or memory ran out
--- IsFaultless text: no fault is in the text
+-- Has holds line text, Defines text line name: the line has a statement of which this holds, or that defines the name
+-- bench_row fault: all that is said of a fault
+-- IsLeastBy bench_row text fault, NoneStands bench_row text (hz_netlist): the least fault of a text, or none
+-- IsNetlistRefusal text fault: the least fault, or memory ran out
 -- netlist_text netlist: the text of a circuit
 -- first_fault statements: the first fault, as a function
 -- definer statements name: the line that defines a name first

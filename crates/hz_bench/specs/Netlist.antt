@@ -14,16 +14,16 @@ use Rattle.hz_bench.specs.Statement.{Statement, Input, Output, FlipFlop, Gate}
 abbrev pub data_name : List (List ℕ) → List ℕ
 data_name sources = slice_index_or sources 0 []
 
--- the kind of a gate; for a word that names none, which no accepted text has, AND stands in
+-- the kind of a gate, as an element has it
 abbrev pub kind_of : Option Kind → Kind
 kind_of kind = unwrap_or kind And
 
--- the element that a statement is: a flip-flop is cut
+-- the element that a statement is: a flip-flop is cut; for a word that names no kind, which no accepted text has, AND stands in
 abbrev pub element_of : Statement → Element
 element_of (Input name) = element.Input name
 element_of (Output name) = element.Output name
-element_of (FlipFlop name sources) = element.Cut name (data_name sources)
-element_of (Gate name kind sources) = element.Gate name (kind_of kind) sources
+element_of (FlipFlop name sources) = element.Cut name (slice_index_or sources 0 [])
+element_of (Gate name kind sources) = element.Gate name (unwrap_or kind And) sources
 
 -- the elements that statements are
 abbrev pub elements_of : List Statement → List Element

@@ -9,7 +9,8 @@ use Rattle.hz_bench.specs.declared.parse.Statements.{Statements}
 use Rattle.hz_bench.specs.declared.fault.BenchFault.{BenchFault}
 use Rattle.hz_bench.specs.declared.fault.BenchFault.TheVariants.{Form, Name, KindUnknown, Twice, Pins, Undefined, TooMany, Memory}
 use Rattle.hz_bench.specs.Draft.{drafted_of}
-use Rattle.hz_bench.specs.Fault.{IsFaultless}
+use Rattle.hz_netlist.specs.Rows.{NoneStands}
+use Rattle.hz_bench.specs.Fault.{bench_row}
 use Rattle.hz_bench.specs.ReaderState.{AreGathered}
 use Rattle.hz_bench.specs.Netlist.{circuit_of_statements, elements_of}
 use Rattle.hz_bench.specs.Statement.{statement_of}
@@ -34,6 +35,6 @@ IsParseFault text Memory = Unit {0}
 
 -- the statements are those of a text in which no fault stands; the circuit of the text may be built of them, and is whole
 pub record IsAccepted (text : List ℕ) (statements : Statements) : Type 0 where
-  pub faultless : IsFaultless text
+  pub faultless : NoneStands bench_row text
   pub may : IsBuildable (elements_of (statements_of text)) (drafted_of statements)
   pub whole : IsWhole (circuit_of_statements (statements_of text))

@@ -9,11 +9,6 @@ use Rattle.hz_line.specs.Keyword.{is_keyword}
 use Rattle.hz_line.specs.Token.{TokenOf, WordOf, PunctuationOf, tokens_of}
 use Rattle.hz_core.specs.Limits.{longest_name, most_gate_pins}
 
--- an input or an output
-pub data Port : Type 0 where
-  InputPort : Port
-  OutputPort : Port
-
 -- a statement: an input; an output; a flip-flop with the names that it reads, one if it has no fault; or a gate with its kind, if
 -- the word in the kind's place names one, and the names that its pins read
 pub data Statement : Type 0 where
@@ -45,16 +40,11 @@ abbrev pub defined_by : List ℕ → List ℕ → List (List ℕ) → Statement
 defined_by name word sources =
     if is_flip_flop word then FlipFlop name sources else Gate name (kind_named word) sources
 
--- what a word before a name in parentheses makes of the name
-unfoldable pub port_word : List ℕ → Option Port
-port_word word =
-    if is_keyword word (codes "INPUT") then Some InputPort
-    else (if is_keyword word (codes "OUTPUT") then Some OutputPort else None)
-
--- the name as an input or an output
-abbrev pub port_of : List ℕ → Port → Statement
-port_of name InputPort = Input name
-port_of name OutputPort = Output name
+-- the statement that a word makes of the name in parentheses behind it
+unfoldable pub port_statement : List ℕ → List ℕ → Option Statement
+port_statement word name =
+    if is_keyword word (codes "INPUT") then Some (Input name)
+    else (if is_keyword word (codes "OUTPUT") then Some (Output name) else None)
 
 -- one or more names separated by commas, and a closing parenthesis
 abbrev pub name_list_of : List TokenOf → Option (List (List ℕ))
@@ -66,7 +56,7 @@ name_list_of _ = None
 -- the one statement of a token list, if it is one: WORD ( NAME ) or NAME = KIND ( NAME , .. NAME )
 abbrev pub statement_of : List TokenOf → Option Statement
 statement_of (WordOf word ∷ PunctuationOf Open ∷ WordOf name ∷ PunctuationOf Close ∷ []) =
-    option_map (port_of name) (port_word word)
+    port_statement word name
 statement_of (WordOf name ∷ PunctuationOf Equals ∷ WordOf kind ∷ PunctuationOf Open ∷ rest) =
     option_map (defined_by name kind) (name_list_of rest)
 statement_of _ = None
@@ -80,24 +70,19 @@ name_of (Gate name kind sources) = name
 
 -- the names that a flip-flop or a gate's pins read
 abbrev pub sources_of : Statement → List (List ℕ)
-sources_of (Input name) = []
-sources_of (Output name) = []
 sources_of (FlipFlop name sources) = sources
 sources_of (Gate name kind sources) = sources
+sources_of _ = []
 
 -- the name that a statement defines, if it defines one
 abbrev pub defined_name : Statement → Option (List ℕ)
-defined_name (Input name) = Some name
 defined_name (Output name) = None
-defined_name (FlipFlop name sources) = Some name
-defined_name (Gate name kind sources) = Some name
+defined_name statement = Some (name_of statement)
 
 -- the names that a statement uses: a flip-flop's or a gate's sources, or an output's name
 abbrev pub used_names : Statement → List (List ℕ)
-used_names (Input name) = []
 used_names (Output name) = name ∷ []
-used_names (FlipFlop name sources) = sources
-used_names (Gate name kind sources) = sources
+used_names statement = sources_of statement
 
 -- a name that is longer than a name may be
 abbrev pub is_long : List ℕ → Bool
@@ -109,10 +94,8 @@ has_long_name statement = list_any is_long (name_of statement ∷ sources_of sta
 
 -- the word in the kind's place names no kind
 abbrev pub has_unknown_kind : Statement → Bool
-has_unknown_kind (Input name) = false
-has_unknown_kind (Output name) = false
-has_unknown_kind (FlipFlop name sources) = false
 has_unknown_kind (Gate name kind sources) = not (is_some kind)
+has_unknown_kind _ = false
 
 -- a gate of this kind does not take so many pins; without a kind, it takes no more than 256
 abbrev pub refuses_pin_count : Option Kind → ℕ → Bool
@@ -125,10 +108,9 @@ statement_pin_count statement = length (sources_of statement)
 
 -- a flip-flop does not read one name, or the kind of a gate does not take its pins
 abbrev pub has_wrong_pins : Statement → Bool
-has_wrong_pins (Input name) = false
-has_wrong_pins (Output name) = false
 has_wrong_pins (FlipFlop name sources) = not (length sources == 1)
 has_wrong_pins (Gate name kind sources) = refuses_pin_count kind (length sources)
+has_wrong_pins _ = false
 
 -- the words among tokens
 abbrev pub words_of : List TokenOf → List (List ℕ)

@@ -28,4 +28,4 @@ bench_statements text = grammar.numbered_statements statement_of text
 
 -- the statements of a text
 abbrev pub statements_of : List ℕ → List Statement
-statements_of text = plain (bench_statements text)
+statements_of text = map (λ it. it.statement) (grammar.numbered_statements statement_of text)

@@ -1,7 +1,8 @@
 // Printing a circuit.
 
 ghost use Rattle.std.specs.Prelude.{◌≡◌, ◌++◌, ◌<◌, All, IfOk, OnOk, codes, length, map, take};
-ghost use Rattle.hz_bench.specs.Fault.{IsFaultless};
+ghost use Rattle.hz_netlist.specs.Rows.{NoneStands};
+ghost use Rattle.hz_bench.specs.Fault.{bench_row};
 ghost use Rattle.hz_bench.specs.Netlist.{circuit_of_statements};
 ghost use Rattle.hz_bench.specs.Text.{statements_of};
 ghost use Rattle.hz_core.specs.Netlist.{IsCircuit, IsGateNumber, IsWhole, data_of, gate_at, primary_inputs, node_name};
@@ -18,7 +19,7 @@ use std::alloc::Global;
 pub fn print(alloc: Global, circuit: &Circuit) -> Result<Vec<u8>, Memory>
     requires { IsWhole circuit.now }
     ensures text { IfOk result (λ text. text.items ≡ netlist_text circuit.now) }
-    ensures faultless { IfOk result (λ text. IsFaultless text.items) }
+    ensures faultless { IfOk result (λ text. NoneStands bench_row text.items) }
     ensures circuit { IfOk result (λ text. circuit_of_statements (statements_of text.items)
         ≡ circuit.now) }
 {

@@ -2,7 +2,8 @@
 
 ghost use Rattle.std.specs.Prelude.{◌≡◌, ◌≤◌, ◌⊎◌, List, IfOk, IfErr, OnOk, IsErrOf, MatchResult, None, Some, length};
 ghost use Rattle.hz_core.specs.Netlist.{IsWhole};
-ghost use Rattle.hz_bench.specs.Fault.{IsNetlistRefusal, IsFaultless, IsLeastFault};
+ghost use Rattle.hz_netlist.specs.Rows.{IsLeastBy, NoneStands};
+ghost use Rattle.hz_bench.specs.Fault.{bench_row, IsNetlistRefusal};
 ghost use Rattle.hz_bench.specs.Netlist.{circuit_of_statements};
 ghost use Rattle.hz_bench.specs.Pass.{IsAccepted};
 ghost use Rattle.hz_bench.specs.FaultIn.{fault_in};
@@ -33,9 +34,9 @@ pub fn read(alloc: Global, text: &[u8]) -> Result<Circuit, BenchFault>
     ensures circuit { IfOk result (λ circuit. circuit
         ≡ circuit_of_statements (statements_of text.now)) }
     ensures whole { IfOk result (λ circuit. IsWhole circuit) }
-    ensures faultless { OnOk result (IsFaultless text.now) }
+    ensures faultless { OnOk result (NoneStands bench_row text.now) }
     ensures fault { IfErr result (IsNetlistRefusal text.now) }
-    ensures exact { (fault : BenchFault) → IsLeastFault text.now fault
+    ensures exact { (fault : BenchFault) → IsLeastBy bench_row text.now fault
         → IsErrOf result fault ⊎ IsErrOf result BenchFault.Memory }
 {
     let statements = read_accepted(alloc, text)?;

@@ -86,7 +86,7 @@ pub(crate) fn punctuated_word<'a>(line: &'a [u8]) -> Option<PunctuatedWord<'a>>
 }
 
 // The input or output `WORD ( NAME )`.
-#[tactic(auto, unfolding(crate::specs::Statement::port_word))]
+#[tactic(auto, unfolding(crate::specs::Statement::port_statement))]
 fn port<'a>(line: u32, text: &'a [u8], head: &Head<'a>) -> Option<Line<'a>>
     requires tokens { tokens_of text.now ≡ head_tokens head.now }
     requires opened { head.now.punctuation ≡ Punctuation.Open }

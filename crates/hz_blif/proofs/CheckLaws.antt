@@ -15,7 +15,8 @@ use Rattle.hz_blif.specs.Check.{count_of, first_fault, first_of, least_of, too_m
 use Rattle.hz_blif.specs.Circuit.{elements_of}
 use Rattle.hz_blif.specs.Cover.{Cover, covers_of, definitions_of, is_constant, is_skipped, is_too_large, uses_of}
 use Rattle.hz_blif.specs.Draft.{IsClean, IsDraftOf, pins_fault, twice_fault}
-use Rattle.hz_blif.specs.Fault.{IsLeastFault, has_long_name, is_forbidden}
+use Rattle.hz_netlist.specs.Rows.{IsLeastBy}
+use Rattle.hz_blif.specs.Fault.{has_long_name, is_forbidden, blif_row}
 use Rattle.hz_blif.specs.Line.{is_construct, lines_in}
 use Rattle.hz_blif.specs.Text.{joined_lines}
 use Rattle.hz_blif.proofs.FoundFaults.{answer-least}
@@ -51,32 +52,32 @@ are-noted text draft is =
       pins = λ right. sym (held.excess_is right ∙ ap (λ covers. option_map (λ (cover : Cover). fault.Pins cover.line (count_of cover)) (find is_too_large covers)) read.done);
     }
 
-pub found-name : (text : List ℕ) (draft : Draft) (line : ℕ) → IsDraftOf text draft → draft.notes.long_name ≡ Some line → IsLeastFault text (fault.Name line)
+pub found-name : (text : List ℕ) (draft : Draft) (line : ℕ) → IsDraftOf text draft → draft.notes.long_name ≡ Some line → IsLeastBy blif_row text (fault.Name line)
 found-name text draft line is at =
     let n = are-noted text draft is in
     answer-least text (fault.Name line) (skip _ _ n.form ∙ stop _ _ (fault.Name line) (n.name ∙ ap (option_map fault.Name) at))
 
-pub found-construct : (text : List ℕ) (draft : Draft) (line : ℕ) → IsDraftOf text draft → draft.notes.long_name ≡ None → draft.notes.construct ≡ Some line → IsLeastFault text (fault.Construct line)
+pub found-construct : (text : List ℕ) (draft : Draft) (line : ℕ) → IsDraftOf text draft → draft.notes.long_name ≡ None → draft.notes.construct ≡ Some line → IsLeastBy blif_row text (fault.Construct line)
 found-construct text draft line is name at =
     let n = are-noted text draft is in
     answer-least text (fault.Construct line) (skip _ _ n.form ∙ (skip _ _ (n.name ∙ ap (option_map fault.Name) name) ∙ stop _ _ (fault.Construct line) (n.construct ∙ ap (option_map fault.Construct) at)))
 
 pub found-again : (text : List ℕ) (draft : Draft) (again : Redefinition) → IsDraftOf text draft → draft.notes.long_name ≡ None → draft.notes.construct ≡ None → draft.notes.again ≡ Some again
-    → IsLeastFault text (fault.Twice again.line again.first)
+    → IsLeastBy blif_row text (fault.Twice again.line again.first)
 found-again text draft again is name construct at =
     let n = are-noted text draft is in
     answer-least text (fault.Twice again.line again.first) (skip _ _ n.form ∙ (skip _ _ (n.name ∙ ap (option_map fault.Name) name) ∙ (skip _ _ (n.construct ∙ ap (option_map fault.Construct) construct)
     ∙ stop _ _ (twice_fault again) (n.twice ∙ ap (option_map twice_fault) at))))
 
 pub found-row : (text : List ℕ) (draft : Draft) (line : ℕ) → IsDraftOf text draft → draft.notes.long_name ≡ None → draft.notes.construct ≡ None → draft.notes.again ≡ None → draft.notes.wrong_row ≡ Some line
-    → IsLeastFault text (fault.Cover line)
+    → IsLeastBy blif_row text (fault.Cover line)
 found-row text draft line is name construct again at =
     let n = are-noted text draft is in
     answer-least text (fault.Cover line) (skip _ _ n.form ∙ (skip _ _ (n.name ∙ ap (option_map fault.Name) name) ∙ (skip _ _ (n.construct ∙ ap (option_map fault.Construct) construct)
     ∙ (skip _ _ (n.twice ∙ ap (option_map twice_fault) again) ∙ stop _ _ (fault.Cover line) (n.cover ∙ ap (option_map fault.Cover) at)))))
 
 pub found-excess : (text : List ℕ) (draft : Draft) (excess : Excess) → IsDraftOf text draft → draft.notes.long_name ≡ None → draft.notes.construct ≡ None → draft.notes.again ≡ None → draft.notes.wrong_row ≡ None
-    → draft.notes.excess ≡ Some excess → IsLeastFault text (fault.Pins excess.line excess.count)
+    → draft.notes.excess ≡ Some excess → IsLeastBy blif_row text (fault.Pins excess.line excess.count)
 found-excess text draft excess is name construct again right at =
     let n = are-noted text draft is in
     answer-least text (fault.Pins excess.line excess.count) (skip _ _ n.form ∙ (skip _ _ (n.name ∙ ap (option_map fault.Name) name) ∙ (skip _ _ (n.construct ∙ ap (option_map fault.Construct) construct)

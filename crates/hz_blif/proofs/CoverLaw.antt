@@ -8,7 +8,8 @@ use Rattle.hz_blif.specs.Line.{lines_in}
 use Rattle.hz_blif.specs.Cover.{Cover, covers_of, inputs_of, is_skipped, kept_covers, outputs_of}
 use Rattle.hz_blif.specs.Gates.{cover_gates}
 use Rattle.hz_blif.specs.Circuit.{blif_circuit, elements_of}
-use Rattle.hz_blif.specs.Fault.{IsFaultless}
+use Rattle.hz_netlist.specs.Rows.{NoneStands}
+use Rattle.hz_blif.specs.Fault.{blif_row}
 use Rattle.hz_blif.specs.Law.{node_value, KeepsCovers}
 use Rattle.hz_blif.proofs.KeptCovers.{kept-member, kept-terms}
 use Rattle.hz_blif.proofs.TwoLevel.{AgreeWithAll, agree-front, agree-back, cover-two_level}
@@ -25,7 +26,7 @@ agree-cover value (first ∷ rest) (suc k) cover few here agree =
     agree-cover value rest k cover (omega (arith, few)) here (agree-back value (cover_gates first) (flat_map cover_gates rest) agree)
 
 -- the law of covers, where the text has no fault
-pub keeps-covers : (text : List ℕ) → IsFaultless text → KeepsCovers text
+pub keeps-covers : (text : List ℕ) → NoneStands blif_row text → KeepsCovers text
 keeps-covers text faultless input state long stable cover member =
     let lines = lines_in text in
     let value = node_value (blif_circuit text) state in

@@ -11,7 +11,8 @@ use Rattle.hz_blif.specs.Built.{IsBuildable, elements_of_draft}
 use Rattle.hz_blif.specs.Circuit.{blif_circuit}
 use Rattle.hz_blif.specs.Cover.{Cover, covers_of, is_constant, is_skipped}
 use Rattle.hz_blif.specs.Draft.{HoldsElements, IsClean, IsDraftOf, varying}
-use Rattle.hz_blif.specs.Fault.{HasCover, IsFaultless}
+use Rattle.hz_netlist.specs.Rows.{NoneStands}
+use Rattle.hz_blif.specs.Fault.{HasCover, blif_row}
 use Rattle.hz_blif.specs.Gates.{cover_gates}
 use Rattle.hz_blif.specs.Line.{lines_in}
 use Rattle.hz_blif.proofs.CheckLaws.{found-again, found-construct, found-excess, found-name, found-row}
@@ -22,7 +23,7 @@ use Rattle.hz_blif.proofs.UseLaws.{kept-varying}
 use Rattle.hz_blif.proofs.WiredPins.{wired-few}
 
 -- no constant cover is used
-no-constant : (text : List ℕ) → IsFaultless text → (covers : List Cover) → ((cover : Cover) → Contains covers cover → HasCover text cover)
+no-constant : (text : List ℕ) → NoneStands blif_row text → (covers : List Cover) → ((cover : Cover) → Contains covers cover → HasCover text cover)
     → find (λ cover. is_constant cover && not (is_skipped (lines_in text) cover)) covers ≡ None
 no-constant text faultless [] there = refl
 no-constant text faultless (first ∷ rest) there =
@@ -37,7 +38,7 @@ no-constant text faultless (first ∷ rest) there =
     by_test false skipped is kept more = more
 
 -- a draft of a text without fault holds the elements of the text
-pub holds-elements : (text : List ℕ) (draft : Draft) → IsDraftOf text draft → IsClean draft → IsFaultless text → HoldsElements text draft
+pub holds-elements : (text : List ℕ) (draft : Draft) → IsDraftOf text draft → IsClean draft → NoneStands blif_row text → HoldsElements text draft
 holds-elements text draft is clean faultless =
     let lines = lines_in text in
     let held = is.holds in
@@ -59,7 +60,7 @@ holds-elements text draft is clean faultless =
     }
 
 -- and nothing is noted of it
-pub nothing-noted : (text : List ℕ) (draft : Draft) → IsDraftOf text draft → IsFaultless text → IsClean draft
+pub nothing-noted : (text : List ℕ) (draft : Draft) → IsDraftOf text draft → NoneStands blif_row text → IsClean draft
 nothing-noted text draft is faultless =
     let name = by_name draft.notes.long_name refl in
     let construct = by_construct draft.notes.construct refl name in
@@ -89,7 +90,7 @@ nothing-noted text draft is faultless =
         absurd (faultless (fault.Pins excess.line excess.count) (found-excess text draft excess is name construct again right at).stands)
 
 -- so it can be built, and its circuit is that of the text
-pub text-built : (text : List ℕ) (draft : Draft) → IsDraftOf text draft → IsFaultless text → IsBuildable draft × (circuit_of_elements (elements_of_draft draft) ≡ blif_circuit text)
+pub text-built : (text : List ℕ) (draft : Draft) → IsDraftOf text draft → NoneStands blif_row text → IsBuildable draft × (circuit_of_elements (elements_of_draft draft) ≡ blif_circuit text)
 text-built text draft is faultless =
     let holds = holds-elements text draft is (nothing-noted text draft is faultless) faultless in
     (buildable text draft faultless holds, ap circuit_of_elements (elements-of-text text draft holds))

@@ -11,7 +11,8 @@ use Rattle.hz_blif.specs.Circuit.{elements_of}
 use Rattle.hz_blif.specs.Cover.{inputs_of, kept_covers, outputs_of}
 use Rattle.hz_blif.specs.Draft.{HoldsElements}
 use Rattle.hz_blif.specs.Entries.{elements_by}
-use Rattle.hz_blif.specs.Fault.{IsFaultless}
+use Rattle.hz_netlist.specs.Rows.{NoneStands}
+use Rattle.hz_blif.specs.Fault.{blif_row}
 use Rattle.hz_blif.specs.Gates.{cover_gates}
 use Rattle.hz_blif.specs.Line.{lines_in}
 use Rattle.hz_blif.proofs.WiredText.{wired-text}
@@ -28,7 +29,7 @@ elements-of-text text draft holds =
     ∙ ap (λ (outputs : List Element). map Input (inputs_of lines) ++ (text_gates ++ outputs))
     (ap (map Output) holds.outputs ∙ map-map Output (λ (output : Numbered (List ℕ)). output.statement) (outputs_of lines))
 
-pub buildable : (text : List ℕ) (draft : Draft) → IsFaultless text → HoldsElements text draft → IsBuildable draft
+pub buildable : (text : List ℕ) (draft : Draft) → NoneStands blif_row text → HoldsElements text draft → IsBuildable draft
 buildable text draft faultless holds = record {
   wired = subst AreWired (sym (elements-of-text text draft holds)) (wired-text text faultless);
   distinct = holds.distinct;

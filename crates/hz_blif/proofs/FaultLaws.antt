@@ -9,7 +9,7 @@ use Rattle.hz_blif.specs.declared.fault.BlifFault.{BlifFault}
 use Rattle.hz_blif.specs.declared.fault.BlifFault.TheVariants as fault
 use Rattle.hz_blif.specs.Line.{Line, lines_in}
 use Rattle.hz_blif.specs.Cover.{definitions_of}
-use Rattle.hz_blif.specs.Fault.{Stands, IsFaultless, has_wrong_form}
+use Rattle.hz_blif.specs.Fault.{Stands, has_wrong_form}
 use Rattle.hz_blif.specs.Check.{wrong_form_after, twice_or, twice_after}
 use Rattle.hz_blif.proofs.Ascending.{above}
 use Rattle.hz_netlist.proofs.Undefined.{the_first, a_later}

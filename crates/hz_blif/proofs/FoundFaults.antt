@@ -19,7 +19,8 @@ use Rattle.hz_blif.specs.Text.{joined_lines}
 use Rattle.hz_blif.specs.Line.{Line, Inputs, Outputs, Names, Row, Model, End, Blank, Construct as ConstructLine, lines_in, is_construct}
 use Rattle.hz_blif.specs.Cover.{Cover, covers_of, definitions_of, definitions_with, uses_of, is_wrong_row, is_skipped, is_constant, is_too_large}
 use Rattle.hz_blif.specs.Circuit.{elements_of}
-use Rattle.hz_blif.specs.Fault.{Stands, IsSecond, HasFault, HasForbidden, HasWrongForm, HasThat, HasCover, IsTooLarge, UsesUndefined, IsFaultless, IsLeastFault, IsBlifRefusal, blif_faults, fault_number, fault_line, has_long_name, is_forbidden}
+use Rattle.hz_netlist.specs.Rows.{NoneStands, IsLeastBy, faults_by, HasOn}
+use Rattle.hz_blif.specs.Fault.{Stands, IsSecond, HasWrongForm, HasCover, IsTooLarge, IsBlifRefusal, has_long_name, is_forbidden, blif_row}
 use Rattle.hz_blif.specs.Check.{wrong_form_after, twice_after, wrong_row, first_of, least_of, count_of, undefined_use, faults_in, first_fault}
 use Rattle.hz_line.proofs.StatementLemmas.{Ascends}
 use Rattle.hz_blif.proofs.Ascending.{HasRowAt, covers-ascend, find-cover, find-no_cover, first-least, first-row-least, joined_lines-ascend, lines_in-ascend, one-line}
@@ -30,15 +31,15 @@ use Rattle.hz_netlist.proofs.Undefined.{one_of, none_of, the_first, a_later, Cli
 -- what stands in a text where a fault with this number, line and count stands
 abbrev pub ByNumber : List ℕ → ℕ → ℕ → ℕ → Type 0
 ByNumber text zero line count = ⊥
-ByNumber text (suc zero) line count = (HasForbidden text line ⊎ HasWrongForm text line) × (count ≡ 0)
-ByNumber text (suc (suc zero)) line count = HasThat has_long_name text line × (count ≡ 0)
-ByNumber text (suc (suc (suc zero))) line count = HasThat is_construct text line × (count ≡ 0)
+ByNumber text (suc zero) line count = (HasOn (λ bytes. list_any is_forbidden bytes ≡ true) (joined_lines text) line ⊎ HasWrongForm text line) × (count ≡ 0)
+ByNumber text (suc (suc zero)) line count = HasOn (λ it. has_long_name it ≡ true) (lines_in text) line × (count ≡ 0)
+ByNumber text (suc (suc (suc zero))) line count = HasOn (λ it. is_construct it ≡ true) (lines_in text) line × (count ≡ 0)
 ByNumber text (suc (suc (suc (suc zero)))) line count = IsSecond (definitions_of (lines_in text)) line count
 ByNumber text (suc (suc (suc (suc (suc zero))))) line count = HasRowAt is_wrong_row (covers_of (lines_in text)) line × (count ≡ 0)
 ByNumber text (suc (suc (suc (suc (suc (suc zero)))))) line count = (cover : Cover) × HasCover text cover × (cover.line ≡ line) × IsTooLarge cover count
 ByNumber text (suc (suc (suc (suc (suc (suc (suc zero))))))) line count =
     ((cover : Cover) × HasCover text cover × (cover.line ≡ line) × (is_constant cover ≡ true) × (is_skipped (lines_in text) cover ≡ false)) × (count ≡ 0)
-ByNumber text (suc (suc (suc (suc (suc (suc (suc (suc zero)))))))) line count = UsesUndefined (definitions_of (lines_in text)) (uses_of (lines_in text)) line × (count ≡ 0)
+ByNumber text (suc (suc (suc (suc (suc (suc (suc (suc zero)))))))) line count = HasOn (λ name. is_among (names_of (definitions_of (lines_in text))) name ≡ false) (uses_of (lines_in text)) line × (count ≡ 0)
 ByNumber text (suc (suc (suc (suc (suc (suc (suc (suc (suc zero))))))))) line count = (line ≡ 0) × (most_variables < count) × (variable_total (elements_of (lines_in text)) ≡ count)
 ByNumber text (suc (suc (suc (suc (suc (suc (suc (suc (suc (suc more)))))))))) line count = ⊥
 
@@ -54,7 +55,7 @@ fault_count (fault.Undefined line) = 0
 fault_count (fault.TooMany variables) = variables
 fault_count fault.Memory = 0
 
-by_number : (text : List ℕ) (one : BlifFault) → HasFault text one → ByNumber text (fault_number one) (fault_line one) (fault_count one)
+by_number : (text : List ℕ) (one : BlifFault) → (blif_row one).stands text → ByNumber text ((blif_row one).number) ((blif_row one).line) (fault_count one)
 by_number text (fault.Form line) p = (p, refl)
 by_number text (fault.Name line) p = (p, refl)
 by_number text (fault.Construct line) p = (p, refl)
@@ -67,18 +68,18 @@ by_number text (fault.TooMany variables) p = (refl, p.0, p.1)
 by_number text fault.Memory p = p
 
 -- at another number that is the same
-at_number : (text : List ℕ) (one : BlifFault) (number : ℕ) → HasFault text one → fault_number one ≡ number → ByNumber text number (fault_line one) (fault_count one)
-at_number text one number p same = subst (λ number. ByNumber text number (fault_line one) (fault_count one)) same (by_number text one p)
+at_number : (text : List ℕ) (one : BlifFault) (number : ℕ) → (blif_row one).stands text → (blif_row one).number ≡ number → ByNumber text number ((blif_row one).line) (fault_count one)
+at_number text one number p same = subst (λ number. ByNumber text number ((blif_row one).line) (fault_count one)) same (by_number text one p)
 
 -- a fault of a number that is found by its line
 found-line : (text : List ℕ) (number : ℕ) (fault_at : ℕ → BlifFault) (P : ℕ → Type 0) (found : Option ℕ) (rest : List (Option BlifFault))
-    → ((line : ℕ) → fault_number (fault_at line) ≡ number) → ((line : ℕ) → fault_line (fault_at line) ≡ line) → ((line : ℕ) → P line → HasFault text (fault_at line))
-    → ((line count : ℕ) → ByNumber text number line count → P line) → IsLeastOf P found → AreFound (blif_faults text) (suc number) rest → AreFound (blif_faults text) number (option_map fault_at found ∷ rest)
-found-line text number fault_at P None rest is at stands by least more = (λ other p same. least (fault_line other) (by (fault_line other) (fault_count other) (at_number text other number p same)), more)
+    → ((line : ℕ) → (blif_row (fault_at line)).number ≡ number) → ((line : ℕ) → (blif_row (fault_at line)).line ≡ line) → ((line : ℕ) → P line → (blif_row (fault_at line)).stands text)
+    → ((line count : ℕ) → ByNumber text number line count → P line) → IsLeastOf P found → AreFound (faults_by blif_row text) (suc number) rest → AreFound (faults_by blif_row text) number (option_map fault_at found ∷ rest)
+found-line text number fault_at P None rest is at stands by least more = (λ other p same. least ((blif_row other).line) (by ((blif_row other).line) (fault_count other) (at_number text other number p same)), more)
 found-line text number fault_at P (Some line) rest is at stands by least more = record {
   stands = stands line least.here;
   number_is = is line;
-  least = λ other p same. (let up = least.least (fault_line other) (by (fault_line other) (fault_count other) (at_number text other number p same)) in omega (arith, up, at line));
+  least = λ other p same. (let up = least.least ((blif_row other).line) (by ((blif_row other).line) (fault_count other) (at_number text other number p same)) in omega (arith, up, at line));
 }
 
 -- names defined twice
@@ -121,14 +122,14 @@ second-place definitions line first other_line other_first up is other =
     ]
 
 found-twice : (text : List ℕ) (found : Option BlifFault) (rest : List (Option BlifFault)) → IsTwiceFound [] (definitions_of (lines_in text)) found
-    → AreFound (blif_faults text) 5 rest → AreFound (blif_faults text) 4 (found ∷ rest)
-found-twice text None rest none more = (λ other p same. (let is = at_number text other 4 p same in Some-None (fault_count other) (sym is.first_is ∙ none is.before (fault_line other) is.name is.stands)), more)
+    → AreFound (faults_by blif_row text) 5 rest → AreFound (faults_by blif_row text) 4 (found ∷ rest)
+found-twice text None rest none more = (λ other p same. (let is = at_number text other 4 p same in Some-None (fault_count other) (sym is.first_is ∙ none is.before ((blif_row other).line) is.name is.stands)), more)
 found-twice text (Some one) rest (line, first, is, it) more =
-    subst (λ (one : BlifFault). IsLeastOfNumber (blif_faults text) 4 one) (sym is)
+    subst (λ (one : BlifFault). IsLeastOfNumber (faults_by blif_row text) 4 one) (sym is)
     (record {
       stands = record { before = it.middle; name = it.name; stands = it.stands; first_is = it.first_is; earliest = λ earlier other s. it.earliest earlier line other s };
       number_is = refl;
-      least = λ other p same. second-place (definitions_of (lines_in text)) line first (fault_line other) (fault_count other) (definitions-climb (lines_in text) 1 (lines_in-ascend text)) it (at_number text other 4 p same);
+      least = λ other p same. second-place (definitions_of (lines_in text)) line first ((blif_row other).line) (fault_count other) (definitions-climb (lines_in text) 1 (lines_in-ascend text)) it (at_number text other 4 p same);
     })
 
 -- covers that are too large, and constant covers that are used
@@ -147,7 +148,7 @@ large-is cover count (inl pins) = (let many = pins.0 in let t : nat_lt most_gate
 large-is cover count (inr rows) = (let many = rows.1 in let few = rows.0 in let t : nat_lt most_gate_pins (length cover.rows) ≡ true = grind (arith, nat_tests, many) in let f : nat_lt most_gate_pins (length cover.pins) ≡ false = grind (arith, nat_tests, few) in ap (λ large. large || nat_lt most_gate_pins (length cover.rows)) f ∙ t)
 
 found-pins : (text : List ℕ) (found : Option Cover) (rest : List (Option BlifFault)) → find is_too_large (covers_of (lines_in text)) ≡ found
-    → AreFound (blif_faults text) 7 rest → AreFound (blif_faults text) 6 (option_map (λ (cover : Cover). fault.Pins cover.line (count_of cover)) found ∷ rest)
+    → AreFound (faults_by blif_row text) 7 rest → AreFound (faults_by blif_row text) 6 (option_map (λ (cover : Cover). fault.Pins cover.line (count_of cover)) found ∷ rest)
 found-pins text None rest e more =
     (λ other p same. (let is = at_number text other 6 p same in find-no_cover is_too_large (covers_of (lines_in text)) e is.0 is.1 (large-is is.0 (fault_count other) is.3)), more)
 found-pins text (Some cover) rest e more =
@@ -173,7 +174,7 @@ not-true true h = let e : false ≡ true = h in cc
 not-true false h = refl
 
 found-constant : (text : List ℕ) (found : Option Cover) (rest : List (Option BlifFault)) → find (λ cover. is_constant cover && not (is_skipped (lines_in text) cover)) (covers_of (lines_in text)) ≡ found
-    → AreFound (blif_faults text) 8 rest → AreFound (blif_faults text) 7 (option_map (λ (cover : Cover). fault.Constant cover.line) found ∷ rest)
+    → AreFound (faults_by blif_row text) 8 rest → AreFound (faults_by blif_row text) 7 (option_map (λ (cover : Cover). fault.Constant cover.line) found ∷ rest)
 found-constant text None rest e more = (
   λ other p same. (let is = (at_number text other 7 p same).0 in
       find-no_cover (is_used_constant (lines_in text)) (covers_of (lines_in text)) e is.0 is.1 (both-is (is_constant is.0) (not (is_skipped (lines_in text) is.0)) is.3 (ap not is.4))),
@@ -228,7 +229,7 @@ undefined-least defined (first ∷ rest) =
     (here-least defined first (is_among defined first.statement) refl) (undefined-least defined rest)))
 
 -- the numbers begin with 1 and end with 9
-number-bounds : (text : List ℕ) (one : BlifFault) → HasFault text one → (1 ≤ fault_number one) × (fault_number one < 10)
+number-bounds : (text : List ℕ) (one : BlifFault) → (blif_row one).stands text → (1 ≤ (blif_row one).number) × ((blif_row one).number < 10)
 number-bounds text (fault.Form line) p = (lit≤ tt, lit≤ tt)
 number-bounds text (fault.Name line) p = (lit≤ tt, lit≤ tt)
 number-bounds text (fault.Construct line) p = (lit≤ tt, lit≤ tt)
@@ -242,7 +243,7 @@ number-bounds text fault.Memory p = absurd p
 
 -- too many variables
 found-many : (text : List ℕ) (variables : ℕ) (many : Bool) → nat_lt most_variables variables ≡ many → variable_total (elements_of (lines_in text)) ≡ variables
-    → AreFound (blif_faults text) 9 (cond many (Some (fault.TooMany variables)) None ∷ [])
+    → AreFound (faults_by blif_row text) 9 (cond many (Some (fault.TooMany variables)) None ∷ [])
 found-many text variables true t is = record {
   stands = (grind (arith, nat_tests, t), is);
   number_is = refl;
@@ -253,36 +254,36 @@ found-many text variables false t is =
     (λ other p same. (let it = at_number text other 9 p same in omega (arith, few, is, it.1, it.2)), λ one p. (number-bounds text one p).1)
 
 -- all of them
-pub are-found : (text : List ℕ) → AreFound (blif_faults text) 1 (faults_in text)
+pub are-found : (text : List ℕ) → AreFound (faults_by blif_row text) 1 (faults_in text)
 are-found text =
     let lines = lines_in text in
     let covers = covers_of lines in
-    found-line text 1 fault.Form (λ line. HasForbidden text line ⊎ HasWrongForm text line)
+    found-line text 1 fault.Form (λ line. HasOn (λ bytes. list_any is_forbidden bytes ≡ true) (joined_lines text) line ⊎ HasWrongForm text line)
     (option_min (first_passing_line (list_any is_forbidden) (joined_lines text)) (wrong_form_after [] lines)) _ (λ line. refl) (λ line. refl) (λ line p. p) (λ line count p. p.0)
-    (IsLeastOf-either (HasForbidden text) (HasWrongForm text) (first_passing_line (list_any is_forbidden) (joined_lines text)) (wrong_form_after [] lines)
+    (IsLeastOf-either (HasOn (λ bytes. list_any is_forbidden bytes ≡ true) (joined_lines text)) (HasWrongForm text) (first_passing_line (list_any is_forbidden) (joined_lines text)) (wrong_form_after [] lines)
     (first-least (list_any is_forbidden) (joined_lines text) 1 (joined_lines-ascend text)) (wrong-form-least [] lines 1 (lines_in-ascend text)))
-    (found-line text 2 fault.Name (HasThat has_long_name text) (first_passing_line has_long_name lines) _ (λ line. refl) (λ line. refl) (λ line p. p) (λ line count p. p.0)
+    (found-line text 2 fault.Name (HasOn (λ it. has_long_name it ≡ true) (lines_in text)) (first_passing_line has_long_name lines) _ (λ line. refl) (λ line. refl) (λ line p. p) (λ line count p. p.0)
     (first-least has_long_name lines 1 (lines_in-ascend text))
-    (found-line text 3 fault.Construct (HasThat is_construct text) (first_passing_line is_construct lines) _ (λ line. refl) (λ line. refl) (λ line p. p) (λ line count p. p.0)
+    (found-line text 3 fault.Construct (HasOn (λ it. is_construct it ≡ true) (lines_in text)) (first_passing_line is_construct lines) _ (λ line. refl) (λ line. refl) (λ line p. p) (λ line count p. p.0)
     (first-least is_construct lines 1 (lines_in-ascend text))
     (found-twice text (twice_after [] (definitions_of lines)) _ (twice-found [] (definitions_of lines))
     (found-line text 5 fault.Cover (HasRowAt is_wrong_row covers) (first_of (map wrong_row covers)) _ (λ line. refl) (λ line. refl) (λ line p. p) (λ line count p. p.0)
     (first-row-least is_wrong_row covers 1 (covers-ascend text))
     (found-pins text (find is_too_large covers) _ refl
     (found-constant text (find (λ cover. is_constant cover && not (is_skipped lines cover)) covers) _ refl
-    (found-line text 8 fault.Undefined (UsesUndefined (definitions_of lines) (uses_of lines)) (least_of (map (undefined_use (names_of (definitions_of lines))) (uses_of lines))) _ (λ line. refl) (λ line. refl) (λ line p. p) (λ line count p. p.0)
+    (found-line text 8 fault.Undefined (HasOn (λ name. is_among (names_of (definitions_of lines)) name ≡ false) (uses_of lines)) (least_of (map (undefined_use (names_of (definitions_of lines))) (uses_of lines))) _ (λ line. refl) (λ line. refl) (λ line p. p) (λ line count p. p.0)
     (undefined-least (names_of (definitions_of lines)) (uses_of lines))
     (found-many text (variable_total (elements_of lines)) (nat_lt most_variables (variable_total (elements_of lines))) refl refl))))))))
 
-pub first-answer : (text : List ℕ) → IsAnswer (blif_faults text) (first_fault text)
-first-answer text = found-least (blif_faults text) 1 (faults_in text) (λ one p. (number-bounds text one p).0) (are-found text)
+pub first-answer : (text : List ℕ) → IsAnswer (faults_by blif_row text) (first_fault text)
+first-answer text = found-least (faults_by blif_row text) 1 (faults_in text) (λ one p. (number-bounds text one p).0) (are-found text)
 
 -- what is answered
-pub answer-least : (text : List ℕ) (one : BlifFault) → first_fault text ≡ Some one → IsLeastFault text one
-answer-least text one is = subst (IsAnswer (blif_faults text)) is (first-answer text)
+pub answer-least : (text : List ℕ) (one : BlifFault) → first_fault text ≡ Some one → IsLeastBy blif_row text one
+answer-least text one is = subst (IsAnswer (faults_by blif_row text)) is (first-answer text)
 
-pub answer-faultless : (text : List ℕ) → first_fault text ≡ None → IsFaultless text
-answer-faultless text is = subst (IsAnswer (blif_faults text)) is (first-answer text)
+pub answer-faultless : (text : List ℕ) → first_fault text ≡ None → NoneStands blif_row text
+answer-faultless text is = subst (IsAnswer (faults_by blif_row text)) is (first-answer text)
 
 -- the least fault is one
 -- two second definitions that are the earliest of one line are one
@@ -342,7 +343,7 @@ fault_of (suc (suc (suc (suc (suc (suc (suc (suc zero)))))))) line count = fault
 fault_of (suc (suc (suc (suc (suc (suc (suc (suc (suc zero))))))))) line count = fault.TooMany count
 fault_of (suc (suc (suc (suc (suc (suc (suc (suc (suc (suc more)))))))))) line count = fault.Memory
 
-fault_of-back : (one : BlifFault) → fault_of (fault_number one) (fault_line one) (fault_count one) ≡ one
+fault_of-back : (one : BlifFault) → fault_of ((blif_row one).number) ((blif_row one).line) (fault_count one) ≡ one
 fault_of-back (fault.Form line) = refl
 fault_of-back (fault.Name line) = refl
 fault_of-back (fault.Construct line) = refl
@@ -354,15 +355,15 @@ fault_of-back (fault.Undefined line) = refl
 fault_of-back (fault.TooMany variables) = refl
 fault_of-back fault.Memory = refl
 
-pub least-unique : (text : List ℕ) (one other : BlifFault) → IsLeastFault text one → IsLeastFault text other → one ≡ other
+pub least-unique : (text : List ℕ) (one other : BlifFault) → IsLeastBy blif_row text one → IsLeastBy blif_row text other → one ≡ other
 least-unique text one other a b =
-    let same = both-first (blif_faults text) one other (a.least other b.stands) (b.least one a.stands) in
+    let same = both-first (faults_by blif_row text) one other (a.least other b.stands) (b.least one a.stands) in
     let counts : fault_count one ≡ fault_count other =
-    same-count text (fault_number one) (fault_line one) (fault_count one) (fault_count other) (by_number text one a.stands)
-    (subst (λ line. ByNumber text (fault_number one) line (fault_count other)) (sym same.1) (at_number text other (fault_number one) b.stands (sym same.0))) in
-    sym (fault_of-back one) ∙ ap (λ number. fault_of number (fault_line one) (fault_count one)) same.0 ∙ ap (λ line. fault_of (fault_number other) line (fault_count one)) same.1
-    ∙ ap (fault_of (fault_number other) (fault_line other)) counts ∙ fault_of-back other
+    same-count text ((blif_row one).number) ((blif_row one).line) (fault_count one) (fault_count other) (by_number text one a.stands)
+    (subst (λ line. ByNumber text ((blif_row one).number) line (fault_count other)) (sym same.1) (at_number text other ((blif_row one).number) b.stands (sym same.0))) in
+    sym (fault_of-back one) ∙ ap (λ number. fault_of number ((blif_row one).line) (fault_count one)) same.0 ∙ ap (λ line. fault_of ((blif_row other).number) line (fault_count one)) same.1
+    ∙ ap (fault_of ((blif_row other).number) ((blif_row other).line)) counts ∙ fault_of-back other
 
-pub answer-exact : (text : List ℕ) (one other : BlifFault) → IsBlifRefusal text one → IsLeastFault text other → (one ≡ other) ⊎ (one ≡ fault.Memory)
+pub answer-exact : (text : List ℕ) (one other : BlifFault) → IsBlifRefusal text one → IsLeastBy blif_row text other → (one ≡ other) ⊎ (one ≡ fault.Memory)
 answer-exact text one other (inl memory) least = inr memory
 answer-exact text one other (inr h) least = inl (least-unique text one other h least)

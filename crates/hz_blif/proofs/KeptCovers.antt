@@ -10,7 +10,8 @@ use Rattle.hz_blif.specs.Text.{is_some_list}
 use Rattle.hz_blif.specs.Line.{lines_in}
 use Rattle.hz_blif.specs.Cover.{Cover, covers_of, is_constant, is_skipped, planes_of, plane_of, has_literal, is_row, is_wrong_row, is_plane_byte}
 use Rattle.hz_blif.specs.Gates.{literals_from, literals_of}
-use Rattle.hz_blif.specs.Fault.{IsFaultless}
+use Rattle.hz_netlist.specs.Rows.{NoneStands}
+use Rattle.hz_blif.specs.Fault.{blif_row}
 use Rattle.hz_blif.proofs.TwoLevel.{IsSomeList, HaveLiterals}
 
 -- what a test keeps is in the list, and passes
@@ -76,13 +77,13 @@ planes-some [] h = let e : false ≡ true = h in cc
 planes-some (row ∷ rows) h = tt
 
 -- a cover of a text without fault that is not skipped is not constant
-not-constant : (text : List ℕ) (cover : Cover) → IsFaultless text → Contains (covers_of (lines_in text)) cover → is_skipped (lines_in text) cover ≡ false
+not-constant : (text : List ℕ) (cover : Cover) → NoneStands blif_row text → Contains (covers_of (lines_in text)) cover → is_skipped (lines_in text) cover ≡ false
     → (constant : Bool) → is_constant cover ≡ constant → constant ≡ false
 not-constant text cover faultless stands kept false is = refl
 not-constant text cover faultless stands kept true is = absurd (faultless (fault.Constant cover.line) (cover, stands, refl, is, kept))
 
 -- and its rows are as said
-row-right : (text : List ℕ) (cover : Cover) → IsFaultless text → Contains (covers_of (lines_in text)) cover → (k : ℕ) (row : Numbered (List (List ℕ)))
+row-right : (text : List ℕ) (cover : Cover) → NoneStands blif_row text → Contains (covers_of (lines_in text)) cover → (k : ℕ) (row : Numbered (List (List ℕ)))
     → k < length cover.rows → slice_index_or cover.rows k row ≡ row → (wrong : Bool) → is_wrong_row cover row.statement ≡ wrong → wrong ≡ false
 row-right text cover faultless stands k row few here false is = refl
 row-right text cover faultless stands k row few here true is = absurd (faultless (fault.Cover row.line) (cover, stands, (row.statement, (k, few, here), is)))
@@ -92,7 +93,7 @@ abbrev pub HasTerms : Cover → Type 0
 HasTerms cover = IsSomeList (planes_of cover) × HaveLiterals (map (literals_of cover.pins) (planes_of cover))
 
 -- the covers that are not skipped are such covers
-pub kept-terms : (text : List ℕ) → IsFaultless text → (cover : Cover) → Contains (covers_of (lines_in text)) cover → is_skipped (lines_in text) cover ≡ false → HasTerms cover
+pub kept-terms : (text : List ℕ) → NoneStands blif_row text → (cover : Cover) → Contains (covers_of (lines_in text)) cover → is_skipped (lines_in text) cover ≡ false → HasTerms cover
 kept-terms text faultless cover stands skipped =
     let varies = not-constant text cover faultless stands skipped (is_constant cover) refl in
     let first = either (not (is_some_list cover.pins) || not (is_some_list cover.rows)) (not (list_all has_literal (planes_of cover))) varies in

@@ -18,7 +18,8 @@ use Rattle.hz_core.specs.Limits.{most_variables}
 use Rattle.hz_line.specs.Line.{most_text_bytes}
 use Rattle.hz_blif.specs.declared.draft.Constant.{Constant}
 use Rattle.hz_blif.specs.declared.draft.Draft.{Draft}
-use Rattle.hz_blif.specs.Fault.{IsLeastFault, IsFaultless}
+use Rattle.hz_netlist.specs.Rows.{NoneStands, IsLeastBy}
+use Rattle.hz_blif.specs.Fault.{blif_row}
 use Rattle.hz_blif.proofs.CheckLaws.{found-last, stop}
 use Rattle.hz_blif.proofs.Growing.{varying-room}
 use Rattle.hz_blif.proofs.TextRoom.{text-room}
@@ -239,7 +240,7 @@ constant-found text draft is clean are =
     map-twice (Some cover) = refl
 
 -- the answers
-pub refuse-constant : (text : List ℕ) (draft : Draft) (line : ℕ) → IsDraftOf text draft → IsClean draft → first_used draft draft.constants.items ≡ Some line → IsLeastFault text (fault.Constant line)
+pub refuse-constant : (text : List ℕ) (draft : Draft) (line : ℕ) → IsDraftOf text draft → IsClean draft → first_used draft draft.constants.items ≡ Some line → IsLeastBy blif_row text (fault.Constant line)
 refuse-constant text draft line is clean at =
     let are = (is.holds.covers clean.wrong_row clean.excess).constant_numbers in
     answer-least text (fault.Constant line) (found-last text draft is clean ∙ stop _ _ (fault.Constant line) (constant-found text draft is clean are ∙ ap (option_map fault.Constant) at))
@@ -265,12 +266,12 @@ last-two text draft is clean at =
     ∙ (ap (λ line. first_found (option_map fault.Undefined line ∷ too_many (variable_total (elements_of lines)) ∷ [])) (undefined-told text draft is clean none)
     ∙ ap (λ variables. first_found (option_map fault.Undefined (first_undefined draft.names) ∷ too_many variables ∷ [])) (variables-told text draft is clean none)))
 
-pub refuse-undefined : (text : List ℕ) (draft : Draft) (line : ℕ) → IsDraftOf text draft → IsClean draft → first_used draft draft.constants.items ≡ None → first_undefined draft.names ≡ Some line → IsLeastFault text (fault.Undefined line)
+pub refuse-undefined : (text : List ℕ) (draft : Draft) (line : ℕ) → IsDraftOf text draft → IsClean draft → first_used draft draft.constants.items ≡ None → first_undefined draft.names ≡ Some line → IsLeastBy blif_row text (fault.Undefined line)
 refuse-undefined text draft line is clean none at =
     answer-least text (fault.Undefined line) (last-two text draft is clean none ∙ ap (λ found. first_found (option_map fault.Undefined found ∷ too_many (length draft.inputs.items + draft.variables) ∷ [])) at)
 
 pub refuse-many : (text : List ℕ) (draft : Draft) (variables : ℕ) → IsDraftOf text draft → IsClean draft → first_used draft draft.constants.items ≡ None → first_undefined draft.names ≡ None
-    → variables ≡ length draft.inputs.items + draft.variables → most_variables < variables → IsLeastFault text (fault.TooMany variables)
+    → variables ≡ length draft.inputs.items + draft.variables → most_variables < variables → IsLeastBy blif_row text (fault.TooMany variables)
 refuse-many text draft variables is clean none known total many =
     let t : nat_lt most_variables variables ≡ true = grind (arith, nat_tests, many) in
     answer-least text (fault.TooMany variables) (last-two text draft is clean none
@@ -278,7 +279,7 @@ refuse-many text draft variables is clean none known total many =
     ∙ (ap (λ variables. first_found (too_many variables ∷ [])) (sym total) ∙ ap (λ many. first_found (cond many (Some (fault.TooMany variables)) None ∷ [])) t)))
 
 pub accept : (text : List ℕ) (draft : Draft) → IsDraftOf text draft → IsClean draft → first_used draft draft.constants.items ≡ None → first_undefined draft.names ≡ None
-    → length draft.inputs.items + draft.variables ≤ most_variables → IsFaultless text
+    → length draft.inputs.items + draft.variables ≤ most_variables → NoneStands blif_row text
 accept text draft is clean none known few =
     let t : nat_lt most_variables (length draft.inputs.items + draft.variables) ≡ false = grind (arith, nat_tests, few) in
     answer-faultless text (last-two text draft is clean none

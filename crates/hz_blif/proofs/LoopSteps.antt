@@ -17,7 +17,8 @@ use Rattle.hz_blif.specs.declared.lines.JoinedLine.{JoinedLine}
 use Rattle.hz_blif.specs.Check.{wrong_form_after}
 use Rattle.hz_blif.specs.Cover.{covers_of}
 use Rattle.hz_blif.specs.Draft.{Holds, IsDraftOf, MayGoOn, Read, closed, cover_room, nothing_read, noting, read_of, taking, with_next}
-use Rattle.hz_blif.specs.Fault.{HasFault, HasForbidden, HasWrongForm, IsLeastFault, Stands, fault_line, fault_number, has_wrong_form, is_forbidden}
+use Rattle.hz_netlist.specs.Rows.{IsLeastBy, HasOn}
+use Rattle.hz_blif.specs.Fault.{HasWrongForm, Stands, has_wrong_form, is_forbidden, blif_row}
 use Rattle.hz_blif.specs.Line.{Line, line_of, lines_in}
 use Rattle.hz_blif.specs.Reading.{IsJoinedLine, bytes_of, course_of}
 use Rattle.hz_blif.specs.Text.{joined_from, joined_lines, tokens_of}
@@ -172,7 +173,7 @@ formed-before before (first ∷ rest) middle line it none s wrong = by_first (ha
 pub reading-fault : (text : List ℕ) (draft : Draft) (course : Course) (number : ℕ) (left : Bor (List ℕ)) (tokens : List (Bor (List ℕ))) (joined : JoinedLine) (line : Line) (wrong : Bool)
     → IsReading text draft course number (Some left) → IsJoinedLine left.now tokens joined → line ≡ line_of (bytes_of tokens)
     → (joined.is_forbidden ≡ true) ⊎ ((wrong ≡ true) × ((before : List (Numbered Line)) → course ≡ course_of before → wrong ≡ has_wrong_form before line))
-    → IsLeastFault text (fault.Form number)
+    → IsLeastBy blif_row text (fault.Form number)
 reading-fault text draft course number left tokens joined line wrong was is line_is bad =
     let next : Numbered (List ℕ) = record { line = number; statement = is.bytes } in
     let later = joined_from (number + joined.lines) (lines_of_rest joined.rest) in
@@ -199,7 +200,7 @@ reading-fault text draft course number left tokens joined line wrong was is line
     in-middle (first ∷ front) next later = (let c = in-middle front next later in (suc c.0, omega (arith, c.1), c.2))
 
     no-later : (other : ℕ) (next : Numbered (List ℕ)) (later : List (Numbered (List ℕ))) → next.line ≡ number → joined_lines text ≡ was.seen ++ next ∷ later → lines_in text ≡ map meant was.seen ++ meant next ∷ map meant later
-        → Ascends number (next ∷ later) → Ascends number (meant next ∷ map meant later) → HasForbidden text other ⊎ HasWrongForm text other → number ≤ other
+        → Ascends number (next ∷ later) → Ascends number (meant next ∷ map meant later) → HasOn (λ bytes. list_any is_forbidden bytes ≡ true) (joined_lines text) other ⊎ HasWrongForm text other → number ≤ other
     no-later other next later at split lines up meant_up (inl (bytes, c, forbidden)) =
         elim (Contains-append_cases was.seen (next ∷ later) (record { line = other; statement = bytes }) (subst (λ all. Contains all (record { line = other; statement = bytes })) split c)) [
           | inl front ↦ absurd (clean-before was.seen (record { line = other; statement = bytes }) was.right front forbidden)
@@ -211,11 +212,11 @@ reading-fault text draft course number left tokens joined line wrong was is line
           | inr back ↦ above (meant next ∷ map meant later) number (record { line = other; statement = it }) meant_up (stands-contained (meant next ∷ map meant later) back.0 other it back.2)
         ]
 
-    by_other : (other : BlifFault) → HasFault text other → joined_lines text ≡ was.seen ++ record { line = number; statement = is.bytes } ∷ joined_from (number + joined.lines) (lines_of_rest joined.rest)
+    by_other : (other : BlifFault) → (blif_row other).stands text → joined_lines text ≡ was.seen ++ record { line = number; statement = is.bytes } ∷ joined_from (number + joined.lines) (lines_of_rest joined.rest)
         → lines_in text ≡ map meant was.seen ++ meant (record { line = number; statement = is.bytes }) ∷ map meant (joined_from (number + joined.lines) (lines_of_rest joined.rest))
         → Ascends number (record { line = number; statement = is.bytes } ∷ joined_from (number + joined.lines) (lines_of_rest joined.rest))
         → Ascends number (meant (record { line = number; statement = is.bytes }) ∷ map meant (joined_from (number + joined.lines) (lines_of_rest joined.rest)))
-        → (1 < fault_number other) ⊎ ((1 ≡ fault_number other) × (number ≤ fault_line other))
+        → (1 < (blif_row other).number) ⊎ ((1 ≡ (blif_row other).number) × (number ≤ (blif_row other).line))
     by_other (fault.Form line) stands split lines up meant_up = inr (refl, no-later line (record { line = number; statement = is.bytes }) (joined_from (number + joined.lines) (lines_of_rest joined.rest)) refl split lines up meant_up stands)
     by_other (fault.Name line) stands split lines up meant_up = inl (omega arith)
     by_other (fault.Construct line) stands split lines up meant_up = inl (omega arith)

@@ -6,7 +6,8 @@ use Rattle.std.proofs.lemmas.Slice.Eq.{bytes_eq-Decides}
 use Rattle.hz_line.specs.Statement.{Numbered, first_passing_line}
 use Rattle.hz_blif.specs.declared.fault.BlifFault.TheVariants as fault
 use Rattle.hz_blif.specs.Cover.{Cover, all_but_last, cover_of_line, covers_of, definitions_of, definitions_with, inputs_of, inputs_with, last_token, leading_rows}
-use Rattle.hz_blif.specs.Fault.{IsFaultless}
+use Rattle.hz_netlist.specs.Rows.{NoneStands}
+use Rattle.hz_blif.specs.Fault.{blif_row}
 use Rattle.hz_blif.specs.Line.{Line, Blank, Model, Inputs, Outputs, Names, Row, End, Construct, lines_in, names_in}
 use Rattle.hz_netlist.proofs.Lists.{all-append, all-cut}
 use Rattle.hz_blif.proofs.Lists.{all-as}
@@ -105,7 +106,7 @@ names-more [] one = refl
 names-more (first ∷ front) one = ap (λ names. first.statement ∷ names) (names-more front one)
 
 -- no name is defined twice
-defined-apart : (text : List ℕ) → IsFaultless text → (before after : List (Numbered (List ℕ))) → definitions_of (lines_in text) ≡ before ++ after
+defined-apart : (text : List ℕ) → NoneStands blif_row text → (before after : List (Numbered (List ℕ))) → definitions_of (lines_in text) ≡ before ++ after
     → AreApart (names_of before) → AreApart (names_of (before ++ after))
 defined-apart text faultless before [] is apart = subst (λ all. AreApart (names_of all)) (sym (nothing-more before)) apart
   where
@@ -129,7 +130,7 @@ defined-apart text faultless before (one ∷ rest) is apart =
           (earlier-differ earlier (record { line = one.line; statement = other }) stands.after (subst (λ all. AreApart (names_of all)) stands.split apart));
     }))
 
-definitions-apart : (text : List ℕ) → IsFaultless text → AreApart (names_of (definitions_of (lines_in text)))
+definitions-apart : (text : List ℕ) → NoneStands blif_row text → AreApart (names_of (definitions_of (lines_in text)))
 definitions-apart text faultless = defined-apart text faultless [] (definitions_of (lines_in text)) refl tt
 
 pub lined : (line : ℕ) (names : List (List ℕ)) (rest : List (Numbered (List ℕ))) → names_of (on_line line names ++ rest) ≡ names ++ names_of rest
@@ -219,5 +220,5 @@ distributed (line ∷ rest) apart = by_line line.statement apart (distributed re
     by_line Construct apart more = more apart
 
 -- the inputs and the outputs of covers of a text without fault are apart
-pub text-apart : (text : List ℕ) → IsFaultless text → AreAllApart (inputs_of (lines_in text)) (covers_of (lines_in text))
+pub text-apart : (text : List ℕ) → NoneStands blif_row text → AreAllApart (inputs_of (lines_in text)) (covers_of (lines_in text))
 text-apart text faultless = distributed (lines_in text) (definitions-apart text faultless)

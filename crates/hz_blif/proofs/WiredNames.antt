@@ -13,7 +13,8 @@ use Rattle.hz_netlist.proofs.Tests.{either}
 use Rattle.hz_blif.proofs.Lists.{all-contained}
 use Rattle.hz_blif.specs.Plain.{IsPlain}
 use Rattle.hz_blif.specs.declared.fault.BlifFault.TheVariants as fault
-use Rattle.hz_blif.specs.Fault.{IsFaultless, has_end, has_long_name, has_wrong_form, is_forbidden, is_ill_formed, is_long, is_sign, longest_blif_name}
+use Rattle.hz_netlist.specs.Rows.{NoneStands}
+use Rattle.hz_blif.specs.Fault.{has_end, has_long_name, has_wrong_form, is_forbidden, is_ill_formed, is_long, is_sign, longest_blif_name, blif_row}
 use Rattle.hz_blif.specs.Line.{Line, Model, Inputs, Outputs, Names, Row, End, Construct, begins_with_dot, dotted, is_statement, line_of, lines_in, names_in}
 use Rattle.hz_blif.specs.Text.{goes_on, is_blank, is_some_list, joined_from, joined_lines, joined_to, tokens_of, with_space_last, without_comment}
 
@@ -117,7 +118,7 @@ names-by P (first ∷ rest) all = by_dot (begins_with_dot first)
 abbrev IsAllowedLine : Numbered (List ℕ) → Type 0
 IsAllowedLine line = list_any is_forbidden line.statement ≡ false
 
-allowed : (text : List ℕ) → IsFaultless text → AllByRecursion IsAllowedLine (joined_lines text)
+allowed : (text : List ℕ) → NoneStands blif_row text → AllByRecursion IsAllowedLine (joined_lines text)
 allowed text faultless = all-contained IsAllowedLine (joined_lines text) (λ line there. by_test line there (list_any is_forbidden line.statement) refl)
   where
     by_test : (line : Numbered (List ℕ)) → Contains (joined_lines text) line → (some : Bool) → list_any is_forbidden line.statement ≡ some → some ≡ false
@@ -128,7 +129,7 @@ allowed text faultless = all-contained IsAllowedLine (joined_lines text) (λ lin
 abbrev HasPlainNames : Numbered Line → Type 0
 HasPlainNames line = list_any (list_any is_sign) (names_in line.statement) ≡ false
 
-plain-names : (text : List ℕ) → IsFaultless text → (before after : List (Numbered Line)) → lines_in text ≡ before ++ after → AllByRecursion HasPlainNames after
+plain-names : (text : List ℕ) → NoneStands blif_row text → (before after : List (Numbered Line)) → lines_in text ≡ before ++ after → AllByRecursion HasPlainNames after
 plain-names text faultless before [] is = tt
 plain-names text faultless before (one ∷ rest) is = (
   by_wrong (has_wrong_form before one.statement) refl,
@@ -145,7 +146,7 @@ plain-names text faultless before (one ∷ rest) is = (
 abbrev HasShortNames : Numbered Line → Type 0
 HasShortNames line = has_long_name line.statement ≡ false
 
-short-names : (text : List ℕ) → IsFaultless text → AllByRecursion HasShortNames (lines_in text)
+short-names : (text : List ℕ) → NoneStands blif_row text → AllByRecursion HasShortNames (lines_in text)
 short-names text faultless = all-contained HasShortNames (lines_in text) (λ line there. by_test line there (has_long_name line.statement) refl)
   where
     by_test : (line : Numbered Line) → Contains (lines_in text) line → (long : Bool) → has_long_name line.statement ≡ long → long ≡ false
@@ -250,7 +251,7 @@ lines-right (line ∷ lines) tokens plain short =
     (names-right (names_in line.statement) tokens.0 plain.0 short.0, lines-right lines tokens.1 plain.1 short.1)
 
 -- the names of a text without fault are names as texts have them
-pub text-names : (text : List ℕ) → IsFaultless text → AllByRecursion HasTextNames (lines_in text)
+pub text-names : (text : List ℕ) → NoneStands blif_row text → AllByRecursion HasTextNames (lines_in text)
 text-names text faultless =
     lines-right (lines_in text) (token-lines (joined_lines text) (clean-joined 1 (lines_of text)) (allowed text faultless)) (plain-names text faultless [] (lines_in text) refl)
     (short-names text faultless)

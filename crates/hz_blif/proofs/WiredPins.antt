@@ -15,7 +15,8 @@ use Rattle.hz_blif.proofs.Lists.{all-contained, all-kept}
 use Rattle.hz_blif.specs.declared.fault.BlifFault.TheVariants as fault
 use Rattle.hz_blif.specs.Circuit.{elements_of}
 use Rattle.hz_blif.specs.Cover.{Cover, covers_of, inputs_of, is_skipped, kept_covers, outputs_of, plane_of, planes_of, column_of}
-use Rattle.hz_blif.specs.Fault.{HasCover, IsFaultless}
+use Rattle.hz_netlist.specs.Rows.{NoneStands}
+use Rattle.hz_blif.specs.Fault.{HasCover, blif_row}
 use Rattle.hz_blif.specs.Gates.{Literal, cover_gates, gates_of_row, gates_of_rows, inverters_from, has_zero, literal_name, literal_names, literals_from, literals_of, row_gates_from, terms_from}
 use Rattle.hz_blif.specs.Line.{lines_in}
 
@@ -133,7 +134,7 @@ outputs-right : (outputs : List (Numbered (List ℕ))) → AllByRecursion HasRig
 outputs-right [] = tt
 outputs-right (output ∷ outputs) = (tt, outputs-right outputs)
 
-pub fits : (text : List ℕ) → IsFaultless text → (cover : Cover) → HasCover text cover → FitsGates cover
+pub fits : (text : List ℕ) → NoneStands blif_row text → (cover : Cover) → HasCover text cover → FitsGates cover
 fits text faultless cover there = elim (cases_lt most_gate_pins (length cover.pins)) [
   | inl more ↦ absurd (faultless (fault.Pins cover.line (length cover.pins)) (cover, there, refl, inl (more, refl)))
   | inr no_more ↦
@@ -145,12 +146,12 @@ fits text faultless cover there = elim (cases_lt most_gate_pins (length cover.pi
 ]
 
 -- each gate of a text without fault has a pin, and no more than its kind takes
-pub gates-right : (text : List ℕ) → IsFaultless text → AllByRecursion IsRightGate (flat_map cover_gates (kept_covers (lines_in text)))
+pub gates-right : (text : List ℕ) → NoneStands blif_row text → AllByRecursion IsRightGate (flat_map cover_gates (kept_covers (lines_in text)))
 gates-right text faultless =
     let lines = lines_in text in
     covers-right (kept_covers lines) (all-kept FitsGates (λ cover. not (is_skipped lines cover)) (covers_of lines) (all-contained FitsGates (covers_of lines) (fits text faultless)))
 
-pub wired-pins : (text : List ℕ) → IsFaultless text → AllByRecursion HasRightPins (elements_of (lines_in text))
+pub wired-pins : (text : List ℕ) → NoneStands blif_row text → AllByRecursion HasRightPins (elements_of (lines_in text))
 wired-pins text faultless =
     let lines = lines_in text in
     let gates = flat_map cover_gates (kept_covers lines) in
@@ -161,7 +162,7 @@ wired-pins text faultless =
     (outputs-right (outputs_of lines)))
 
 -- and they are not too many
-pub wired-few : (text : List ℕ) → IsFaultless text → variable_total (elements_of (lines_in text)) ≤ most_variables
+pub wired-few : (text : List ℕ) → NoneStands blif_row text → variable_total (elements_of (lines_in text)) ≤ most_variables
 wired-few text faultless = elim (cases_lt most_variables (variable_total (elements_of (lines_in text)))) [
   | inl more ↦ absurd (faultless (fault.TooMany (variable_total (elements_of (lines_in text)))) (more, refl))
   | inr no_more ↦ omega (arith, no_more)

@@ -13,7 +13,8 @@ use Rattle.hz_blif.specs.declared.fault.BlifFault.TheVariants as fault
 use Rattle.hz_blif.specs.Plain.{IsPlain}
 use Rattle.hz_blif.specs.Circuit.{elements_of}
 use Rattle.hz_blif.specs.Cover.{Cover, cover_of_line, covers_of, definitions_of, definitions_with, inputs_of, inputs_with, is_constant, is_skipped, is_used, kept_covers, leading_rows, outputs_of, uses_of}
-use Rattle.hz_blif.specs.Fault.{IsFaultless}
+use Rattle.hz_netlist.specs.Rows.{NoneStands}
+use Rattle.hz_blif.specs.Fault.{blif_row}
 use Rattle.hz_blif.specs.Gates.{cover_gates}
 use Rattle.hz_blif.specs.Line.{Line, Blank, Model, Inputs, Outputs, Names, Row, End, Construct, lines_in}
 use Rattle.hz_blif.proofs.KeptCovers.{HasTerms, kept-terms}
@@ -167,7 +168,7 @@ gates-use names (Cut name source ∷ rest) right all = absurd right.0
 gates-use names (Gate name kind sources ∷ rest) right all = (all.0, gates-use names rest right.1 all.1)
 gates-use names (Output name ∷ rest) right all = absurd right.0
 
-module _ (text : List ℕ) (faultless : IsFaultless text) where
+module _ (text : List ℕ) (faultless : NoneStands blif_row text) where
   abbrev lines : List (Numbered Line)
   lines = lines_in text
 
@@ -354,7 +355,7 @@ module _ (text : List ℕ) (faultless : IsFaultless text) where
       (outputs_of lines) parts.1 (used-outputs [] (outputs_of lines)))))
 
 -- the elements of a text without fault make a circuit
-pub wired-text : (text : List ℕ) → IsFaultless text → AreWired (elements_of (lines_in text))
+pub wired-text : (text : List ℕ) → NoneStands blif_row text → AreWired (elements_of (lines_in text))
 wired-text text faultless =
     let lines = lines_in text in
     let is = named text faultless in

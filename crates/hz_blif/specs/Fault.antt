@@ -1,5 +1,5 @@
--- Exactly when each fault stands in a text, and which of several is the answer.
-use Rattle.std.specs.Prelude.{◌≡◌, ℕ, ◌<◌, ◌≤◌, ◌⊎◌, Bool, true, false, not, ◌==◌, ◌||◌, ◌&&◌, nat_le, nat_lt, List, ◌∷◌, ◌++◌, length, fold, Some, None, Contains}
+-- Exactly when each fault stands in a text, and what its refusal says.
+use Rattle.std.specs.Prelude.{◌≡◌, ℕ, ◌<◌, ◌≤◌, ◌⊎◌, Bool, true, false, not, ◌==◌, ◌||◌, ◌&&◌, nat_le, nat_lt, List, [], ◌∷◌, ◌++◌, length, fold, Some, None, Contains, codes, decimal}
 use Rattle.std.specs.List.{list_any}
 use Rattle.std.specs.Str.{bytes_eq}
 use Rattle.hz_core.specs.Limits.{most_variables, most_gate_pins}
@@ -7,10 +7,10 @@ use Rattle.hz_line.specs.Statement.{Numbered, first_passing_line}
 use Rattle.hz_netlist.specs.Element.{variable_total}
 use Rattle.hz_blif.specs.declared.fault.BlifFault.{BlifFault}
 use Rattle.hz_blif.specs.declared.fault.BlifFault.TheVariants.{Form, Name, Construct, Twice, Cover, Pins, Constant, Undefined, TooMany, Memory}
-use Rattle.hz_line.specs.LeastFault.{Faults, IsLeastOfAll}
+use Rattle.hz_netlist.specs.Rows.{FaultRow, row_of, row_at, IsLeastBy, HasOn}
 use Rattle.hz_line.specs.OrThat.{OrThat}
 use Rattle.hz_blif.specs.Text.{joined_lines, is_some_list}
-use Rattle.hz_blif.specs.Line.{Line, Blank, Model, Inputs, Outputs, Names, Row, End, Construct as ConstructLine, names_in, lines_in, takes_rows_after, is_statement, is_construct, is_end, has_two}
+use Rattle.hz_blif.specs.Line.{Line, Model, Names, Row, End, names_in, lines_in, takes_rows_after, is_statement, is_construct, is_end, has_two}
 use Rattle.hz_blif.specs.Cover.{Cover as CoverOf, covers_of, definitions_of, uses_of, is_wrong_row, is_skipped, is_constant}
 use Rattle.hz_blif.specs.Circuit.{elements_of}
 use Rattle.hz_netlist.specs.Names.{is_among, names_of}
@@ -48,14 +48,11 @@ takes_rows lines = fold (λ before line. takes_rows_after before line.statement)
 -- the line is not as said, after the lines before it: `.model` has two names or is not the first statement, `.names` has no name,
 -- `.end` has a token more, or a row belongs to no cover
 abbrev pub is_ill_formed : List (Numbered Line) → Line → Bool
-is_ill_formed before Blank = false
 is_ill_formed before (Model names) = has_two names || has_statement before
-is_ill_formed before (Inputs names) = false
-is_ill_formed before (Outputs names) = false
 is_ill_formed before (Names names) = not (is_some_list names)
 is_ill_formed before (Row tokens) = not (takes_rows before)
 is_ill_formed before (End rest) = is_some_list rest
-is_ill_formed before ConstructLine = false
+is_ill_formed before _ = false
 
 -- a line has the fault of its form: by itself and its place, by a sign in one of its names, or as a statement after `.end`
 abbrev pub has_wrong_form : List (Numbered Line) → Line → Bool
@@ -78,23 +75,11 @@ IsTooLarge cover count =
     ⊎ ((length cover.pins ≤ most_gate_pins) × (most_gate_pins < length cover.rows)
     × (count ≡ length cover.rows))
 
--- a byte that may not stand there is on the line
-abbrev pub HasForbidden : List ℕ → ℕ → Type 0
-HasForbidden text line =
-    (bytes : List ℕ) × Contains (joined_lines text) (record { line = line; statement = bytes })
-    × (list_any is_forbidden bytes ≡ true)
-
 -- the line's form is wrong
 abbrev pub HasWrongForm : List ℕ → ℕ → Type 0
 HasWrongForm text line =
     (before : List (Numbered Line)) × (here : Line) × Stands (lines_in text) before line here
     × (has_wrong_form before here ≡ true)
-
--- the line passes a test
-abbrev pub HasThat : (Line → Bool) → List ℕ → ℕ → Type 0
-HasThat test text line =
-    (here : Line) × Contains (lines_in text) (record { line = line; statement = here })
-    × (test here ≡ true)
 
 -- a cover of the text
 abbrev pub HasCover : List ℕ → CoverOf → Type 0
@@ -109,71 +94,42 @@ pub record IsSecond (definitions : List (Numbered (List ℕ))) (line first : ℕ
   pub earliest : (earlier : List (Numbered (List ℕ))) (other : List ℕ) →
       Stands before earlier line other → first_passing_line (bytes_eq other) earlier ≡ None
 
--- the line uses a name that no line defines
-abbrev pub UsesUndefined : List (Numbered (List ℕ)) → List (Numbered (List ℕ)) → ℕ → Type 0
-UsesUndefined definitions uses line =
-    (name : List ℕ) × Contains uses (record { line = line; statement = name })
-    × (is_among (names_of definitions) name ≡ false)
-
--- the fault stands in the text
-abbrev pub HasFault : List ℕ → BlifFault → Type 0
-HasFault text (Form line) = HasForbidden text line ⊎ HasWrongForm text line
-HasFault text (Name line) = HasThat has_long_name text line
-HasFault text (Construct line) = HasThat is_construct text line
-HasFault text (Twice line first) = IsSecond (definitions_of (lines_in text)) line first
-HasFault text (Cover line) =
-    (cover : CoverOf) × HasCover text cover
-    × ((row : List (List ℕ)) × Contains cover.rows (record { line = line; statement = row })
-    × (is_wrong_row cover row ≡ true))
-HasFault text (Pins line count) =
-    (cover : CoverOf) × HasCover text cover × (cover.line ≡ line) × IsTooLarge cover count
-HasFault text (Constant line) =
-    (cover : CoverOf) × HasCover text cover × (cover.line ≡ line) × (is_constant cover ≡ true)
-    × (is_skipped (lines_in text) cover ≡ false)
-HasFault text (Undefined line) =
-    UsesUndefined (definitions_of (lines_in text)) (uses_of (lines_in text)) line
-HasFault text (TooMany variables) =
-    (most_variables < variables) × (variable_total (elements_of (lines_in text)) ≡ variables)
-HasFault text Memory = ⊥
-
--- the number of a fault
-abbrev pub fault_number : BlifFault → ℕ
-fault_number (Form line) = 1
-fault_number (Name line) = 2
-fault_number (Construct line) = 3
-fault_number (Twice line first) = 4
-fault_number (Cover line) = 5
-fault_number (Pins line count) = 6
-fault_number (Constant line) = 7
-fault_number (Undefined line) = 8
-fault_number (TooMany variables) = 9
-fault_number Memory = 10
-
--- the line of a fault; too many variables have none
-abbrev pub fault_line : BlifFault → ℕ
-fault_line (Form line) = line
-fault_line (Name line) = line
-fault_line (Construct line) = line
-fault_line (Twice line first) = line
-fault_line (Cover line) = line
-fault_line (Pins line count) = line
-fault_line (Constant line) = line
-fault_line (Undefined line) = line
-fault_line (TooMany variables) = 0
-fault_line Memory = 0
-
--- the faults of a text
-abbrev pub blif_faults : List ℕ → Faults BlifFault
-blif_faults text = record { stands = HasFault text; number = fault_number; line = fault_line }
-
--- the answer among the faults of a text: the least number and, among those, the least line
-abbrev pub IsLeastFault : List ℕ → BlifFault → Type 0
-IsLeastFault text fault = IsLeastOfAll (blif_faults text) fault
-
--- no fault stands in the text
-abbrev pub IsFaultless : List ℕ → Type 0
-IsFaultless text = (fault : BlifFault) → ¬ HasFault text fault
+-- each fault with its line, its number, what its refusal says of it, and when it stands
+abbrev pub blif_row : BlifFault → FaultRow
+blif_row (Form line) =
+    row_at line 1 (codes ": form" ∷ [])
+    (λ text. HasOn (λ bytes. list_any is_forbidden bytes ≡ true) (joined_lines text) line
+    ⊎ HasWrongForm text line)
+blif_row (Name line) =
+    row_at line 2 (codes ": name too long" ∷ [])
+    (λ text. HasOn (λ it. has_long_name it ≡ true) (lines_in text) line)
+blif_row (Construct line) =
+    row_at line 3 (codes ": construct" ∷ [])
+    (λ text. HasOn (λ it. is_construct it ≡ true) (lines_in text) line)
+blif_row (Twice line first) =
+    row_at line 4 (codes ": defined twice, first on line " ∷ decimal first ∷ [])
+    (λ text. IsSecond (definitions_of (lines_in text)) line first)
+blif_row (Cover line) =
+    row_at line 5 (codes ": cover" ∷ [])
+    (λ text. (cover : CoverOf) × HasCover text cover
+    × HasOn (λ row. is_wrong_row cover row ≡ true) cover.rows line)
+blif_row (Pins line count) =
+    row_at line 6 (codes ": pins " ∷ decimal count ∷ [])
+    (λ text. (cover : CoverOf) × HasCover text cover × (cover.line ≡ line) × IsTooLarge cover count)
+blif_row (Constant line) =
+    row_at line 7 (codes ": constant" ∷ [])
+    (λ text. (cover : CoverOf) × HasCover text cover × (cover.line ≡ line)
+    × (is_constant cover ≡ true) × (is_skipped (lines_in text) cover ≡ false))
+blif_row (Undefined line) =
+    row_at line 8 (codes ": undefined name" ∷ [])
+    (λ text. HasOn (λ name. is_among (names_of (definitions_of (lines_in text))) name ≡ false)
+    (uses_of (lines_in text)) line)
+blif_row (TooMany variables) =
+    row_of 0 9 (codes ": variables " ∷ decimal variables ∷ [])
+    (λ text. (most_variables < variables)
+    × (variable_total (elements_of (lines_in text)) ≡ variables))
+blif_row Memory = row_of 0 10 [] (λ _. ⊥)
 
 -- what is answered in place of a circuit: the least fault, or that memory ran out
 abbrev pub IsBlifRefusal : List ℕ → BlifFault → Type 0
-IsBlifRefusal text fault = OrThat Memory (IsLeastFault text) fault
+IsBlifRefusal text fault = OrThat Memory (IsLeastBy blif_row text) fault

@@ -20,10 +20,9 @@ literal_with place pin byte rest =
 
 -- the literals of a plane, if its first pin has this number
 abbrev pub literals_from : ℕ → List (List ℕ) → List ℕ → List Literal
-literals_from place [] plane = []
-literals_from place (pin ∷ pins) [] = []
 literals_from place (pin ∷ pins) (byte ∷ plane) =
     literal_with place pin byte (literals_from (suc place) pins plane)
+literals_from place _ _ = []
 
 -- the literals of a row
 abbrev pub literals_of : List (List ℕ) → List ℕ → List Literal
@@ -53,10 +52,9 @@ inverters_from output planes before (pin ∷ pins) =
 
 -- the gate of a row, which has this number, before others, if the row has two or more literals
 abbrev pub row_gate_with : List ℕ → ℕ → List Literal → List Element → List Element
-row_gate_with output row [] rest = rest
-row_gate_with output row (one ∷ []) rest = rest
 row_gate_with output row (one ∷ two ∷ more) rest =
     Gate (row_name output row) And (literal_names output (one ∷ two ∷ more)) ∷ rest
+row_gate_with output row _ rest = rest
 
 -- the gates of rows, the first of which has this number
 abbrev pub row_gates_from : List ℕ → ℕ → List (List Literal) → List Element
@@ -66,9 +64,8 @@ row_gates_from output row (literals ∷ rows) =
 
 -- the node for which a row stands: its gate, or its literal if it has only one
 abbrev pub term : List ℕ → ℕ → List Literal → List ℕ
-term output row [] = row_name output row
 term output row (one ∷ []) = literal_name output one
-term output row (one ∷ two ∷ more) = row_name output row
+term output row _ = row_name output row
 
 -- the terms of rows, the first of which has this number
 abbrev pub terms_from : List ℕ → ℕ → List (List Literal) → List (List ℕ)

@@ -9,9 +9,8 @@
 -- cover_gates cover: the gates of a cover
 -- elements_of lines, blif_circuit text: the circuit of a text
 -- cover_value cover bits: the cover function
--- HasFault text fault, IsLeastFault text fault: the faults, and which of them is the answer
--- IsBlifRefusal text fault: that, or memory ran out
--- IsFaultless text: no fault is in the text
+-- blif_row fault: all that is said of a fault; hz_netlist has the least of them, IsLeastBy, and NoneStands
+-- IsBlifRefusal text fault: the least fault, or memory ran out
 -- KeepsCovers text: stable states have the cover functions
 -- first_fault text: the least fault, computed
 -- IsFirstWord, IsPieceOf, line_by: what the reader's calls return

@@ -8,7 +8,8 @@ ghost use Rattle.hz_netlist.specs.Circuit.{circuit_of_elements};
 ghost use Rattle.hz_blif.specs.Built.{IsBuildable, elements_of_draft};
 ghost use Rattle.hz_blif.specs.Circuit.{blif_circuit};
 ghost use Rattle.hz_blif.specs.Draft.{IsClean, IsDraftOf, IsDraftOfSome, first_used};
-ghost use Rattle.hz_blif.specs.Fault.{IsBlifRefusal, IsFaultless, IsLeastFault};
+ghost use Rattle.hz_netlist.specs.Rows.{NoneStands, IsLeastBy};
+ghost use Rattle.hz_blif.specs.Fault.{IsBlifRefusal, blif_row};
 ghost use Rattle.hz_netlist.specs.Names.{AreNumbers};
 
 use crate::draft::Draft;
@@ -31,9 +32,9 @@ pub fn read(alloc: Global, text: &[u8]) -> Result<Circuit, BlifFault>
     requires { length text.now ≤ most_text_bytes }
     ensures circuit { IfOk result (λ circuit. circuit ≡ blif_circuit text.now) }
     ensures whole { IfOk result (λ circuit. IsWhole circuit) }
-    ensures faultless { OnOk result (IsFaultless text.now) }
+    ensures faultless { OnOk result (NoneStands blif_row text.now) }
     ensures fault { IfErr result (IsBlifRefusal text.now) }
-    ensures exact { (fault : BlifFault) → IsLeastFault text.now fault
+    ensures exact { (fault : BlifFault) → IsLeastBy blif_row text.now fault
         → IsErrOf result fault ⊎ IsErrOf result BlifFault.Memory }
 {
     let draft = read_draft(alloc, text)?;
@@ -100,7 +101,7 @@ fn build(alloc: Global, draft: &Draft) -> Result<Circuit, Memory>
 fn check(alloc: Global, draft: &Draft) -> Result<(), BlifFault>
     requires { IsDraftOfSome draft.now }
     ensures { (text : List ℕ) → IsDraftOf text draft.now
-        → MatchResult result (λ done. IsFaultless text) (λ fault. IsBlifRefusal text fault) }
+        → MatchResult result (λ done. NoneStands blif_row text) (λ fault. IsBlifRefusal text fault) }
 {
     check_notes(draft)?;
     check_names(alloc, draft)?;
@@ -144,7 +145,7 @@ fn check_names(alloc: Global, draft: &Draft) -> Result<(), BlifFault>
     requires draft { IsDraftOfSome draft.now }
     requires clean { IsClean draft.now }
     ensures { (text : List ℕ) → IsDraftOf text draft.now
-        → MatchResult result (λ done. IsFaultless text) (λ fault. IsBlifRefusal text fault) }
+        → MatchResult result (λ done. NoneStands blif_row text) (λ fault. IsBlifRefusal text fault) }
 {
     match first_used_constant(alloc, draft) {
         Ok(None) => {}

@@ -2,10 +2,11 @@
 use Rattle.std.proofs.Common.{◌≡◌, ◌∙◌, ℕ, Bool, true, false, List, refl, sym, subst}
 use Rattle.std.proofs.lemmas.Bool.{false≢true}
 use Rattle.hz_core.specs.Netlist.{Netlist, IsCircuit, IsWhole}
-use Rattle.hz_bench.specs.Fault as bench
+use Rattle.hz_netlist.specs.Rows.{NoneStands}
+use Rattle.hz_bench.specs.Fault.{bench_row}
 use Rattle.hz_bench.specs.Netlist.{circuit_of_statements}
 use Rattle.hz_bench.specs.Text.{statements_of}
-use Rattle.hz_blif.specs.Fault as blif
+use Rattle.hz_blif.specs.Fault.{blif_row}
 use Rattle.hz_blif.specs.Circuit.{blif_circuit}
 use Rattle.hz_blif.specs.Law.{KeepsCovers}
 use Rattle.hz_formats.specs.declared.netlist.NetlistFault.{NetlistFault}
@@ -13,8 +14,8 @@ use Rattle.hz_formats.specs.declared.netlist.NetlistFault.TheVariants.{Bench, Bl
 use Rattle.hz_formats.specs.Netlists.{has_blif_name, IsLeastNetlistFault, IsNetlistText, IsTextIn, KeepsItsCovers, TextsAreCircuits}
 
 -- texts without a fault are those of whole circuits, and keep their covers
-pub texts-are-circuits : ((text : List ℕ) → bench.IsFaultless text → IsCircuit (circuit_of_statements (statements_of text)) × IsWhole (circuit_of_statements (statements_of text)))
-    → ((text : List ℕ) → blif.IsFaultless text → IsCircuit (blif_circuit text) × IsWhole (blif_circuit text)) → ((text : List ℕ) → blif.IsFaultless text → KeepsCovers text) → TextsAreCircuits
+pub texts-are-circuits : ((text : List ℕ) → NoneStands bench_row text → IsCircuit (circuit_of_statements (statements_of text)) × IsWhole (circuit_of_statements (statements_of text)))
+    → ((text : List ℕ) → NoneStands blif_row text → IsCircuit (blif_circuit text) × IsWhole (blif_circuit text)) → ((text : List ℕ) → NoneStands blif_row text → KeepsCovers text) → TextsAreCircuits
 texts-are-circuits bench_law blif_law cover_law name bytes netlist text = by_format (has_blif_name name) refl text
   where
     by_format : (is_blif : Bool) → has_blif_name name ≡ is_blif → IsTextIn is_blif bytes netlist → IsCircuit netlist × IsWhole netlist × KeepsItsCovers name bytes

@@ -9,17 +9,19 @@ use Rattle.hz_refusal.specs.declared.status.Status.TheVariants as status
 use Rattle.hz_refusal.specs.Answer.{Prints}
 use Rattle.hz_formats.specs.declared.netlist.NetlistFault.{NetlistFault}
 use Rattle.hz_formats.specs.declared.netlist.NetlistFault.TheVariants.{Bench, Blif}
-use Rattle.hz_formats.specs.Refusal.{bench_fault_line, blif_fault_line}
+use Rattle.hz_bench.specs.Fault.{bench_row}
+use Rattle.hz_blif.specs.Fault.{blif_row}
+use Rattle.hz_formats.specs.Refusal.{row_line}
 
 -- what is written of a fault of a netlist in the .bench format: nothing if memory ran out
 abbrev pub BenchPrints : BenchFault → Status → List ℕ → Type 0
 BenchPrints fault own written =
-    (fault ≢ bench.Memory) × Prints status.Netlist (bench_fault_line fault) own written
+    (fault ≢ bench.Memory) × Prints status.Netlist (row_line (bench_row fault)) own written
 
 -- what is written of a fault of a netlist in BLIF: nothing if memory ran out
 abbrev pub BlifPrints : BlifFault → Status → List ℕ → Type 0
 BlifPrints fault own written =
-    (fault ≢ blif.Memory) × Prints status.Netlist (blif_fault_line fault) own written
+    (fault ≢ blif.Memory) × Prints status.Netlist (row_line (blif_row fault)) own written
 
 -- what is written of a fault of a netlist's text
 abbrev pub NetlistPrints : NetlistFault → Status → List ℕ → Type 0

@@ -1,10 +1,11 @@
 //! The first text: a netlist, in the format that the name of its file tells.
 ghost use Rattle.std.specs.Prelude.{◌≡◌, ◌≤◌, IfOk, IfErr, length};
-ghost use Rattle.hz_bench.specs.Fault.{fault_line_number};
-ghost use Rattle.hz_blif.specs.Fault.{fault_line};
+ghost use Rattle.hz_bench.specs.Fault.{bench_row};
+ghost use Rattle.hz_blif.specs.Fault.{blif_row};
 ghost use Rattle.hz_core.specs.Netlist.{IsWhole};
 ghost use Rattle.hz_line.specs.Line.{most_text_bytes};
-ghost use Rattle.hz_formats.specs.Netlists.{has_blif_name, IsNetlistText, IsNetlistRefusal, TextsAreCircuits, named_netlist_line};
+ghost use Rattle.hz_formats.specs.Netlists.{has_blif_name, IsNetlistText, IsNetlistRefusal, TextsAreCircuits};
+ghost use Rattle.hz_formats.specs.Refusal.{netlist_row};
 
 use hz_bench::BenchFault;
 use hz_blif::BlifFault;
@@ -25,7 +26,7 @@ pub enum NetlistFault {
 impl NetlistFault {
     /// The line of the text that it names, or 0 if it names none.
     pub fn line(self) -> u32
-        ensures { result ≡ named_netlist_line self }
+        ensures { result ≡ (netlist_row self).line }
     {
         match self {
             NetlistFault::Bench(fault) => bench_line(fault),
@@ -36,7 +37,7 @@ impl NetlistFault {
 
 // The line that a fault of a netlist in the .bench format names.
 fn bench_line(fault: BenchFault) -> u32
-    ensures { result ≡ fault_line_number fault }
+    ensures { result ≡ (bench_row fault).line }
 {
     match fault {
         BenchFault::Form { line }
@@ -51,7 +52,7 @@ fn bench_line(fault: BenchFault) -> u32
 
 // The line that a fault of a netlist in BLIF names.
 fn blif_line(fault: BlifFault) -> u32
-    ensures { result ≡ fault_line fault }
+    ensures { result ≡ (blif_row fault).line }
 {
     match fault {
         BlifFault::Form { line }

@@ -5,6 +5,8 @@
 -- variable_total elements: how many variables their network has
 -- circuit_of_elements elements: the circuit of elements
 -- number_in names name: the number of the node with a name
+-- FaultRow, row_at line number said stands: a fault as a row of its format's table
+-- IsLeastBy row text fault, NoneStands row text: the least of the faults of a text by their rows, or none
 -- Names: names in the order of first sight, each with the lines that define and use it first
 -- AreNamesOf definitions uses names: the names are those of these definitions and uses
 -- first_undefined names: the first line that uses a name which no line defines
@@ -16,6 +18,7 @@
 
 pub mod Element
 pub mod Circuit
+pub mod Rows
 pub mod Names
 pub mod Table
 pub mod Build

@@ -1,16 +1,11 @@
-use Rattle.std.proofs.Common.{List, ℕ, sym, ap, subst}
+use Rattle.std.proofs.Common.{sym, subst}
 use Rattle.hz_bench.specs.declared.fault.BenchFault.{BenchFault}
-use Rattle.hz_write.specs.Writes.{Puts, Wrote}
-use Rattle.hz_write.proofs.Writing.{Puts-nil}
-use Rattle.hz_formats.specs.Refusal.{bench_fault_line}
+use Rattle.hz_write.specs.Writes.{Wrote}
+use Rattle.hz_bench.specs.Fault.{bench_row}
+use Rattle.hz_formats.specs.Refusal.{row_line}
 use Rattle.hz_formats.proofs.refusal.put_bench_fault.Goals as goal
-
--- out of memory has no line
-pub returns-in-Memory : goal.returns-in-Memory
-returns-in-Memory g c =
-    subst (λ (text : List ℕ). Puts g.K.Sink.output g.K.Sink.faults text c.args.out.now c.args.out.now) (ap (bench_fault_line) (sym c.in-Memory.is)) (Puts-nil c.args.out.now)
 
 pub returns-in-Twice : goal.returns-in-Twice
 returns-in-Twice g c =
-    subst (λ (fault : BenchFault). Wrote g.K.Sink.output g.K.Sink.faults (bench_fault_line fault) c.args.out.now c.put_counted.new.out c.put_counted.result)
+    subst (λ (fault : BenchFault). Wrote g.K.Sink.output g.K.Sink.faults (row_line (bench_row fault)) c.args.out.now c.put_counted.new.out c.put_counted.result)
     (sym c.in-Twice.is) c.put_counted.ensures
