@@ -4,6 +4,8 @@ pub mod Places
 pub mod Values
 -- One variable more in a round: what is known of the round stays known
 pub mod Evaluations
+-- Lists of the variables that may still change: one variable more, or final values, keep what is known; where all that is listed is made, every variable is
+pub mod OpenLists
 -- A round that evaluates every variable, or the readers of what the round before changed, makes the whole next state
 pub mod WholeRounds
 -- The rounds of a pass: what is known after some of them, and that a round more keeps it

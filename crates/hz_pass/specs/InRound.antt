@@ -1,10 +1,10 @@
 -- The words of a round and of a pass, as the code has them: what each begins with, and what it makes.
-use Rattle.std.specs.Prelude.{◌≡◌, ℕ, ◌<◌, ◌≤◌, List, length}
+use Rattle.std.specs.Prelude.{◌≡◌, ℕ, ◌<◌, ◌≤◌, true, List, length, All, Contains}
 use Rattle.hz_core.specs.declared.tri.Tri.{Tri}
-use Rattle.hz_net.specs.Network.{network_of, excitation3, IsState, IsInput, IsVariable}
+use Rattle.hz_net.specs.Network.{network_of, value_at, excitation3, IsState, IsInput, IsVariable}
 use Rattle.hz_pass.specs.declared.round.Round.{Round}
 use Rattle.hz_pass.specs.declared.rounds.Pass.{Pass}
-use Rattle.hz_pass.specs.Frontier.{round_states, Falls, IsMade, IsQuiet, IsRound, IsRoundSoFar}
+use Rattle.hz_pass.specs.Frontier.{is_open, round_states, Falls, IsMade, IsQuiet, IsRound, IsRoundSoFar}
 
 -- the input and the state are of the network, and the rule may go on from them
 pub record CanBeMade (round : Round) : Type 0 where
@@ -16,10 +16,6 @@ pub record CanBeMade (round : Round) : Type 0 where
 abbrev pub IsMadeIn : Round → List Tri → ℕ → Type 0
 IsMadeIn round next i =
     IsMade round.rule (network_of round.net.now) round.input.now round.state.now next i
-
--- and so have the variables from one number on and below another
-abbrev pub AreMadeIn : ℕ → ℕ → Round → List Tri → Type 0
-AreMadeIn from below round next = (i : ℕ) → from ≤ i → i < below → IsMadeIn round next i
 
 -- a value is the excitation of variable i
 abbrev pub IsExcitedIn : Round → Tri → ℕ → Type 0
@@ -39,6 +35,13 @@ LeavesFrom first round =
 abbrev pub IsQuietIn : Round → List ℕ → Type 0
 IsQuietIn round listed =
     IsQuiet round.rule (network_of round.net.now) round.input.now round.state.now listed
+
+-- a list has variables below a number, and each of those that may still change
+pub record ListsOpen (round : Round) (end : ℕ) (listed : List ℕ) : Type 0 where
+  pub few : length listed ≤ end
+  pub inside : All (IsVariable round.net.now) listed
+  pub every : (i : ℕ) → i < end → is_open round.rule (value_at round.state.now i) ≡ true →
+      Contains listed i
 
 -- within the round: what is known of the next state and of the variables that changed
 abbrev pub MakesSoFar : Round → List Tri → List ℕ → Type 0

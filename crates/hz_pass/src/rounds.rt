@@ -58,7 +58,7 @@ impl Pass<'_> {
             input: self.input,
             state,
         };
-        round.evaluate_first(self.first, work, &mut front.changed, steps);
+        round.evaluate_first(self.first, &mut front.due, work, &mut front.changed, steps);
         let mut rounds = 1;
         while !front.changed.is_empty() {
             take_over(front.changed.as_slice(), work, rounds, state, noted);

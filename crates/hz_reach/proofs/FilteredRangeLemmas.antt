@@ -1,5 +1,5 @@
 -- The variables that pass a test: which they are, that none comes twice, and how they are marked one after the other.
-use Rattle.std.proofs.Common.{◌≡◌, ◌≢◌, ℕ, zero, suc, ◌+◌, ◌<◌, Bool, true, false, cond, List, [], ◌∷◌, ◌++◌, length, refl, sym, ap, ◌∙◌, arith, inl, inr, eqb, length-append, append-nil, append_assoc, add-one, filter}
+use Rattle.std.proofs.Common.{◌≡◌, ◌≢◌, ℕ, zero, suc, ◌+◌, ◌<◌, Bool, true, false, cond, List, [], ◌∷◌, ◌++◌, length, refl, sym, ap, subst, ◌∙◌, arith, inl, inr, eqb, length-append, append-nil, append_assoc, add-one, filter}
 use Rattle.hz_reach.proofs.Words.{range_with_len, filter-append, length-range_with_len, or_cases, or_left, false_from_ne_true, differs, is_listed}
 use Rattle.hz_reach.proofs.Words.{IsRepeatFree, Contains-listed, listed-Contains, filtered_range, listed-cases, is_repeat_free-append, is_repeat_free-bound}
 use Rattle.hz_reach.proofs.Words.{Ascends, ascends-lower, ascends-filter, ascends-once, filtered-is, is-filtered, get_or-range_with_len}
@@ -76,6 +76,16 @@ mark-inside marked var count inside less i there =
       | inl before ↦ inside i before
       | inr only ↦ (let same = is-one var i only in omega (arith, less, same))
     ]
+
+-- and so it is if the variable is marked or not
+pub marked-once : (marked : List ℕ) (var : ℕ) (wanted : Bool) → IsRepeatFree marked → ((i : ℕ) → is_listed marked i ≡ true → i < var) → IsRepeatFree (marked ++ cond wanted (var ∷ []) [])
+marked-once marked var true once below = mark-once marked var once below
+marked-once marked var false once below = subst IsRepeatFree (sym (append-nil marked)) once
+
+pub marked-inside : (marked : List ℕ) (var count : ℕ) (wanted : Bool) → ((i : ℕ) → is_listed marked i ≡ true → i < count) → var < count
+    → (i : ℕ) → is_listed (marked ++ cond wanted (var ∷ []) []) i ≡ true → i < count
+marked-inside marked var count true inside less = mark-inside marked var count inside less
+marked-inside marked var count false inside less = subst (λ (list : List ℕ). (i : ℕ) → is_listed list i ≡ true → i < count) (sym (append-nil marked)) inside
 
 -- there is room for it
 pub mark-room : (marked : List ℕ) (var count : ℕ) → IsRepeatFree marked → ((i : ℕ) → is_listed marked i ≡ true → i < count) → var < count → ((i : ℕ) → is_listed marked i ≡ true → i < var) → length marked < count

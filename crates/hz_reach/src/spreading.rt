@@ -307,8 +307,5 @@ fn mark_one(start: &[bool], a: &[Tri], var: usize, scratch: &mut Scratch)
 fn has_yet_to_change(value: Tri, start: bool, now: bool) -> bool
     ensures { result ≡ (is_unknown value && not (differs start now)) }
 {
-    match value {
-        Tri::Zero | Tri::One => false,
-        Tri::Unknown => start == now,
-    }
+    (value == Tri::Unknown) & (start == now)
 }

@@ -19,7 +19,7 @@ loop-front-init g c =
       pass-begin c.requires.pass.state c.requires.pass.falls c.forget.new.noted noted_long c.forget.ensures.zero,
       c.evaluate_first.ensures.round,
       steps-begin c.args.self.now.net.now c.keeps_shape.ensures.circuit c.evaluate_first.ensures.round c.requires.pass.state c.evaluate_first.ensures.steps c.evaluate_first.ensures.counted,
-      c.front.invariant.room ∙ (c.front.view_is ∙ c.requires.front),
+      c.evaluate_first.ensures.listed ∙ (c.front.invariant.room ∙ (c.front.view_is ∙ c.requires.front)),
       c.evaluate_first.ensures.room ∙ (c.front.view_is ∙ c.requires.front),
     )
 
