@@ -6,7 +6,7 @@ use Rattle.std.proofs.lemmas.List.{length-drop, take_all, take_at, take-append-d
 use Rattle.hz_core.specs.Netlist.{Netlist}
 use Rattle.hz_pattern_text.specs.PatternValue.{PatternsOf}
 use Rattle.hz_plane.specs.declared.stage.Stage.TheVariants.{Settled as AllSettled}
-use Rattle.hz_plane.specs.View.{Seen, AreOf}
+use Rattle.hz_plane.specs.View.{Seen}
 use Rattle.hz_batch.specs.Blocks.{block_count, block_of, lanes_with, planes_after}
 
 -- a list written back whole
@@ -50,7 +50,7 @@ pub blocks-cover : (block n : ℕ) → block_count n ≤ block → n ≤ block *
 blocks-cover block n all = omega (arith, all)
 
 -- the planes are still of the network
-pub after-of : (netlist : Netlist) (patterns : PatternsOf) (was : Seen) (block : ℕ) → AreOf netlist was → AreOf netlist (planes_after patterns was block)
+pub after-of : (netlist : Netlist) (patterns : PatternsOf) (was : Seen) (block : ℕ) → was.netlist ≡ netlist → (planes_after patterns was block).netlist ≡ netlist
 after-of netlist patterns was zero of = of
 after-of netlist patterns was (suc block) of = of
 

@@ -1,7 +1,6 @@
 //! Blocks of patterns.
 ghost use Rattle.std.specs.Prelude.{◌≡◌, ◌<◌, ◌≤◌, ◌+◌, ◌*◌, ◌^◌, ◌-◌, ℕ, List, false, length, min, take, drop};
 ghost use Rattle.hz_plane.specs.declared.stage.Stage.TheVariants.{Loading, Completed, Spread, Settled};
-ghost use Rattle.hz_plane.specs.View.{AreOf};
 ghost use Rattle.hz_write.specs.Writer.{Writes, NoneWaits, has_failed};
 ghost use Rattle.hz_batch.specs.Blocks.{lanes_with, block_count, planes_after};
 ghost use Rattle.hz_batch.specs.BatchText.{ending_lines};
@@ -51,12 +50,12 @@ pub(crate) struct Room<'w> {
 pub(crate) fn write_blocks<K: Sink>(
     writer: &mut Writer<'_, K>,
     work: &Work<'_>,
-    planes: &mut Planes,
+    planes: &mut Planes<'_>,
     room: &mut Room<'_>,
 )
     requires laws { AreLaws }
     requires work { IsWork work.now }
-    requires net { AreOf work.now.net.now planes.old }
+    requires net { planes.old.netlist ≡ work.now.net.now }
     requires room { IsRoomFor work.now.net.now room.old }
     requires counts { room.old.counts ≡ no_counts }
     ensures gave { (endings : List PatternEnd)
@@ -85,13 +84,13 @@ fn write_block<K: Sink>(
     writer: &mut Writer<'_, K>,
     work: &Work<'_>,
     first: usize,
-    planes: &mut Planes,
+    planes: &mut Planes<'_>,
     room: &mut Room<'_>,
 )
     requires laws { AreLaws }
     requires work { IsWork work.now }
     requires first { first < length work.now.patterns.now.patterns }
-    requires net { AreOf work.now.net.now planes.old }
+    requires net { planes.old.netlist ≡ work.now.net.now }
     requires room { IsRoomFor work.now.net.now room.old }
     requires counts { AreWithin first room.old.counts }
     ensures room { IsRoomFor work.now.net.now room.new }
@@ -108,20 +107,20 @@ fn write_block<K: Sink>(
 {
     let lanes = (work.patterns.count() - first).min(BLOCK) as u32;
     load(work, first, lanes, planes);
-    planes.complete(work.net);
+    planes.complete();
     spread_and_keep(work, planes, room.columns.firsts.as_mut_slice());
-    planes.settle(work.net);
+    planes.settle();
     keep_values(work.net, planes, room.columns.seconds.as_mut_slice());
     keep_keys(&mut room.columns);
     write_lanes(writer, work, planes, first, lanes, room);
 }
 
 // Loads patterns into the first lanes.
-fn load(work: &Work<'_>, first: usize, lanes: u32, planes: &mut Planes)
+fn load(work: &Work<'_>, first: usize, lanes: u32, planes: &mut Planes<'_>)
     requires work { IsWork work.now }
     requires lanes { lanes ≤ 512 }
     requires last { first + lanes ≤ length work.now.patterns.now.patterns }
-    requires net { AreOf work.now.net.now planes.old }
+    requires net { planes.old.netlist ≡ work.now.net.now }
     ensures { planes.new ≡ record planes.old {
       stage = Loading;
       lanes = lanes_with (held_by work.now.job work.now.patterns.now.held)
@@ -130,13 +129,13 @@ fn load(work: &Work<'_>, first: usize, lanes: u32, planes: &mut Planes)
 {
     work.net.keeps_shape();
     let bits = work.patterns.bits(first, lanes as usize);
-    planes.load_block(work.net, lanes, bits, work.held);
+    planes.load_block(lanes, bits, work.held);
 }
 
 // Makes Algorithm A, and keeps the first values of the outputs: those that it comes to, or if
 // nothing is known of a start those that the first bits bring about, before it.
-fn spread_and_keep(work: &Work<'_>, planes: &mut Planes, columns: &mut [LaneValues])
-    requires net { AreOf work.now.net.now planes.old }
+fn spread_and_keep(work: &Work<'_>, planes: &mut Planes<'_>, columns: &mut [LaneValues])
+    requires net { planes.old.netlist ≡ work.now.net.now }
     requires stage { planes.old.stage ≡ Completed }
     requires count { length columns.old ≡ length work.now.net.now.outputs }
     ensures planes { planes.new ≡ record planes.old { stage = Spread } }
@@ -146,12 +145,12 @@ fn spread_and_keep(work: &Work<'_>, planes: &mut Planes, columns: &mut [LaneValu
 {
     match work.job {
         Job::Batch => {
-            planes.spread(work.net);
+            planes.spread();
             keep_values(work.net, planes, columns);
         }
         Job::Reset => {
             keep_values(work.net, planes, columns);
-            planes.spread(work.net);
+            planes.spread();
         }
     }
 }
@@ -160,7 +159,7 @@ fn spread_and_keep(work: &Work<'_>, planes: &mut Planes, columns: &mut [LaneValu
 fn write_lanes<K: Sink>(
     writer: &mut Writer<'_, K>,
     work: &Work<'_>,
-    planes: &Planes,
+    planes: &Planes<'_>,
     first: usize,
     lanes: u32,
     room: &mut Room<'_>,
@@ -169,7 +168,7 @@ fn write_lanes<K: Sink>(
     requires work { IsWork work.now }
     requires lanes { lanes ≤ 512 }
     requires last { first + lanes ≤ length work.now.patterns.now.patterns }
-    requires net { AreOf work.now.net.now planes.now }
+    requires net { planes.now.netlist ≡ work.now.net.now }
     requires stage { planes.now.stage ≡ Settled }
     requires loaded { planes.now.lanes ≡ lanes_with
         (held_by work.now.job work.now.patterns.now.held)

@@ -1,6 +1,5 @@
 //! The values of the outputs in all lanes.
 ghost use Rattle.std.specs.Prelude.{◌≡◌, length, IfOk};
-ghost use Rattle.hz_plane.specs.View.{AreOf};
 ghost use Rattle.hz_batch.specs.Columns.{AreColumns};
 ghost use Rattle.hz_batch.specs.Keys.{HaveKeys};
 ghost use Rattle.hz_batch.specs.Kept.{AreColumnsFor};
@@ -40,8 +39,8 @@ pub(crate) fn columns_for(alloc: Global, circuit: &Circuit) -> Result<Columns, M
 }
 
 // Keeps the present values of the outputs in all lanes.
-pub(crate) fn keep_values(net: &Net, planes: &Planes, columns: &mut [LaneValues])
-    requires net { AreOf net.now planes.now }
+pub(crate) fn keep_values(net: &Net, planes: &Planes<'_>, columns: &mut [LaneValues])
+    requires net { planes.now.netlist ≡ net.now }
     requires count { length columns.old ≡ length net.now.outputs }
     ensures count { length columns.new ≡ length columns.old }
     ensures columns { AreColumns net.now planes.now.stage planes.now.lanes net.now.outputs

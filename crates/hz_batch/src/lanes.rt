@@ -8,7 +8,6 @@ ghost use Rattle.hz_net.specs.TernaryStarts.{SettlesTo};
 ghost use Rattle.hz_plane.specs.declared.stage.Stage.TheVariants.{Completed, Spread, Settled};
 ghost use Rattle.hz_plane.specs.Lanes.{IsFilledStart};
 ghost use Rattle.hz_plane.specs.Loads.{Loaded};
-ghost use Rattle.hz_plane.specs.View.{AreOf};
 ghost use Rattle.hz_net.specs.PassEnds.{ResultOfAExists, ResultOfBExists};
 ghost use Rattle.hz_batch.specs.Outputs.{output_values};
 ghost use Rattle.hz_pattern_text.specs.PatternText.{IsPatternOf};
@@ -43,14 +42,14 @@ use hz_write::Writer;
 pub(crate) fn write_lane<K: Sink>(
     writer: &mut Writer<'_, K>,
     work: &Work<'_>,
-    planes: &Planes,
+    planes: &Planes<'_>,
     at: Lane,
     columns: &Columns,
     line: &mut OutputLine<'_>,
 ) -> Mark
     requires laws { AreLaws }
     requires work { IsWork work.now }
-    requires net { AreOf work.now.net.now planes.now }
+    requires net { planes.now.netlist ≡ work.now.net.now }
     requires stage { planes.now.stage ≡ Settled }
     requires lane { at.lane < 512 }
     requires loaded { (loaded : Loaded)
@@ -81,14 +80,14 @@ pub(crate) fn write_lane<K: Sink>(
 fn write_ending<K: Sink>(
     writer: &mut Writer<'_, K>,
     net: &Net,
-    planes: &Planes,
+    planes: &Planes<'_>,
     at: Lane,
     columns: &Columns,
     line: &mut OutputLine<'_>,
 ) -> Mark
     requires a_exists { ResultOfAExists }
     requires b_exists { ResultOfBExists }
-    requires net { AreOf net.now planes.now }
+    requires net { planes.now.netlist ≡ net.now }
     requires stage { planes.now.stage ≡ Settled }
     requires lane { at.lane < 512 }
     requires loaded { (loaded : Loaded)
@@ -103,7 +102,7 @@ fn write_ending<K: Sink>(
     ensures none_waits { NoneWaits writer.new }
 {
     net.keeps_shape();
-    match planes.fault(net, at.lane) {
+    match planes.fault(at.lane) {
         Some(LaneFault::Open { gate }) => {
             write_refused(writer, net.circuit(), at.number, b" open ", gate);
             Mark::Open
@@ -125,12 +124,12 @@ fn write_ending<K: Sink>(
 fn write_values<K: Sink>(
     writer: &mut Writer<'_, K>,
     net: &Net,
-    planes: &Planes,
+    planes: &Planes<'_>,
     at: Lane,
     columns: &Columns,
     line: &mut OutputLine<'_>,
 ) -> Mark
-    requires net { AreOf net.now planes.now }
+    requires net { planes.now.netlist ≡ net.now }
     requires stage { planes.now.stage ≡ Settled }
     requires lane { at.lane < 512 }
     requires columns { HoldBoth net.now Completed planes.now.lanes columns.now }

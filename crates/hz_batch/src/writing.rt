@@ -1,6 +1,5 @@
 //! All patterns, and the last line.
 ghost use Rattle.std.specs.Prelude.{◌≡◌, ◌≤◌, ℕ, List, false, length, IfOk, OnOk};
-ghost use Rattle.hz_plane.specs.View.{AreOf};
 ghost use Rattle.hz_pattern_text.specs.PatternText.{ArePatternsFor};
 ghost use Rattle.hz_write.specs.Writer.{Writes, has_failed};
 ghost use Rattle.hz_write.specs.Writes.{Wrote};
@@ -31,18 +30,16 @@ use hz_reset::{held_is_forgotten, values_exist};
 use hz_write::Writer;
 use std::alloc::Global;
 
-/// Writes the line of each pattern, and then how many there are of each kind. The planes are those
-/// of the network.
+/// Writes the line of each pattern, and then how many there are of each kind. The patterns are for
+/// the network of the planes.
 pub fn batch<K: Sink>(
     alloc: Global,
-    net: &Net,
     patterns: &Patterns,
-    planes: &mut Planes,
+    planes: &mut Planes<'_>,
     out: &mut K,
 ) -> Result<(), BatchFault>
-    requires patterns { ArePatternsFor net.now patterns.now }
-    requires planes { AreOf net.now planes.old }
-    ensures wrote { (text : List ℕ) × IsBatchText net.now patterns.now text
+    requires patterns { ArePatternsFor planes.old.netlist patterns.now }
+    ensures wrote { (text : List ℕ) × IsBatchText planes.old.netlist patterns.now text
         × WroteBatch K.output K.faults text out.old out.new result }
     ensures planes { OnOk result
         (planes.new ≡ planes_after patterns.now planes.old
@@ -50,7 +47,7 @@ pub fn batch<K: Sink>(
     ensures looked { (blocks : ℕ) × (blocks ≤ block_count (length patterns.now.patterns))
         × (planes.new ≡ planes_after patterns.now planes.old blocks) }
 {
-    match write_text(alloc, net, patterns, Job::Batch, planes, out) {
+    match write_text(alloc, planes.net(), patterns, Job::Batch, planes, out) {
         Ok(()) => Ok(()),
         Err(PutFault::Failed) => Err(BatchFault::Sink),
         Err(PutFault::Memory) => Err(BatchFault::Memory),
@@ -58,17 +55,15 @@ pub fn batch<K: Sink>(
 }
 
 /// Writes for each pattern what its bits bring about if nothing is known of a start but the held
-/// gates, and then for how many patterns some variable stays X. The planes are those of the network.
+/// gates, and then for how many patterns some variable stays X.
 pub fn reset<K: Sink>(
     alloc: Global,
-    net: &Net,
     patterns: &Patterns,
-    planes: &mut Planes,
+    planes: &mut Planes<'_>,
     out: &mut K,
 ) -> Result<(), BatchFault>
-    requires patterns { ArePatternsFor net.now patterns.now }
-    requires planes { AreOf net.now planes.old }
-    ensures wrote { (text : List ℕ) × IsResetText net.now patterns.now text
+    requires patterns { ArePatternsFor planes.old.netlist patterns.now }
+    ensures wrote { (text : List ℕ) × IsResetText planes.old.netlist patterns.now text
         × WroteBatch K.output K.faults text out.old out.new result }
     ensures planes { OnOk result
         (planes.new ≡ planes_after (without_held patterns.now) planes.old
@@ -76,7 +71,7 @@ pub fn reset<K: Sink>(
     ensures looked { (blocks : ℕ) × (blocks ≤ block_count (length patterns.now.patterns))
         × (planes.new ≡ planes_after (without_held patterns.now) planes.old blocks) }
 {
-    match write_text(alloc, net, patterns, Job::Reset, planes, out) {
+    match write_text(alloc, planes.net(), patterns, Job::Reset, planes, out) {
         Ok(()) => Ok(()),
         Err(PutFault::Failed) => Err(BatchFault::Sink),
         Err(PutFault::Memory) => Err(BatchFault::Memory),
@@ -89,11 +84,11 @@ fn write_text<K: Sink>(
     net: &Net,
     patterns: &Patterns,
     job: Job,
-    planes: &mut Planes,
+    planes: &mut Planes<'_>,
     out: &mut K,
 ) -> Result<(), PutFault>
     requires patterns { ArePatternsFor net.now patterns.now }
-    requires planes { AreOf net.now planes.old }
+    requires net { planes.old.netlist ≡ net.now }
     ensures wrote { (text : List ℕ) × IsTextOf job net.now patterns.now text
         × Wrote K.output K.faults text out.old out.new result }
     ensures planes { OnOk result
@@ -152,12 +147,12 @@ fn room_for<'n>(alloc: Global, net: &'n Net) -> Result<Room<'n>, Memory>
 fn write_all<K: Sink>(
     writer: &mut Writer<'_, K>,
     work: &Work<'_>,
-    planes: &mut Planes,
+    planes: &mut Planes<'_>,
     room: &mut Room<'_>,
 )
     requires laws { AreLaws }
     requires work { IsWork work.now }
-    requires net { AreOf work.now.net.now planes.old }
+    requires net { planes.old.netlist ≡ work.now.net.now }
     requires room { IsRoomFor work.now.net.now room.old }
     requires counts { room.old.counts ≡ no_counts }
     ensures gave { (text : List ℕ)

@@ -2,7 +2,6 @@
 ghost use Rattle.std.specs.Prelude.{◌≡◌, ◌≢◌, ◌<◌, ◌≤◌, IsTrue, length};
 ghost use Rattle.hz_net.specs.Network.{IsInput};
 ghost use Rattle.hz_plane.specs.Lanes.{ListsAllInputs};
-ghost use Rattle.hz_plane.specs.View.{AreOf, variables_of};
 ghost use Rattle.hz_plane.specs.declared.stage.Stage.TheVariants.{Loading, Settled};
 
 use hz_line::MAX_TEXT;
@@ -40,36 +39,36 @@ fn found_in(alloc: Global, net: &Net, patterns: &Patterns) -> Result<String, Fai
 fn push_found(
     alloc: Global,
     text: &mut String,
-    planes: &mut Planes,
+    planes: &mut Planes<'_>,
     net: &Net,
     patterns: &Patterns,
 ) -> Result<(), Fail>
-    requires { AreOf net.now planes.old }
+    requires { planes.old.netlist ≡ net.now }
 {
     planes.clear();
     for number in 0..patterns.count() {
         load(alloc, planes, net, patterns, number)?;
     }
-    planes.complete(net);
-    planes.spread(net);
-    push_lanes(text, planes, net, patterns.count())?;
-    planes.settle(net);
-    push_lanes(text, planes, net, patterns.count())?;
-    push_unsettled(text, planes, net, patterns.count())
+    planes.complete();
+    planes.spread();
+    push_lanes(text, planes, patterns.count())?;
+    planes.settle();
+    push_lanes(text, planes, patterns.count())?;
+    push_unsettled(text, planes, patterns.count())
 }
 
 // Loads the lane of a pattern: what is held, and the pattern's inputs.
 fn load(
     alloc: Global,
-    planes: &mut Planes,
+    planes: &mut Planes<'_>,
     net: &Net,
     patterns: &Patterns,
     number: usize,
 ) -> Result<(), Fail>
-    requires net { AreOf net.now planes.old }
+    requires net { planes.old.netlist ≡ net.now }
     requires stage { planes.old.stage ≡ Loading }
     requires number { number < length patterns.now.patterns }
-    ensures net { AreOf net.now planes.new }
+    ensures net { planes.new.netlist ≡ net.now }
     ensures stage { planes.new.stage ≡ Loading }
 {
     let listed = listed_of(alloc, patterns.held(), patterns.from(number))?;
@@ -81,7 +80,7 @@ fn load(
     if !fits(net, input, listed) {
         return Err("no pattern of this network".into());
     }
-    planes.load(net, lane, input, listed);
+    planes.load(lane, input, listed);
     Ok(())
 }
 
@@ -122,44 +121,36 @@ fn lists_all_inputs(net: &Net, listed: &[Option<bool>]) -> bool
     true
 }
 
-fn push_lanes(text: &mut String, planes: &Planes, net: &Net, patterns: usize) -> Result<(), Fail>
-    requires net { AreOf net.now planes.now }
+fn push_lanes(text: &mut String, planes: &Planes<'_>, patterns: usize) -> Result<(), Fail>
     requires stage { planes.now.stage ≢ Loading }
 {
     for lane in LANES.iter().take(patterns) {
-        push_lane(text, planes, net, *lane)?;
+        push_lane(text, planes, *lane)?;
     }
     Ok(())
 }
 
 // The fault of a lane, or its values as letters.
-fn push_lane(text: &mut String, planes: &Planes, net: &Net, lane: u32) -> Result<(), Fail>
-    requires net { AreOf net.now planes.now }
+fn push_lane(text: &mut String, planes: &Planes<'_>, lane: u32) -> Result<(), Fail>
     requires stage { planes.now.stage ≢ Loading }
 {
     if lane >= 512 {
         return Err("no lane".into());
     }
-    match planes.fault(net, lane) {
+    match planes.fault(lane) {
         Some(LaneFault::Open { gate }) => push_fault(text, "open ", gate),
         Some(LaneFault::Unstable { gate }) => push_fault(text, "unstable ", gate),
-        None => push_lane_values(text, planes, net.len(), lane),
+        None => push_lane_values(text, planes, lane),
     }
 }
 
 // A word for each lane that has a start and has not settled.
-fn push_unsettled(
-    text: &mut String,
-    planes: &Planes,
-    net: &Net,
-    patterns: usize,
-) -> Result<(), Fail>
-    requires net { AreOf net.now planes.now }
+fn push_unsettled(text: &mut String, planes: &Planes<'_>, patterns: usize) -> Result<(), Fail>
     requires stage { planes.now.stage ≡ Settled }
     requires loaded { planes.now.stage ≢ Loading }
 {
     for lane in LANES.iter().take(patterns) {
-        if *lane < 512 && planes.fault(net, *lane).is_none() && planes.is_unsettled(*lane) {
+        if *lane < 512 && planes.fault(*lane).is_none() && planes.is_unsettled(*lane) {
             text.push_str("unsettled ")?;
         }
     }
@@ -171,16 +162,10 @@ fn push_fault(text: &mut String, word: &str, gate: u32) -> Result<(), Fail> {
     push_numbers(text, &[gate])
 }
 
-fn push_lane_values(
-    text: &mut String,
-    planes: &Planes,
-    variables: u32,
-    lane: u32,
-) -> Result<(), Fail>
-    requires variables { variables ≤ variables_of planes.now }
-    requires lane { lane < 512 }
+fn push_lane_values(text: &mut String, planes: &Planes<'_>, lane: u32) -> Result<(), Fail>
+    requires { lane < 512 }
 {
-    for var in 0..variables {
+    for var in 0..planes.net().len() {
         text.push(letter_of(planes.get(lane, var)))?;
     }
     text.push(' ')?;

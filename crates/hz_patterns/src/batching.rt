@@ -27,7 +27,7 @@ impl OnPatterns for Batches {
         let Ok(mut planes) = Planes::new(alloc, net) else {
             return Status::Memory;
         };
-        match batch(alloc, net, patterns, &mut planes, out) {
+        match batch(alloc, patterns, &mut planes, out) {
             Ok(()) => Status::Done,
             Err(BatchFault::Sink) => Status::Sink,
             Err(BatchFault::Memory) => Status::Memory,

@@ -30,7 +30,7 @@ impl OnPatterns for Resets {
         let Ok(mut planes) = Planes::new(alloc, net) else {
             return Status::Memory;
         };
-        match reset(alloc, net, patterns, &mut planes, out) {
+        match reset(alloc, patterns, &mut planes, out) {
             Ok(()) => Status::Done,
             Err(BatchFault::Sink) => Status::Sink,
             Err(BatchFault::Memory) => Status::Memory,

@@ -5,7 +5,7 @@ use Rattle.std.proofs.lemmas.Option.{slice_get-get_or}
 use Rattle.hz_core.specs.declared.tri.Tri.{Tri}
 use Rattle.hz_core.specs.declared.tri.Tri.TheVariants.{Zero, One, Unknown}
 use Rattle.hz_core.specs.Ternary.{tri_of}
-use Rattle.hz_core.specs.Netlist.{Netlist, Gate, IsCircuit, IsWhole, IsGateNumber}
+use Rattle.hz_core.specs.Netlist.{Netlist, IsCircuit, IsWhole, IsGateNumber}
 use Rattle.hz_net.specs.Network.{value_at, bit_at}
 use Rattle.hz_net.specs.Starts.{IsLeastUnstable}
 use Rattle.hz_plane.specs.declared.listing.Listing.{Listing}
@@ -22,7 +22,6 @@ use Rattle.hz_plane.specs.Faults.{conflict_words, IsUnknownIn, IsConflictIn, IsO
 use Rattle.hz_plane.specs.View.{IsLaneFault}
 use Rattle.hz_plane.proofs.Bits.{plane-and, plane-or, lane-and, lane-or, lane-not}
 use Rattle.hz_plane.proofs.LaneSteps.{planes-of_gate, value-of_gate}
-use Rattle.hz_plane.proofs.PassLanes.{same-gate}
 use Rattle.hz_plane.proofs.FaultLemmas.{least-open, start_of, known-start, completed, excited-start, unlisted-stable, accepted}
 
 -- the lanes in which two values have nothing in common
@@ -152,28 +151,3 @@ module _
       (let below : gate < length netlist.names = omega (arith, opens.0, count) in
       least-open netlist circuit lists last forced gate below (is-unknown gate below opens.1) (λ node less. is-known node (omega (arith, less, below)) (opens.2 node less)))
   lane-fault (Some (Unstable gate)) fault opens is = absurd opens
-
--- two netlists with the same inputs and gates
-
-bare : ℕ → List Gate → Netlist
-bare inputs gates = record { names = []; inputs = inputs; cuts = []; gates = gates; outputs = [] }
-
-same-conflict : (netlist other : Netlist) (values : List Pair) (lane gate : ℕ) → netlist.inputs ≡ other.inputs → netlist.gates ≡ other.gates → IsConflictIn netlist values lane gate → IsConflictIn other values lane gate
-unfolding bare
-same-conflict netlist other values lane gate e f conflict =
-    subst (λ (g : List Gate). IsConflictIn (bare other.inputs g) values lane gate) f (subst (λ (n : ℕ). IsConflictIn (bare n netlist.gates) values lane gate) e conflict)
-
-module _ (netlist other : Netlist) (circuit : IsCircuit netlist) (circuit' : IsCircuit other) (inputs : netlist.inputs ≡ other.inputs) (gates : netlist.gates ≡ other.gates) (listings : List Listing) (values : List Pair) (lane : ℕ) where
-  same-stable : (end : ℕ) → AreStableBelow netlist listings values lane end → AreStableBelow other listings values lane end
-  same-stable end stable gate is_gate below lists conflict =
-      stable gate (same-gate other netlist gate circuit' circuit (sym inputs) (sym gates) is_gate) below lists (same-conflict other netlist values lane gate (sym inputs) (sym gates) conflict)
-
-  names : length netlist.names ≡ length other.names
-  names = omega (arith, inputs, circuit.nodes, circuit'.nodes, ap (length {A = Gate}) gates)
-
-  pub same-unstable : (earlier fault : Option LaneFault) → IsUnstableFault netlist listings values lane (length netlist.names) earlier fault → IsUnstableFault other listings values lane (length other.names) earlier fault
-  same-unstable (Some before) fault is = is
-  same-unstable None None is = same-stable (length other.names) (subst (AreStableBelow netlist listings values lane) names is)
-  same-unstable None (Some (Open gate)) is = is
-  same-unstable None (Some (Unstable gate)) is =
-      (same-gate netlist other gate circuit circuit' inputs gates is.0, omega (arith, is.1, names), same-conflict netlist other values lane gate inputs gates is.2, same-stable gate is.3)

@@ -8,7 +8,7 @@ use Rattle.hz_core.specs.declared.tri.Tri.{Tri}
 use Rattle.hz_core.specs.declared.tri.Tri.TheVariants.{Zero, Unknown}
 use Rattle.hz_core.specs.Ternary.{tri_of}
 use Rattle.hz_core.specs.Extension.{extension}
-use Rattle.hz_core.specs.Netlist.{Netlist, Gate, IsCircuit, IsWhole, IsGateNumber, gate_at}
+use Rattle.hz_core.specs.Netlist.{Netlist, IsCircuit, IsWhole, IsGateNumber, gate_at}
 use Rattle.hz_core.proofs.CircuitLemmas.{sources-at_gate}
 use Rattle.hz_net.specs.Network.{network_of, excitation3, value_at, bit_at}
 use Rattle.hz_net.specs.Passes.{excitations, algorithm_b, AreRounds}
@@ -23,7 +23,7 @@ use Rattle.hz_plane.specs.declared.pair.Pair.{Pair}
 use Rattle.hz_plane.specs.declared.rule.Rule.TheVariants.{Narrow}
 use Rattle.hz_plane.specs.Bits.{ArePlanes, HasValue, has_lane}
 use Rattle.hz_plane.specs.Pairs.{no_pair, pair_at}
-use Rattle.hz_plane.specs.Steps.{AreAllPlanes, HasLane, gate_excitation, gate_pair, all_values}
+use Rattle.hz_plane.specs.Steps.{AreAllPlanes, HasLane, gate_excitation, all_values}
 use Rattle.hz_plane.specs.Sweeps.{IsOrder, IsBack}
 use Rattle.hz_plane.specs.Lanes.{ListsAllInputs, ListsNoGate, AreForcedNodes, AreAllOf}
 use Rattle.hz_plane.specs.Forward.{IsForward, AreEvaluated}
@@ -33,7 +33,7 @@ use Rattle.hz_plane.proofs.LaneSteps.{value-of_gate}
 use Rattle.hz_plane.proofs.Wholes.{same-bit, same-values, source_of, source-inside, length-all_values, at-node, at-wire, excites-input, excites-gate, excites-wire}
 use Rattle.hz_plane.proofs.SpreadSteps.{pin-source}
 use Rattle.hz_plane.proofs.SettleSteps.{fixed-result}
-use Rattle.hz_plane.proofs.PassLanes.{known-planes, known-value, same-gate}
+use Rattle.hz_plane.proofs.PassLanes.{known-planes, known-value}
 use Rattle.hz_plane.proofs.Held.{set-bit}
 use Rattle.hz_plane.proofs.Forwards.{source-before}
 
@@ -185,19 +185,3 @@ module _ (netlist : Netlist) (circuit : IsCircuit netlist) (whole : IsWhole netl
               whole = all-is input has state (fixed-result (network_of netlist) input first rest rounded) (length-algorithm_b (network_of netlist) input first first_long rest);
             },
           )
-
--- two netlists with the same inputs and gates
-
-bare : ℕ → List Gate → Netlist
-bare inputs gates = record { names = []; inputs = inputs; cuts = []; gates = gates; outputs = [] }
-
-same-gate_pair : (netlist other : Netlist) (planes : List Pair) (gate : ℕ) → netlist.inputs ≡ other.inputs → netlist.gates ≡ other.gates → gate_pair netlist planes gate ≡ gate_pair other planes gate
-unfolding bare
-same-gate_pair netlist other planes gate e f =
-    ap (λ (n : ℕ). gate_pair (bare n netlist.gates) planes gate) e ∙ ap (λ (g : List Gate). gate_pair (bare other.inputs g) planes gate) f
-
-pub same-evaluated : (netlist other : Netlist) (planes : List Pair) → IsCircuit netlist → IsCircuit other → netlist.inputs ≡ other.inputs → netlist.gates ≡ other.gates → AreEvaluated netlist planes → AreEvaluated other planes
-same-evaluated netlist other planes circuit circuit' e f are = record {
-  known = λ node few. are.known node (omega (arith, few, e, circuit.nodes, circuit'.nodes, ap (length {A = Gate}) f));
-  excited = λ gate is_gate. are.excited gate (same-gate other netlist gate circuit' circuit (sym e) (sym f) is_gate) ∙ same-gate_pair netlist other planes gate e f;
-}

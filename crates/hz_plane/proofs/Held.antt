@@ -1,21 +1,19 @@
 -- What planes hold in a lane, from stage to stage, and what is read of it.
-use Rattle.std.proofs.Common.{◌≡◌, ◌≢◌, ℕ, zero, suc, ◌-◌, ◌<◌, ◌≤◌, ◌⊎◌, Bool, true, false, Option, Some, List, [], length, map, take, get_or, slice_get, refl, sym, ap, ◌∙◌, subst, arith, inl, inr, nat_eq}
+use Rattle.std.proofs.Common.{◌≡◌, ◌≢◌, ℕ, zero, suc, ◌-◌, ◌<◌, ◌≤◌, Bool, true, false, Option, List, [], length, map, take, get_or, refl, sym, ap, ◌∙◌, subst, arith, inl, inr, nat_eq}
 use Rattle.std.proofs.lemmas.Bool.{cases_lt}
 use Rattle.std.proofs.lemmas.List.{length-map, length-take, get_or-take, get_or-map}
 use Rattle.hz_core.specs.declared.tri.Tri.{Tri}
 use Rattle.hz_core.specs.declared.tri.Tri.TheVariants.{Zero, One, Unknown}
 use Rattle.hz_core.specs.Ternary.{tri_of, admits, AllBelow}
-use Rattle.hz_core.specs.Netlist.{Netlist, Gate, IsCircuit}
-use Rattle.hz_net.specs.Network.{Driver, network_of, wires_of, value_at, bit_at}
+use Rattle.hz_core.specs.Netlist.{Netlist, IsCircuit}
+use Rattle.hz_net.specs.Network.{Driver, Source, network_of, driver_at, value_at, bit_at}
 use Rattle.hz_net.specs.Passes.{excitations, algorithm_a, algorithm_b, AreRounds, IsResult}
 use Rattle.hz_net.specs.TernaryStarts.{algorithm_a_from, SettlesTo}
 use Rattle.hz_net.specs.Starts.{IsForced, IsCompletedStart}
 use Rattle.hz_net.proofs.TernaryStarts.{bits_are_a_case, AllBelow-result-from}
 use Rattle.hz_net.proofs.Derivations.{forced_once}
-use Rattle.hz_net.proofs.Places.{no_wire, length-network_of, length-wires_of}
-use Rattle.std.proofs.lemmas.Option.{get_or_from_slice_get}
-use Rattle.hz_plane.specs.Gates.{pin_sources}
-use Rattle.hz_plane.proofs.GateCopies.{wire-sources}
+use Rattle.hz_net.proofs.Places.{length-network_of}
+use Rattle.hz_net.proofs.Wires.{IsWireFrom-driver_at}
 use Rattle.hz_net.proofs.Ranks.{at-tri_of}
 use Rattle.hz_plane.specs.declared.pair.Pair.{Pair}
 use Rattle.hz_plane.specs.declared.stage.Stage.{Stage}
@@ -26,9 +24,9 @@ use Rattle.hz_plane.specs.Steps.{HasLane, all_values}
 use Rattle.hz_plane.specs.Lanes.{AreForcedNodes, AreAllOf, HasInputs, IsFilledStart}
 use Rattle.hz_plane.specs.Loads.{Loaded, lane_input}
 use Rattle.hz_plane.specs.Faults.{IsUnknownIn, AreUnknownLanes}
-use Rattle.hz_plane.specs.View.{value_by, LaneHolds, IsLaneValue, IsFilledValue, HasUnknown, IsUnsettled, LeavesUnknown}
+use Rattle.hz_plane.specs.View.{value_by, IsNodeOf, LaneHolds, IsLaneValue, IsFilledValue, HasUnknown, IsUnsettled, LeavesUnknown}
 use Rattle.hz_plane.proofs.LaneSets.{lane_bit-lt}
-use Rattle.hz_plane.proofs.Wholes.{source_of, source-inside, at-node, at-wire, length-all_values, same-values}
+use Rattle.hz_plane.proofs.Wholes.{source_of, source-inside, at-node, at-wire, drives-wire, length-all_values, same-values}
 use Rattle.hz_plane.proofs.PassLanes.{start-wires}
 use Rattle.hz_plane.proofs.FaultResults.{value-unknown, unknown-value}
 
@@ -119,34 +117,26 @@ read-lane pair lane value has =
     ap (λ (n : ℕ). value_by (nat_eq n 1) (has_lane pair.one lane)) has.can_be_zero
     ∙ (ap (λ (n : ℕ). value_by (nat_eq (bit_number (admits value false)) 1) (nat_eq n 1)) has.can_be_one ∙ read-bits value)
 
--- a node itself, or the source of a wire
-abbrev pub IsNodeOf : (netlist : Netlist) → IsCircuit netlist → ℕ → ℕ → Type 0
-IsNodeOf netlist circuit var node =
-    ((var < length netlist.names) × (node ≡ var)) ⊎ ((length netlist.names ≤ var) × (var < length (network_of netlist)) × (node ≡ source_of netlist circuit var))
-
--- the source of a wire, by its pin
-pub source-is : (netlist : Netlist) (circuit : IsCircuit netlist) (gates : List Gate) (wire node : ℕ) → gates ≡ netlist.gates → length netlist.names ≤ wire → wire < length (network_of netlist) → slice_get (pin_sources gates) (wire - length netlist.names) ≡ Some node → node ≡ source_of netlist circuit wire
-unfolding source_of wires_of
-source-is netlist circuit gates wire node is above inside at =
-    let k = wire - length netlist.names in
-    let few : k < length (wires_of netlist) = omega (arith, above, inside, length-wires_of netlist, length-network_of netlist circuit) in
-    sym (get_or_from_slice_get (pin_sources gates) k node 0 at)
-    ∙ (ap (λ (list : List Gate). get_or (pin_sources list) k 0) is
-    ∙ (ap (λ (list : List ℕ). get_or list k 0) (sym (wire-sources netlist.inputs netlist.gates))
-    ∙ get_or-map (λ wire. wire.source) (wires_of netlist) k no_wire 0 few))
+-- the source of a wire, by what drives it
+source-is : (netlist : Netlist) (circuit : IsCircuit netlist) (wire node : ℕ) → driver_at (network_of netlist) wire ≡ Source node → (length netlist.names ≤ wire) × (wire < length (network_of netlist)) × (node ≡ source_of netlist circuit wire)
+unfolding source_of
+source-is netlist circuit wire node driven = let from = IsWireFrom-driver_at netlist wire node circuit driven in (from.above, omega (arith, from.below, length-network_of netlist circuit), sym from.source)
 
 module _ (netlist : Netlist) (circuit : IsCircuit netlist) where
-  node-inside : (var node : ℕ) → IsNodeOf netlist circuit var node → node < length netlist.names
+  pub node-inside : (var node : ℕ) → IsNodeOf netlist var node → node < length netlist.names
   node-inside var node is = elim is [
     | inl own ↦ omega (arith, own.0, own.1)
-    | inr wire ↦ omega (arith, wire.2, source-inside netlist circuit var wire.0 wire.1)
+    | inr driven ↦ (let wire = source-is netlist circuit var node driven in omega (arith, wire.2, source-inside netlist circuit var wire.0 wire.1))
   ]
 
-  at-var : (state values : List Tri) (var node : ℕ) → AreAllOf netlist state values → IsNodeOf netlist circuit var node → value_at values node ≡ value_at state var
+  at-var : (state values : List Tri) (var node : ℕ) → AreAllOf netlist state values → IsNodeOf netlist var node → value_at values node ≡ value_at state var
   at-var state values var node are is =
       elim is [
         | inl own ↦ ap (value_at values) own.1 ∙ (sym (at-node netlist circuit values var are.count own.0) ∙ ap (λ (s : List Tri). value_at s var) are.whole)
-        | inr wire ↦ ap (value_at values) wire.2 ∙ (sym (at-wire netlist circuit values var are.count wire.0 wire.1) ∙ ap (λ (s : List Tri). value_at s var) are.whole)
+        | inr driven ↦ (
+            let wire = source-is netlist circuit var node driven in
+            ap (value_at values) wire.2 ∙ (sym (at-wire netlist circuit values var are.count wire.0 wire.1) ∙ ap (λ (s : List Tri). value_at s var) are.whole)
+            )
       ]
 
   -- a completed start is a filled one
@@ -206,7 +196,7 @@ module _ (netlist : Netlist) (circuit : IsCircuit netlist) where
       let was = held first a.0 b.0 filled a.1 (subst (λ (values : List Tri). AreRounds (algorithm_b net loaded.input values) b.0) a.2 b.1) in
       (was.0, was.1, subst (λ (state : List Tri). AreAllOf netlist state was.0) (sym (b.2 ∙ ap (λ (values : List Tri). algorithm_b net loaded.input values b.0) a.2)) was.2)
 
-  pub filled-value : (stage : Stage) (loaded : Loaded) (values : List Pair) (lane var node : ℕ) (got : Tri) → stage ≢ Loading → IsNodeOf netlist circuit var node → length values ≡ length netlist.names → LaneHolds stage netlist loaded values lane → ((value : Tri) → HasValue (pair_at values node) lane value → got ≡ value) → IsFilledValue stage netlist loaded var got
+  pub filled-value : (stage : Stage) (loaded : Loaded) (values : List Pair) (lane var node : ℕ) (got : Tri) → stage ≢ Loading → IsNodeOf netlist var node → length values ≡ length netlist.names → LaneHolds stage netlist loaded values lane → ((value : Tri) → HasValue (pair_at values node) lane value → got ≡ value) → IsFilledValue stage netlist loaded var got
   filled-value Loading loaded values lane var node got begun is count held reads = absurd (begun refl)
   filled-value Completed loaded values lane var node got begun is count held reads =
       λ first filled.
@@ -237,17 +227,17 @@ module _ (netlist : Netlist) (circuit : IsCircuit netlist) where
       (settles-from-bits (network_of netlist) loaded.input start rounds rest rounded settled)
 
   -- the node that a variable takes its value from
-  node-for : (var : ℕ) → var < length (network_of netlist) → (node : ℕ) × IsNodeOf netlist circuit var node
+  node-for : (var : ℕ) → var < length (network_of netlist) → (node : ℕ) × IsNodeOf netlist var node
   node-for var inside = elim (cases_lt var (length netlist.names)) [
     | inl own ↦ (var, inl (own, refl))
-    | inr wire ↦ (source_of netlist circuit var, inr (wire, inside, refl))
+    | inr wire ↦ (source_of netlist circuit var, inr (drives-wire netlist circuit var wire inside))
   ]
 
   unknown-among : (state : List Tri) (last : List Tri) (values : List Pair) (lane : ℕ) (answer : Bool) → length values ≡ length netlist.names → HasLane values lane last → AreAllOf netlist state last →
       (answer ≡ true → (node : ℕ) × (node < length values) × IsUnknownIn values lane node) → (answer ≡ false → (node : ℕ) → node < length values → IsUnknownIn values lane node → ⊥) → HasUnknown state answer
   unknown-among state last values lane true count has are some none =
       let there = some refl in
-      let own : IsNodeOf netlist circuit there.0 there.0 = inl (omega (arith, there.1, count), refl) in
+      let own : IsNodeOf netlist there.0 there.0 = inl (omega (arith, there.1, count), refl) in
       let size : length state ≡ length (network_of netlist) = sym (ap (length {A = Tri}) are.whole) ∙ length-all_values netlist circuit last are.count in
       (there.0, omega (arith, there.1, count, size, length-network_of netlist circuit), sym (at-var state last there.0 there.0 are own) ∙ value-unknown (pair_at values there.0) lane (value_at last there.0) (has.each there.0 there.1) there.2)
   unknown-among state last values lane false count has are some none = λ var inside unknown.

@@ -50,13 +50,11 @@ pub mod OrderLemmas
 pub mod ListParts
 -- Lists of readers: one reader more
 pub mod ReaderLemmas
--- Copied gates: one gate more, and the sources of all pins
-pub mod GateCopies
 -- What planes hold in a lane, from stage to stage, and what is read of it
 pub mod Held
 -- What gates without feedback, each evaluated once, hold in a lane: the forced start, and the result of Algorithm B
 pub mod ForwardLanes
--- The fields of planes when lanes are loaded, and other circuits with the same inputs and gates
+-- The fields of planes when lanes are loaded
 pub mod Fields
 -- What listed inputs force, with nothing else listed, is what Algorithm B makes of a state that is X everywhere
 pub mod UnknownFills

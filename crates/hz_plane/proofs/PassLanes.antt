@@ -7,7 +7,7 @@ use Rattle.std.proofs.lemmas.Option.{slice_get-get_or}
 use Rattle.hz_core.specs.declared.tri.Tri.{Tri}
 use Rattle.hz_core.specs.declared.tri.Tri.TheVariants.{Zero}
 use Rattle.hz_core.specs.Ternary.{tri_of, join_of, AllBelow}
-use Rattle.hz_core.specs.Netlist.{Netlist, Gate, IsCircuit, IsWhole, IsGateNumber}
+use Rattle.hz_core.specs.Netlist.{Netlist, IsCircuit, IsWhole, IsGateNumber}
 use Rattle.hz_net.specs.Network.{network_of, value_at, bit_at}
 use Rattle.hz_net.specs.Passes.{excitations, algorithm_b, AreRounds}
 use Rattle.hz_net.specs.TernaryStarts.{algorithm_a_from}
@@ -18,7 +18,7 @@ use Rattle.hz_plane.specs.declared.rule.Rule.{Rule}
 use Rattle.hz_plane.specs.declared.rule.Rule.TheVariants.{Narrow, Widen}
 use Rattle.hz_plane.specs.Bits.{IsPlane, ArePlanes, HasValue, lane_bit, bit_number}
 use Rattle.hz_plane.specs.Pairs.{pair_at, known_pair, widened_pair}
-use Rattle.hz_plane.specs.Steps.{step, steps, steps_planes, IsStill, IsStillPair, AreAllPlanes, HasLane, all_values}
+use Rattle.hz_plane.specs.Steps.{step, steps, IsStill, IsStillPair, AreAllPlanes, HasLane, all_values}
 use Rattle.hz_plane.specs.Sweeps.{Ran}
 use Rattle.hz_plane.specs.declared.listing.Listing.{Listing}
 use Rattle.hz_plane.specs.Loads.{listed_in, lane_listed}
@@ -204,39 +204,3 @@ module _ (netlist : Netlist) (circuit : IsCircuit netlist) (input : List Bool) (
       settle-result netlist circuit input first whole-long falls (with_inputs second_of input nodes) ran.gates rest begins-settle ran.all ran.still settled in
       let count : length last ≡ length netlist.names = length-steps3 netlist Narrow (with_inputs second_of input nodes) ran.gates ∙ begins-settle.count in
       (last, ran.has, record { count = count; whole = is })
-
--- two netlists with the same inputs and gates
-
-bare : ℕ → List Gate → Netlist
-bare inputs gates = record { names = []; inputs = inputs; cuts = []; gates = gates; outputs = [] }
-
-pub same-steps : (rule : Rule) (netlist other : Netlist) (planes : List Pair) (gates : List ℕ) → netlist.inputs ≡ other.inputs → netlist.gates ≡ other.gates → steps_planes rule netlist planes gates ≡ steps_planes rule other planes gates
-unfolding bare
-same-steps rule netlist other planes gates e f =
-    ap (λ (n : ℕ). steps_planes rule (bare n netlist.gates) planes gates) e ∙ ap (λ (g : List Gate). steps_planes rule (bare other.inputs g) planes gates) f
-
-pub same-still : (rule : Rule) (netlist other : Netlist) (planes : List Pair) (gate : ℕ) → netlist.inputs ≡ other.inputs → netlist.gates ≡ other.gates → IsStillPair rule netlist planes gate → IsStillPair rule other planes gate
-unfolding bare
-same-still rule netlist other planes gate e f still =
-    subst (λ (g : List Gate). IsStillPair rule (bare other.inputs g) planes gate) f (subst (λ (n : ℕ). IsStillPair rule (bare n netlist.gates) planes gate) e still)
-
-pub same-gate : (netlist other : Netlist) (gate : ℕ) → IsCircuit netlist → IsCircuit other → netlist.inputs ≡ other.inputs → netlist.gates ≡ other.gates → IsGateNumber netlist gate → IsGateNumber other gate
-same-gate netlist other gate circuit circuit' e f is = (omega (arith, e, is.0), omega (arith, e, is.1, circuit.nodes, circuit'.nodes, ap (length {A = Gate}) f))
-
-same-all : (netlist other : Netlist) (gates : List ℕ) → IsCircuit netlist → IsCircuit other → netlist.inputs ≡ other.inputs → netlist.gates ≡ other.gates → AllByRecursion (IsGateNumber netlist) gates → AllByRecursion (IsGateNumber other) gates
-same-all netlist other [] circuit circuit' e f all = tt
-same-all netlist other (gate ∷ gates) circuit circuit' e f all = (same-gate netlist other gate circuit circuit' e f all.0, same-all netlist other gates circuit circuit' e f all.1)
-
-pub same-ran : (rule : Rule) (netlist other : Netlist) (before after : List Pair) → IsCircuit netlist → IsCircuit other → netlist.inputs ≡ other.inputs → netlist.gates ≡ other.gates → Ran rule netlist before after → Ran rule other before after
-same-ran rule netlist other before after circuit circuit' e f ran = record {
-  gates = ran.gates;
-  all = same-all netlist other ran.gates circuit circuit' e f ran.all;
-  made = ran.made ∙ same-steps rule netlist other before ran.gates e f;
-}
-
--- a run over one netlist, seen in another with the same inputs and gates
-pub lane-ran-of : (rule : Rule) (netlist other : Netlist) (before after : List Pair) (lane : ℕ) (first : List Tri) → IsCircuit netlist → IsCircuit other → IsWhole other → netlist.inputs ≡ other.inputs → netlist.gates ≡ other.gates → lane < 512 → length before ≡ length netlist.names → AreAllPlanes before → AreAllPlanes after → Ran rule netlist before after → ((gate : ℕ) → IsGateNumber netlist gate → IsStillPair rule netlist after gate) → HasLane before lane first → LaneRan rule other after lane first
-lane-ran-of rule netlist other before after lane first circuit circuit' whole' e f inside long are are' ran still has =
-    lane-ran rule other before after lane first circuit' whole' inside (omega (arith, long, e, circuit.nodes, circuit'.nodes, ap (length {A = Gate}) f)) are are'
-    (same-ran rule netlist other before after circuit circuit' e f ran)
-    (λ gate is_gate. same-still rule netlist other after gate e f (still gate (same-gate other netlist gate circuit' circuit (sym e) (sym f) is_gate))) has

@@ -13,7 +13,5 @@ pub mod Forward
 pub mod Schedules
 pub mod View
 pub mod Orders
-pub mod Gates
-pub mod GatesInside
 pub mod ListsInside
 pub mod Inside

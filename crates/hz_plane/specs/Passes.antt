@@ -1,8 +1,8 @@
--- What the passes over planes make of each lane, in every circuit with the same inputs and gates.
-use Rattle.std.specs.Prelude.{◌≡◌, ℕ, ◌<◌, Bool, Option, List}
+-- What the passes over planes make of each lane.
+use Rattle.std.specs.Prelude.{ℕ, ◌<◌, Bool, Option, List}
 use Rattle.hz_core.specs.declared.tri.Tri.{Tri}
 use Rattle.hz_core.specs.Ternary.{AllBelow}
-use Rattle.hz_core.specs.Netlist.{Netlist, IsCircuit, IsWhole}
+use Rattle.hz_core.specs.Netlist.{Netlist}
 use Rattle.hz_net.specs.Network.{network_of}
 use Rattle.hz_net.specs.Passes.{excitations, algorithm_b, AreRounds}
 use Rattle.hz_net.specs.TernaryStarts.{algorithm_a_from}
@@ -17,10 +17,9 @@ HoldsForced netlist planes lane listed =
 
 -- planes after Algorithm A, from those before
 abbrev pub SpreadsLanes : Netlist → List (List ℕ) → (before after : List Pair) → Type 0
-SpreadsLanes made inputs before after =
-    (netlist : Netlist) → IsCircuit netlist → IsWhole netlist → made.inputs ≡ netlist.inputs →
-    made.gates ≡ netlist.gates → (lane : ℕ) (input : List Bool) (first nodes : List Tri)
-    (rounds : ℕ) → lane < 512 → HasLane before lane nodes → AreAllOf netlist first nodes →
+SpreadsLanes netlist inputs before after =
+    (lane : ℕ) (input : List Bool) (first nodes : List Tri) (rounds : ℕ) → lane < 512 →
+    HasLane before lane nodes → AreAllOf netlist first nodes →
     HasInputs inputs lane input →
     AreRounds (algorithm_a_from (network_of netlist) input first) rounds →
     (last : List Tri) × HasLane after lane last
@@ -28,10 +27,9 @@ SpreadsLanes made inputs before after =
 
 -- planes after Algorithm B, from those before
 abbrev pub SettlesLanes : Netlist → List (List ℕ) → (before after : List Pair) → Type 0
-SettlesLanes made inputs before after =
-    (netlist : Netlist) → IsCircuit netlist → IsWhole netlist → made.inputs ≡ netlist.inputs →
-    made.gates ≡ netlist.gates → (lane : ℕ) (input : List Bool) (first nodes : List Tri)
-    (rest : ℕ) → lane < 512 → HasLane before lane nodes → AreAllOf netlist first nodes →
+SettlesLanes netlist inputs before after =
+    (lane : ℕ) (input : List Bool) (first nodes : List Tri) (rest : ℕ) → lane < 512 →
+    HasLane before lane nodes → AreAllOf netlist first nodes →
     HasInputs inputs lane input → AllBelow (excitations (network_of netlist) input first) first →
     AreRounds (algorithm_b (network_of netlist) input first) rest →
     (last : List Tri) × HasLane after lane last

@@ -1,10 +1,10 @@
 -- What contracts see of planes, and what a lane holds at each stage.
-use Rattle.std.specs.Prelude.{◌≡◌, ◌≢◌, ℕ, ◌+◌, ◌<◌, Bool, true, false, Option, Some, None, List, [], length, replicate, sum_by}
+use Rattle.std.specs.Prelude.{◌≡◌, ◌≢◌, ℕ, ◌<◌, ◌⊎◌, Bool, true, false, Option, Some, None, List, [], length, replicate}
 use Rattle.hz_core.specs.declared.tri.Tri.{Tri}
 use Rattle.hz_core.specs.declared.tri.Tri.TheVariants.{Zero, One, Unknown}
 use Rattle.hz_core.specs.Ternary.{tri_of}
-use Rattle.hz_core.specs.Netlist.{Netlist, Gate, IsCircuit}
-use Rattle.hz_net.specs.Network.{network_of, bit_at, value_at}
+use Rattle.hz_core.specs.Netlist.{Netlist, IsCircuit}
+use Rattle.hz_net.specs.Network.{Source, network_of, driver_at, bit_at, value_at}
 use Rattle.hz_net.specs.Passes.{algorithm_a, algorithm_b, AreRounds, IsResult}
 use Rattle.hz_net.specs.TernaryStarts.{algorithm_a_from, SettlesTo}
 use Rattle.hz_net.specs.Starts.{IsAcceptedStart, IsLeastOpen, IsLeastUnstable}
@@ -19,23 +19,19 @@ use Rattle.hz_plane.specs.Loads.{Loaded, listed_with}
 use Rattle.hz_plane.specs.Steps.{HasLane}
 use Rattle.hz_plane.specs.Lanes.{AreForcedNodes, AreAllOf, IsFilledStart}
 
--- What contracts see: the circuit, as far as it matters here, the stage, how often the planes were settled, and what was
--- loaded into each lane.
+-- What contracts see: the circuit of the network, the stage, how often the planes were settled, and what was loaded into each
+-- lane.
 pub record Seen : Type 0 where
-  pub inputs : ℕ
-  pub gates : List Gate
+  pub netlist : Netlist
   pub stage : Stage
   pub settles : ℕ
   pub lanes : List (Option Loaded)
 
--- the planes were made for the network of this circuit
-abbrev pub AreOf : Netlist → Seen → Type 0
-AreOf netlist planes = (planes.inputs ≡ netlist.inputs) × (planes.gates ≡ netlist.gates)
-
--- how many variables the network has that planes were made for
-abbrev pub variables_of : Seen → ℕ
-variables_of planes =
-    planes.inputs + length planes.gates + sum_by (λ gate. length gate.sources) planes.gates
+-- a node itself, or the source of a wire
+abbrev pub IsNodeOf : Netlist → ℕ → ℕ → Type 0
+IsNodeOf netlist var node =
+    ((var < length netlist.names) × (node ≡ var))
+    ⊎ (driver_at (network_of netlist) var ≡ Source node)
 
 -- the value that can be 0, or 1, or both
 abbrev pub value_by : Bool → Bool → Tri

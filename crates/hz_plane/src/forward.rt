@@ -16,8 +16,6 @@ use hz_net::Net;
 pub(crate) fn evaluate_all(net: &Net, schedule: &Schedule, planes: &mut [Pair])
     requires schedule { IsSchedule net.now schedule.now }
     requires forward { schedule.now.is_forward ≡ true }
-    requires circuit { IsCircuit net.now }
-    requires whole { IsWhole net.now }
     requires long { length planes.old ≡ length net.now.names }
     requires inputs { AreKnownInputs net.now planes.old }
     ensures evaluated { AreEvaluated net.now planes.new }
@@ -34,8 +32,6 @@ pub(crate) fn evaluate_all(net: &Net, schedule: &Schedule, planes: &mut [Pair])
 fn evaluate_at(net: &Net, schedule: &Schedule, place: usize, planes: &mut [Pair])
     requires schedule { IsSchedule net.now schedule.now }
     requires forward { schedule.now.is_forward ≡ true }
-    requires circuit { IsCircuit net.now }
-    requires whole { IsWhole net.now }
     requires long { length planes.old ≡ length net.now.names }
     requires place { place < length schedule.now.order.items }
     requires below { AreEvaluatedBelow place net.now schedule.now.order.items planes.old }

@@ -13,7 +13,6 @@
 //! | `sweep` | gates evaluated in place until none would change |
 //! | `faults` | the fault of each lane, and the lanes in which some node is X |
 //! | `schedule`, `order`, `classes`, `search`, `readers`, `copies`, `lists` | an order of all gates, and which gates read each node |
-//! | `gates` | the gates of the circuit, copied |
 #![tactic(auto)]
 
 ghost use Rattle.hz_plane.specs.View.{ListedInputsFill};
@@ -24,7 +23,6 @@ mod eights;
 mod excited;
 mod faults;
 mod forward;
-mod gates;
 mod lanes;
 mod listing;
 mod lists;

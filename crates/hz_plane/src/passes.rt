@@ -2,7 +2,6 @@
 ghost use Rattle.std.specs.Prelude.{◌≡◌, ℕ, ◌+◌, ◌/◌, ◌<◌, ◌≤◌, Bool, true, Some, [], length};
 ghost use Rattle.std.specs.List.{slice_index_or};
 ghost use Rattle.hz_core.specs.Ternary.{tri_of};
-ghost use Rattle.hz_core.specs.Netlist.{Netlist, IsCircuit, IsWhole};
 ghost use Rattle.hz_net.specs.Network.{IsInput};
 ghost use Rattle.hz_plane.specs.Pairs.{pair_at, widened_pair, known_pair};
 ghost use Rattle.hz_plane.specs.Passes.{HoldsForced, SpreadsLanes, SettlesLanes};
@@ -33,18 +32,15 @@ pub(crate) fn fill(
     values: &mut [Pair],
 ) -> bool
     requires schedule { IsSchedule net.now schedule.now }
-    requires circuit { IsCircuit net.now }
-    requires whole { IsWhole net.now }
     requires listings { length listings.now ≡ length net.now.names }
     requires values { length values.old ≡ length net.now.names }
     requires marks { length marks.old ≡ length schedule.now.order.items / 64 + 1 }
     ensures planes { AreAllPlanes values.new }
     ensures evaluated { result ≡ true → AreEvaluated net.now values.new }
-    ensures lanes { (netlist : Netlist) → IsCircuit netlist → IsWhole netlist
-        → net.now.inputs ≡ netlist.inputs → net.now.gates ≡ netlist.gates
-        → (lane : ℕ) → lane < 512 → ListsAllInputs netlist (lane_listed listings.now lane)
-        → (no_gates ≡ true → ListsNoGate netlist (lane_listed listings.now lane))
-        → HoldsForced netlist values.new lane (lane_listed listings.now lane) }
+    ensures lanes { (lane : ℕ) → lane < 512
+        → ListsAllInputs net.now (lane_listed listings.now lane)
+        → (no_gates ≡ true → ListsNoGate net.now (lane_listed listings.now lane))
+        → HoldsForced net.now values.new lane (lane_listed listings.now lane) }
 {
     if schedule.is_forward && no_gates {
         fill_forward(net, schedule, listings, values);
@@ -58,17 +54,14 @@ pub(crate) fn fill(
 fn fill_forward(net: &Net, schedule: &Schedule, listings: &[Listing], values: &mut [Pair])
     requires schedule { IsSchedule net.now schedule.now }
     requires forward { schedule.now.is_forward ≡ true }
-    requires circuit { IsCircuit net.now }
-    requires whole { IsWhole net.now }
     requires listings { length listings.now ≡ length net.now.names }
     requires values { length values.old ≡ length net.now.names }
     ensures planes { AreAllPlanes values.new }
     ensures evaluated { AreEvaluated net.now values.new }
-    ensures lanes { (netlist : Netlist) → IsCircuit netlist → IsWhole netlist
-        → net.now.inputs ≡ netlist.inputs → net.now.gates ≡ netlist.gates
-        → (lane : ℕ) → lane < 512 → ListsAllInputs netlist (lane_listed listings.now lane)
-        → ListsNoGate netlist (lane_listed listings.now lane)
-        → HoldsForced netlist values.new lane (lane_listed listings.now lane) }
+    ensures lanes { (lane : ℕ) → lane < 512
+        → ListsAllInputs net.now (lane_listed listings.now lane)
+        → ListsNoGate net.now (lane_listed listings.now lane)
+        → HoldsForced net.now values.new lane (lane_listed listings.now lane) }
 {
     list_bits(net.circuit().inputs() as usize, listings, values);
     evaluate_all(net, schedule, values);
@@ -98,16 +91,13 @@ fn fill_by_steps(
     values: &mut [Pair],
 )
     requires schedule { IsSchedule net.now schedule.now }
-    requires circuit { IsCircuit net.now }
-    requires whole { IsWhole net.now }
     requires listings { length listings.now ≡ length net.now.names }
     requires values { length values.old ≡ length net.now.names }
     requires marks { length marks.old ≡ length schedule.now.order.items / 64 + 1 }
     ensures planes { AreAllPlanes values.new }
-    ensures lanes { (netlist : Netlist) → IsCircuit netlist → IsWhole netlist
-        → net.now.inputs ≡ netlist.inputs → net.now.gates ≡ netlist.gates
-        → (lane : ℕ) → lane < 512 → ListsAllInputs netlist (lane_listed listings.now lane)
-        → HoldsForced netlist values.new lane (lane_listed listings.now lane) }
+    ensures lanes { (lane : ℕ) → lane < 512
+        → ListsAllInputs net.now (lane_listed listings.now lane)
+        → HoldsForced net.now values.new lane (lane_listed listings.now lane) }
 {
     begin(listings, values);
     let pass = Pass {
@@ -179,8 +169,6 @@ pub(crate) fn spread(
     values: &mut [Pair],
 )
     requires schedule { IsSchedule net.now schedule.now }
-    requires circuit { IsCircuit net.now }
-    requires whole { IsWhole net.now }
     requires inputs { IsInput net.now inputs.now }
     requires values { length values.old ≡ length net.now.names }
     requires planes { AreAllPlanes values.old }
@@ -207,8 +195,6 @@ pub(crate) fn settle(
     values: &mut [Pair],
 ) -> bool
     requires schedule { IsSchedule net.now schedule.now }
-    requires circuit { IsCircuit net.now }
-    requires whole { IsWhole net.now }
     requires inputs { IsInput net.now inputs.now }
     requires values { length values.old ≡ length net.now.names }
     requires planes { AreAllPlanes values.old }
@@ -229,8 +215,6 @@ pub(crate) fn settle(
 fn settle_forward(net: &Net, schedule: &Schedule, inputs: &[[u64; 8]], values: &mut [Pair])
     requires schedule { IsSchedule net.now schedule.now }
     requires forward { schedule.now.is_forward ≡ true }
-    requires circuit { IsCircuit net.now }
-    requires whole { IsWhole net.now }
     requires inputs { IsInput net.now inputs.now }
     requires values { length values.old ≡ length net.now.names }
     ensures planes { AreAllPlanes values.new }
@@ -251,8 +235,6 @@ fn settle_by_steps(
     values: &mut [Pair],
 )
     requires schedule { IsSchedule net.now schedule.now }
-    requires circuit { IsCircuit net.now }
-    requires whole { IsWhole net.now }
     requires inputs { IsInput net.now inputs.now }
     requires values { length values.old ≡ length net.now.names }
     requires planes { AreAllPlanes values.old }

@@ -5,21 +5,18 @@
 //! loop over the gates, which evaluates them in place until none would change (`sweep`). If it has none, Algorithm A makes one
 //! sweep, and Algorithm B evaluates each gate once, and so does the completion of starts that list inputs alone (`forward`).
 //!
-//! What must stay true: `HoldsPlanes`. What a lane holds is said of each circuit with these inputs and gates, since the fields
-//! keep no more of it.
+//! What must stay true: `HoldsPlanes`.
 ghost use Rattle.std.specs.Prelude.{◌≡◌, ◌≢◌, ◌+◌, ◌*◌, ◌<◌, ◌≤◌, ◌^◌, ◌-◌, ℕ, All, Option, Some, None, IfOk, length, min, replicate, slice_get, slice_set};
 ghost use Rattle.hz_core.specs.declared.tri.Tri.TheVariants.{Unknown};
-ghost use Rattle.hz_core.specs.Netlist.{Netlist, IsCircuit, IsWhole, IsGateNumber};
-ghost use Rattle.hz_net.specs.Network.{IsInput};
-ghost use Rattle.hz_plane.specs.Gates.{pin_sources};
+ghost use Rattle.hz_core.specs.Netlist.{IsGateNumber};
+ghost use Rattle.hz_net.specs.Network.{IsInput, IsVariable};
 ghost use Rattle.hz_plane.specs.Lanes.{ListsAllInputs};
 ghost use Rattle.hz_plane.specs.Loads.{Loaded, block_loads};
 ghost use Rattle.hz_plane.specs.Steps.{AreAllPlanes};
-ghost use Rattle.hz_plane.specs.View.{Seen, AreOf, IsLaneValue, IsFilledValue, IsLaneFault, IsUnsettled, LeavesUnknown, value_by, value_in, variables_of};
+ghost use Rattle.hz_plane.specs.View.{Seen, IsLaneValue, IsFilledValue, IsLaneFault, IsNodeOf, IsUnsettled, LeavesUnknown, value_by, value_in};
 ghost use Rattle.hz_plane.specs.declared.stage.Stage.TheVariants.{Loading, Completed, Spread, Settled};
 
 use crate::faults::{note_faults, unsettled_lanes};
-use crate::gates::Gates;
 use crate::lanes::has_lane;
 use crate::loads::Loads;
 use crate::pair::Pair;
@@ -28,20 +25,20 @@ use crate::schedule::Schedule;
 use crate::stage::{LaneFault, Stage};
 use crate::values::{LaneValues, value_by};
 use hz_core::{Memory, Tri};
-use hz_net::Net;
+use hz_net::{Net, VarKind};
 use std::alloc::Global;
 use std::marker::Model;
 use std::simd::prelude::*;
 
-/// Bit planes for 512 lanes, each of which holds a pattern: a start, and a new input.
+/// Bit planes of a network for 512 lanes, each of which holds a pattern: a start, and a new input.
 ///
 /// `load_block` loads the first lanes at once, `load` a lane of its own. Then `complete` fills the starts of all lanes, `spread`
 /// makes Algorithm A of them, and `settle` Algorithm B (Brzozowski and Seger). Each is one pass for all lanes.
 #[derive(Debug, Drop)]
-pub struct Planes {
+pub struct Planes<'n> {
+    net: &'n Net,
     stage: Stage,
     settles: u64,
-    gates: Gates,
     schedule: Schedule,
     marks: Vec<u64>,
     loads: Loads,
@@ -50,7 +47,7 @@ pub struct Planes {
     unsettled: [u64; 8],
 }
 
-impl Model for Planes {
+impl<'n> Model for Planes<'n> {
     ghost use Rattle.hz_plane.specs.View.{Seen};
 
     ghost Value = { Seen };
@@ -62,29 +59,27 @@ impl Model for Planes {
     ghost invariant = { HoldsPlanes };
 }
 
-impl Planes {
+impl<'n> Planes<'n> {
     /// Planes for a network, with no lane loaded. Only this call takes memory.
-    pub fn new(alloc: Global, net: &Net) -> Result<Planes, Memory>
+    pub fn new(alloc: Global, net: &'n Net) -> Result<Planes<'n>, Memory>
         ensures { IfOk result
             (λ planes. planes ≡ record {
-              inputs = net.now.inputs;
-              gates = net.now.gates;
+              netlist = net.now;
               stage = Loading;
               settles = 0;
               lanes = replicate 512 None;
             }) }
     {
         let circuit = net.circuit();
-        let gates = Gates::of(alloc, net)?;
         let schedule = Schedule::of(alloc, net)?;
         let loads = Loads::new(alloc, circuit.inputs(), circuit.nodes())?;
         let values = unknown_values(alloc, circuit.nodes())?;
         let marks = vec![in alloc; 0; schedule.order.len() / 64 + 1]?;
         let faults = vec![in alloc; None; 512]?;
         Ok(Planes {
+            net,
             stage: Stage::Loading,
             settles: 0,
-            gates,
             schedule,
             marks,
             loads,
@@ -92,6 +87,13 @@ impl Planes {
             faults,
             unsettled: [0; 8],
         })
+    }
+
+    /// The network that the planes are for.
+    pub fn net(&self) -> &'n Net
+        ensures { result.now ≡ self.now.netlist }
+    {
+        self.net
     }
 
     /// Forgets what was loaded.
@@ -103,50 +105,45 @@ impl Planes {
     }
 
     /// Loads a lane: the new input, and the values that its start lists. The start lists each input, cuts too.
-    pub fn load(&mut self, net: &Net, lane: u32, input: &[bool], listed: &[Option<bool>])
-        requires net { AreOf net.now self.old }
+    pub fn load(&mut self, lane: u32, input: &[bool], listed: &[Option<bool>])
         requires stage { self.old.stage ≡ Loading }
         requires lane { lane < 512 }
-        requires input { IsInput net.now input.now }
-        requires listed { length listed.now ≡ length net.now.names }
-        requires inputs { ListsAllInputs net.now listed.now }
+        requires input { IsInput self.old.netlist input.now }
+        requires listed { length listed.now ≡ length self.old.netlist.names }
+        requires inputs { ListsAllInputs self.old.netlist listed.now }
         ensures { self.new ≡ record self.old {
           lanes = slice_set self.old.lanes lane
               (Some (record { input = input.now; listed = listed.now }));
         } }
     {
-        net.keeps_shape();
         self.loads.load(lane, input, listed);
     }
 
     /// Forgets what was loaded, as `clear` does, and loads the first lanes. Each start lists the inputs, and these held
     /// gates. The bits are those of one lane after the other: of each the bits that its start lists for the inputs, and
     /// its new input.
-    pub fn load_block(&mut self, net: &Net, lanes: u32, bits: &[bool], held: &[(u32, bool)])
-        requires net { AreOf net.now self.old }
+    pub fn load_block(&mut self, lanes: u32, bits: &[bool], held: &[(u32, bool)])
         requires lanes { lanes ≤ 512 }
-        requires bits { length bits.now ≡ lanes * (2 * net.now.inputs) }
-        requires held { All (λ node. IsGateNumber net.now node.0) held.now }
+        requires bits { length bits.now ≡ lanes * (2 * self.old.netlist.inputs) }
+        requires held { All (λ node. IsGateNumber self.old.netlist node.0) held.now }
         ensures { self.new ≡ record self.old {
           stage = Loading;
-          lanes = block_loads (length net.now.names) net.now.inputs held.now lanes bits.now;
+          lanes = block_loads (length self.old.netlist.names) self.old.netlist.inputs held.now
+              lanes bits.now;
         } }
     {
-        net.keeps_shape();
         self.stage = Stage::Loading;
         self.loads.load_block(lanes, bits, held);
     }
 
     /// Fills the starts of all lanes: what their listed values force.
-    pub fn complete(&mut self, net: &Net)
-        requires net { AreOf net.now self.old }
+    pub fn complete(&mut self)
         requires stage { self.old.stage ≡ Loading }
         ensures { self.new ≡ record self.old { stage = Completed } }
     {
-        net.keeps_shape();
         let no_gates = self.loads.lists_no_gate();
         let are_evaluated = fill(
-            net,
+            self.net,
             &self.schedule,
             self.marks.as_mut_slice(),
             self.loads.listings(),
@@ -154,7 +151,7 @@ impl Planes {
             self.values.as_mut_slice(),
         );
         note_faults(
-            net,
+            self.net,
             self.loads.listings(),
             self.values.as_slice(),
             are_evaluated,
@@ -164,26 +161,22 @@ impl Planes {
     }
 
     /// Why a loaded lane has no stable start: its least open node, or if no node is open its least unstable gate.
-    pub fn fault(&self, net: &Net, lane: u32) -> Option<LaneFault>
-        requires net { AreOf net.now self.now }
+    pub fn fault(&self, lane: u32) -> Option<LaneFault>
         requires stage { self.now.stage ≢ Loading }
         requires lane { lane < 512 }
         ensures { (loaded : Loaded) → slice_get self.now.lanes lane ≡ Some (Some loaded)
-            → IsLaneFault net.now loaded.listed result }
+            → IsLaneFault self.now.netlist loaded.listed result }
     {
-        net.keeps_shape();
         self.faults[lane as usize]
     }
 
     /// Algorithm A in each lane, from its start under its new input.
-    pub fn spread(&mut self, net: &Net)
-        requires net { AreOf net.now self.old }
+    pub fn spread(&mut self)
         requires stage { self.old.stage ≡ Completed }
         ensures { self.new ≡ record self.old { stage = Spread } }
     {
-        net.keeps_shape();
         spread(
-            net,
+            self.net,
             &self.schedule,
             self.marks.as_mut_slice(),
             self.loads.inputs(),
@@ -193,22 +186,20 @@ impl Planes {
     }
 
     /// Algorithm B in each lane, from the result of Algorithm A.
-    pub fn settle(&mut self, net: &Net)
-        requires net { AreOf net.now self.old }
+    pub fn settle(&mut self)
         requires stage { self.old.stage ≡ Spread }
         ensures { self.new
             ≡ record self.old
             { stage = Settled; settles = min (self.old.settles + 1) (2 ^ 64 - 1) } }
     {
-        net.keeps_shape();
         let are_evaluated = settle(
-            net,
+            self.net,
             &self.schedule,
             self.marks.as_mut_slice(),
             self.loads.inputs(),
             self.values.as_mut_slice(),
         );
-        self.unsettled = unsettled_lanes(net, self.values.as_slice(), are_evaluated);
+        self.unsettled = unsettled_lanes(self.net, self.values.as_slice(), are_evaluated);
         self.stage = Stage::Settled;
         self.settles = self.settles.saturating_add(1);
     }
@@ -217,13 +208,11 @@ impl Planes {
     /// result of Algorithm A after `spread`, and of Algorithm B after `settle`. Before, each value is X.
     pub fn get(&self, lane: u32, var: u32) -> Tri
         requires lane { lane < 512 }
-        requires var { var < variables_of self.now }
-        ensures lane { (netlist : Netlist) (loaded : Loaded) → IsCircuit netlist → IsWhole netlist
-            → AreOf netlist self.now → slice_get self.now.lanes lane ≡ Some (Some loaded)
-            → IsLaneValue self.now.stage netlist loaded var result }
-        ensures filled { (netlist : Netlist) (loaded : Loaded) → IsCircuit netlist → IsWhole netlist
-            → AreOf netlist self.now → slice_get self.now.lanes lane ≡ Some (Some loaded)
-            → IsFilledValue self.now.stage netlist loaded var result }
+        requires var { IsVariable self.now.netlist var }
+        ensures lane { (loaded : Loaded) → slice_get self.now.lanes lane ≡ Some (Some loaded)
+            → IsLaneValue self.now.stage self.now.netlist loaded var result }
+        ensures filled { (loaded : Loaded) → slice_get self.now.lanes lane ≡ Some (Some loaded)
+            → IsFilledValue self.now.stage self.now.netlist loaded var result }
         ensures loading { self.now.stage ≡ Loading → result ≡ Unknown }
     {
         match self.stage {
@@ -234,17 +223,13 @@ impl Planes {
 
     /// The values of a variable in all lanes at once: in each lane that is loaded what `get` says of it.
     pub fn values(&self, var: u32) -> LaneValues
-        requires { var < variables_of self.now }
-        ensures lane { (netlist : Netlist) (loaded : Loaded) (lane : ℕ) → IsCircuit netlist
-            → IsWhole netlist
-            → AreOf netlist self.now → lane < 512 → slice_get self.now.lanes lane
-            ≡ Some (Some loaded)
-            → IsLaneValue self.now.stage netlist loaded var (value_in result lane) }
-        ensures filled { (netlist : Netlist) (loaded : Loaded) (lane : ℕ) → IsCircuit netlist
-            → IsWhole netlist
-            → AreOf netlist self.now → lane < 512 → slice_get self.now.lanes lane
-            ≡ Some (Some loaded)
-            → IsFilledValue self.now.stage netlist loaded var (value_in result lane) }
+        requires { IsVariable self.now.netlist var }
+        ensures lane { (loaded : Loaded) (lane : ℕ) → lane < 512
+            → slice_get self.now.lanes lane ≡ Some (Some loaded)
+            → IsLaneValue self.now.stage self.now.netlist loaded var (value_in result lane) }
+        ensures filled { (loaded : Loaded) (lane : ℕ) → lane < 512
+            → slice_get self.now.lanes lane ≡ Some (Some loaded)
+            → IsFilledValue self.now.stage self.now.netlist loaded var (value_in result lane) }
         ensures loading { self.now.stage ≡ Loading
             → (lane : ℕ) → lane < 512 → value_in result lane ≡ Unknown }
     {
@@ -258,12 +243,10 @@ impl Planes {
     pub fn is_unsettled(&self, lane: u32) -> bool
         requires lane { lane < 512 }
         requires stage { self.now.stage ≡ Settled }
-        ensures start { (netlist : Netlist) (loaded : Loaded) → IsCircuit netlist → IsWhole netlist
-            → AreOf netlist self.now → slice_get self.now.lanes lane ≡ Some (Some loaded)
-            → IsUnsettled netlist loaded result }
-        ensures filled { (netlist : Netlist) (loaded : Loaded) → IsCircuit netlist → IsWhole netlist
-            → AreOf netlist self.now → slice_get self.now.lanes lane ≡ Some (Some loaded)
-            → LeavesUnknown netlist loaded result }
+        ensures start { (loaded : Loaded) → slice_get self.now.lanes lane ≡ Some (Some loaded)
+            → IsUnsettled self.now.netlist loaded result }
+        ensures filled { (loaded : Loaded) → slice_get self.now.lanes lane ≡ Some (Some loaded)
+            → LeavesUnknown self.now.netlist loaded result }
     {
         has_lane(&self.unsettled, lane)
     }
@@ -272,13 +255,13 @@ impl Planes {
     #[inline(always)]
     fn node_value(&self, lane: u32, var: u32) -> Tri
         requires lane { lane < 512 }
-        requires var { var < variables_of self.now }
-        ensures lane { (netlist : Netlist) (loaded : Loaded) → IsCircuit netlist → IsWhole netlist
-            → AreOf netlist self.now → slice_get self.now.lanes lane ≡ Some (Some loaded)
-            → self.now.stage ≢ Loading → IsLaneValue self.now.stage netlist loaded var result }
-        ensures filled { (netlist : Netlist) (loaded : Loaded) → IsCircuit netlist → IsWhole netlist
-            → AreOf netlist self.now → slice_get self.now.lanes lane ≡ Some (Some loaded)
-            → self.now.stage ≢ Loading → IsFilledValue self.now.stage netlist loaded var result }
+        requires var { IsVariable self.now.netlist var }
+        ensures lane { (loaded : Loaded) → slice_get self.now.lanes lane ≡ Some (Some loaded)
+            → self.now.stage ≢ Loading
+            → IsLaneValue self.now.stage self.now.netlist loaded var result }
+        ensures filled { (loaded : Loaded) → slice_get self.now.lanes lane ≡ Some (Some loaded)
+            → self.now.stage ≢ Loading
+            → IsFilledValue self.now.stage self.now.netlist loaded var result }
     {
         let pair = &self.values[self.node_of(var) as usize];
         value_by(
@@ -290,19 +273,15 @@ impl Planes {
     // The values of a node, or of the source of a wire.
     #[inline(always)]
     fn node_values(&self, var: u32) -> LaneValues
-        requires var { var < variables_of self.now }
-        ensures lane { (netlist : Netlist) (loaded : Loaded) (lane : ℕ) → IsCircuit netlist
-            → IsWhole netlist
-            → AreOf netlist self.now → lane < 512 → slice_get self.now.lanes lane
-            ≡ Some (Some loaded)
+        requires var { IsVariable self.now.netlist var }
+        ensures lane { (loaded : Loaded) (lane : ℕ) → lane < 512
+            → slice_get self.now.lanes lane ≡ Some (Some loaded)
             → self.now.stage ≢ Loading
-            → IsLaneValue self.now.stage netlist loaded var (value_in result lane) }
-        ensures filled { (netlist : Netlist) (loaded : Loaded) (lane : ℕ) → IsCircuit netlist
-            → IsWhole netlist
-            → AreOf netlist self.now → lane < 512 → slice_get self.now.lanes lane
-            ≡ Some (Some loaded)
+            → IsLaneValue self.now.stage self.now.netlist loaded var (value_in result lane) }
+        ensures filled { (loaded : Loaded) (lane : ℕ) → lane < 512
+            → slice_get self.now.lanes lane ≡ Some (Some loaded)
             → self.now.stage ≢ Loading
-            → IsFilledValue self.now.stage netlist loaded var (value_in result lane) }
+            → IsFilledValue self.now.stage self.now.netlist loaded var (value_in result lane) }
     {
         let pair = &self.values[self.node_of(var) as usize];
         LaneValues {
@@ -314,19 +293,14 @@ impl Planes {
     // A node itself, or the source of a wire.
     #[inline(always)]
     fn node_of(&self, var: u32) -> u32
-        requires { var < variables_of self.now }
-        ensures inside { result < self.now.inputs + length self.now.gates }
-        ensures node { var < self.now.inputs + length self.now.gates → result ≡ var }
-        ensures wire { self.now.inputs + length self.now.gates ≤ var
-            → slice_get (pin_sources self.now.gates)
-            (var - (self.now.inputs + length self.now.gates))
-            ≡ Some result }
+        requires { IsVariable self.now.netlist var }
+        ensures { IsNodeOf self.now.netlist var result }
     {
-        let nodes = self.values.len() as u32;
-        if var < nodes {
-            return var;
+        match self.net.kind_of(var) {
+            VarKind::Wire { source, .. } => source,
+            VarKind::Input { .. } => var,
+            VarKind::Gate { .. } => var,
         }
-        self.gates.source(var - nodes)
     }
 }
 

@@ -30,6 +30,7 @@ impl Schedule {
     pub(crate) fn of(alloc: Global, net: &Net) -> Result<Schedule, Memory>
         ensures { IfOk result (IsSchedule net.now) }
     {
+        net.keeps_shape();
         let Order { gates: order, ends } = order_gates(alloc, net)?;
         let by_node = list_by_node(alloc, net, order.as_slice())?;
         let readers = list_readers(alloc, net, order.as_slice(), &by_node)?;

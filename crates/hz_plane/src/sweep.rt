@@ -113,8 +113,6 @@ impl<'a> Pass<'a> {
     /// Evaluates gates in place, each of them at least once, until no gate would change.
     pub(crate) fn run(&self, marks: &mut [u64], planes: &mut [Pair])
         requires schedule { IsSchedule self.now.net.now self.now.schedule.now }
-        requires circuit { IsCircuit self.now.net.now }
-        requires whole { IsWhole self.now.net.now }
         requires long { length planes.old ≡ length self.now.net.now.names }
         requires planes { AreAllPlanes planes.old }
         requires marks { length marks.old
@@ -138,8 +136,6 @@ impl<'a> Pass<'a> {
     // Evaluates the gates of a part of the order, until none of them would change.
     fn rest(&self, begin: usize, end: usize, marks: &mut [u64], planes: &mut [Pair])
         requires schedule { IsSchedule self.now.net.now self.now.schedule.now }
-        requires circuit { IsCircuit self.now.net.now }
-        requires whole { IsWhole self.now.net.now }
         requires long { length planes.old ≡ length self.now.net.now.names }
         requires planes { AreAllPlanes planes.old }
         requires marks { length marks.old
@@ -166,8 +162,6 @@ impl<'a> Pass<'a> {
     #[inline(always)]
     fn sweep_first(&self, begin: usize, end: usize, marks: &mut [u64], planes: &mut [Pair]) -> Span
         requires schedule { IsSchedule self.now.net.now self.now.schedule.now }
-        requires circuit { IsCircuit self.now.net.now }
-        requires whole { IsWhole self.now.net.now }
         requires long { length planes.old ≡ length self.now.net.now.names }
         requires planes { AreAllPlanes planes.old }
         requires marks { length marks.old
@@ -198,8 +192,6 @@ impl<'a> Pass<'a> {
     #[inline(always)]
     fn visit_first(&self, place: usize, marks: &mut [u64], planes: &mut [Pair], span: Span) -> Span
         requires schedule { IsSchedule self.now.net.now self.now.schedule.now }
-        requires circuit { IsCircuit self.now.net.now }
-        requires whole { IsWhole self.now.net.now }
         requires long { length planes.old ≡ length self.now.net.now.names }
         requires planes { AreAllPlanes planes.old }
         requires marks { length marks.old
@@ -236,8 +228,6 @@ impl<'a> Pass<'a> {
     #[inline(always)]
     fn sweep(&self, span: Span, end: usize, marks: &mut [u64], planes: &mut [Pair]) -> Span
         requires schedule { IsSchedule self.now.net.now self.now.schedule.now }
-        requires circuit { IsCircuit self.now.net.now }
-        requires whole { IsWhole self.now.net.now }
         requires long { length planes.old ≡ length self.now.net.now.names }
         requires planes { AreAllPlanes planes.old }
         requires marks { length marks.old
@@ -282,8 +272,6 @@ impl<'a> Pass<'a> {
         span: Span,
     ) -> Span
         requires schedule { IsSchedule self.now.net.now self.now.schedule.now }
-        requires circuit { IsCircuit self.now.net.now }
-        requires whole { IsWhole self.now.net.now }
         requires long { length planes.old ≡ length self.now.net.now.names }
         requires planes { AreAllPlanes planes.old }
         requires marks { length marks.old
@@ -323,8 +311,6 @@ impl<'a> Pass<'a> {
         span: Span,
     ) -> Span
         requires schedule { IsSchedule self.now.net.now self.now.schedule.now }
-        requires circuit { IsCircuit self.now.net.now }
-        requires whole { IsWhole self.now.net.now }
         requires long { length planes.old ≡ length self.now.net.now.names }
         requires planes { AreAllPlanes planes.old }
         requires marks { length marks.old
@@ -358,8 +344,6 @@ impl<'a> Pass<'a> {
     #[inline(always)]
     fn evaluate(&self, place: usize, planes: &mut [Pair]) -> bool
         requires schedule { IsSchedule self.now.net.now self.now.schedule.now }
-        requires circuit { IsCircuit self.now.net.now }
-        requires whole { IsWhole self.now.net.now }
         requires long { length planes.old ≡ length self.now.net.now.names }
         requires place { place < length self.now.schedule.now.order.items }
         ensures made { planes.new ≡ step_planes self.now.rule self.now.net.now planes.old
@@ -386,8 +370,6 @@ impl<'a> Pass<'a> {
     #[inline(always)]
     fn advance(&self, place: usize, planes: &mut [Pair])
         requires schedule { IsSchedule self.now.net.now self.now.schedule.now }
-        requires circuit { IsCircuit self.now.net.now }
-        requires whole { IsWhole self.now.net.now }
         requires long { length planes.old ≡ length self.now.net.now.names }
         requires place { place < length self.now.schedule.now.order.items }
         ensures { planes.new ≡ step_planes self.now.rule self.now.net.now planes.old
@@ -402,8 +384,6 @@ impl<'a> Pass<'a> {
     #[inline(always)]
     fn excited_at(&self, place: usize, planes: &[Pair]) -> Pair
         requires schedule { IsSchedule self.now.net.now self.now.schedule.now }
-        requires circuit { IsCircuit self.now.net.now }
-        requires whole { IsWhole self.now.net.now }
         requires long { length planes.now ≡ length self.now.net.now.names }
         requires place { place < length self.now.schedule.now.order.items }
         ensures { result ≡ gate_pair self.now.net.now planes.now

@@ -9,18 +9,16 @@ use Rattle.hz_batch.proofs.lanes.write_ending.Goals as goal
 
 pub returns-in-Some-Open-clause-gave : goal.returns-in-Some-Open-clause-gave
 returns-in-Some-Open-clause-gave g c =
-    λ loaded there. (Open c.in-Some-Open.gate, rw c.in-Some-Open.field-0-is at (c.in-Some-Open.ensures loaded there), refl, rw c.circuit.ensures.same at c.write_refused.ensures.gave)
+    λ loaded there. (Open c.in-Some-Open.gate, rw (c.requires.net, c.in-Some-Open.field-0-is) at (c.in-Some-Open.ensures loaded there), refl, rw c.circuit.ensures.same at c.write_refused.ensures.gave)
 
 pub returns-in-Some-Unstable-clause-gave : goal.returns-in-Some-Unstable-clause-gave
 returns-in-Some-Unstable-clause-gave g c =
-    λ loaded there. (Unstable c.in-Some-Unstable.gate, rw c.in-Some-Unstable.field-0-is at (c.in-Some-Unstable.ensures loaded there), refl, rw c.circuit-in-Some-Unstable.ensures.same at c.write_refused-in-Some-Unstable.ensures.gave)
+    λ loaded there. (Unstable c.in-Some-Unstable.gate, rw (c.requires.net, c.in-Some-Unstable.field-0-is) at (c.in-Some-Unstable.ensures loaded there), refl, rw c.circuit-in-Some-Unstable.ensures.same at c.write_refused-in-Some-Unstable.ensures.gave)
 
 pub returns-in-None-clause-gave : goal.returns-in-None-clause-gave
 returns-in-None-clause-gave g c =
     λ loaded there.
-    let circuit = c.keeps_shape.ensures.circuit in
-    let whole = c.keeps_shape.ensures.whole in
-    let found = results c.args.net.now loaded c.is_unsettled.result c.requires.a_exists c.requires.b_exists (c.in-None.ensures loaded there) (c.is_unsettled.ensures.start c.args.net.now loaded circuit whole c.requires.net there) in
+    let found = results c.args.net.now loaded c.is_unsettled.result c.requires.a_exists c.requires.b_exists (rw c.requires.net at (c.in-None.ensures loaded there)) (rw c.requires.net at (c.is_unsettled.ensures.start loaded there)) in
     let kept : HasColumns c.args.net.now.outputs c.args.columns.now.firsts.items c.args.at.lane found.a =
     λ place inside. first-of-a c.args.net.now loaded (get_or c.args.net.now.outputs place 0) (in_lane c.args.columns.now.firsts.items c.args.at.lane place) found.a found.b
     (c.requires.columns.firsts place inside c.args.at.lane loaded c.requires.lane there).0 found.ending in

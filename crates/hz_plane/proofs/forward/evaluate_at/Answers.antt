@@ -17,7 +17,7 @@ evaluate-requires-clause-known c =
     let net = c.args.net.now in
     let schedule = c.args.schedule.now in
     subst (λ (order : List ℕ). All (λ source. IsKnownPair (pair_at c.args.planes.now source)) (gate_at net (get_or order c.args.place 0)).sources) (sym c.as_slice.ensures.value)
-    (sources-known net c.requires.circuit schedule.order.items schedule.readers schedule.back c.requires.schedule.order c.requires.schedule.back (c.requires.schedule.forward c.requires.forward) c.args.planes.now c.args.place c.requires.place c.requires.below)
+    (sources-known net c.requires.schedule.circuit schedule.order.items schedule.readers schedule.back c.requires.schedule.order c.requires.schedule.back (c.requires.schedule.forward c.requires.forward) c.args.planes.now c.args.place c.requires.place c.requires.below)
 
 pub returns-clause-below : goal.returns-clause-below
 returns-clause-below c =
@@ -29,7 +29,7 @@ returns-clause-below c =
     subst (λ (order : List ℕ). c.evaluate.new.planes ≡ set planes (get_or order c.args.place 0) (gate_pair net planes (get_or order c.args.place 0))) c.as_slice.ensures.value c.evaluate.ensures.made in
     let known : IsKnownPair (gate_pair net planes gate) = subst (λ (order : List ℕ). IsKnownPair (gate_pair net planes (get_or order c.args.place 0))) c.as_slice.ensures.value c.evaluate.ensures.known in
     subst (AreEvaluatedBelow (c.args.place + 1) net schedule.order.items) (sym made)
-    (evaluated-more net c.requires.circuit schedule.order.items schedule.readers schedule.back c.requires.schedule.order c.requires.schedule.back (c.requires.schedule.forward c.requires.forward) planes c.args.place c.requires.long c.requires.place c.requires.below known)
+    (evaluated-more net c.requires.schedule.circuit schedule.order.items schedule.readers schedule.back c.requires.schedule.order c.requires.schedule.back (c.requires.schedule.forward c.requires.forward) planes c.args.place c.requires.long c.requires.place c.requires.below known)
 
 pub returns-clause-inputs : goal.returns-clause-inputs
 returns-clause-inputs c input few =

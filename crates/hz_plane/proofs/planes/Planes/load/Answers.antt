@@ -1,4 +1,5 @@
-use Rattle.std.proofs.Common.{◌≡◌, ◌∙◌, Bool, Some, set, slice_get, sym, ap, subst, arith, inl, inr}
+use Rattle.std.proofs.Common.{◌≡◌, ◌∙◌, Some, set, slice_get, sym, ap, subst, inl, inr}
+use Rattle.hz_plane.specs.Lanes.{ListsAllInputs}
 use Rattle.hz_plane.specs.Loads.{Loaded, LaneLoads}
 use Rattle.hz_plane.specs.View.{Seen}
 use Rattle.hz_plane.specs.Inside.{seen_of}
@@ -11,9 +12,9 @@ invariant_of-self c =
     let new : Loaded = record { input = c.args.input.now; listed = c.args.listed.now } in
     let made : c.load.new.self ≡ record fields.loads { lanes = set fields.loads.lanes c.args.lane (Some new) } = c.load.ensures in
     reloaded fields fields.stage c.load.new.self (ap (λ (s : Seen). s.stage) c.self.view_is ∙ c.requires.stage) c.self.invariant (ap (λ (l : LaneLoads). l.inputs) made) (ap (λ (l : LaneLoads). l.nodes) made)
-    (λ lane loaded at input below. elim (loaded-after fields.loads.lanes c.args.lane new loaded lane (ap (λ (l : LaneLoads). slice_get l.lanes lane) (sym made) ∙ at)) [
-      | inl here ↦ subst (λ (l : Loaded). (bit : Bool) × (slice_get l.listed input ≡ Some (Some bit))) here.1 (c.requires.inputs input (omega (arith, below, ap (λ (l : LaneLoads). l.inputs) c.load.ensures, ap (λ (s : Seen). s.inputs) c.self.view_is, c.requires.net.0)))
-      | inr there ↦ c.self.invariant.lists lane loaded there input (omega (arith, below, ap (λ (l : LaneLoads). l.inputs) made))
+    (λ lane loaded at. elim (loaded-after fields.loads.lanes c.args.lane new loaded lane (ap (λ (l : LaneLoads). slice_get l.lanes lane) (sym made) ∙ at)) [
+      | inl here ↦ subst (λ (l : Loaded). ListsAllInputs fields.net.now l.listed) here.1 (subst (λ (s : Seen). ListsAllInputs s.netlist c.args.listed.now) (sym c.self.view_is) c.requires.inputs)
+      | inr there ↦ c.self.invariant.lists lane loaded there
     ])
 
 pub returns : goal.returns

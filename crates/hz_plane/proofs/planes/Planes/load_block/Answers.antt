@@ -14,10 +14,9 @@ invariant_of-self c =
     let fields = c.self.inside in
     let n = fields.loads.inputs in
     let bits = c.args.bits.now in
-    let count : n ≡ c.args.net.now.inputs = ap (λ (s : Seen). s.inputs) c.self.view_is ∙ c.requires.net.0 in
+    let count : n ≡ c.args.self.now.netlist.inputs = c.self.invariant.inputs ∙ ap (λ (s : Seen). s.netlist.inputs) c.self.view_is in
     let room : length bits ≡ c.args.lanes * (2 * n) = c.requires.bits ∙ ap (λ (k : ℕ). c.args.lanes * (2 * k)) (sym count) in
-    let inputs : c.load_block.new.self.inputs ≡ n = ap (λ (l : LaneLoads). l.inputs) c.load_block.ensures in
-    reloaded fields Loading c.load_block.new.self refl c.self.invariant inputs (ap (λ (l : LaneLoads). l.nodes) c.load_block.ensures)
+    reloaded fields Loading c.load_block.new.self refl c.self.invariant (ap (λ (l : LaneLoads). l.inputs) c.load_block.ensures) (ap (λ (l : LaneLoads). l.nodes) c.load_block.ensures)
     (λ lane loaded at input below.
     let it = block-loaded fields.loads.nodes n c.args.held.now c.args.lanes lane bits loaded c.requires.lanes (ap (λ (l : LaneLoads). slice_get l.lanes lane) (sym c.load_block.ensures) ∙ at) in
     let within : (lane + 1) * (2 * n) ≤ c.args.lanes * (2 * n) = mul-le (lane + 1) (2 * n) c.args.lanes (2 * n) (omega (arith, it.0)) (omega arith) in
@@ -27,4 +26,4 @@ invariant_of-self c =
     subst (λ (l : Loaded). (bit : Bool) × (slice_get l.listed input ≡ Some (Some bit))) it.1
     (first-lists fields.loads.nodes (take n rest) c.args.held.now
     (λ k d inside. omega (arith, (c.requires.held k d inside).0, count, first))
-    input (omega (arith, below, inputs, first))))
+    input (omega (arith, below, c.self.invariant.inputs, first))))

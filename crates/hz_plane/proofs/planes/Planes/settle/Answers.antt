@@ -19,27 +19,25 @@ invariant_of-self c =
     let stage : fields.stage ≡ Spread = ap (λ (s : Seen). s.stage) c.self.view_is ∙ c.requires.stage in
     let values_back = written-back c.settle-are_evaluated.new.values c.settle-are_evaluated.auto.values c.as_mut_slice-2.ensures.value c.as_mut_slice-2.ensures.len in
     let marks_back = written-back c.settle-are_evaluated.new.marks c.settle-are_evaluated.auto.marks c.as_mut_slice.ensures.value c.as_mut_slice.ensures.len in
+    let netlist = fields.net.now in
     record {
+      inputs = held.inputs;
       nodes = held.nodes;
-      small = held.small;
       values_count = ap (length {A = Pair}) values_back.are ∙ (values_back.long ∙ held.values_count);
       marks = ap (length {A = ℕ}) marks_back.are ∙ (marks_back.long ∙ held.marks);
       faults_count = held.faults_count;
       values_planes = subst AreAllPlanes (sym values_back.are) c.settle-are_evaluated.ensures.planes;
-      sources = held.sources;
-      schedule = λ netlist of. held.schedule netlist (record { circuit = of.circuit; whole = of.whole; inputs = of.inputs; gates = of.gates });
+      schedule = held.schedule;
       lists = held.lists;
-      lanes = λ netlist lane loaded of at.
-          let inputs : c.args.net.now.inputs ≡ netlist.inputs = sym c.requires.net.0 ∙ (ap (λ (s : Seen). s.inputs) (sym c.self.view_is) ∙ of.inputs) in
-          let gates : c.args.net.now.gates ≡ netlist.gates = sym c.requires.net.1 ∙ (ap (λ (s : Seen). s.gates) (sym c.self.view_is) ∙ of.gates) in
+      lanes = λ lane loaded at.
           let inside : lane < 512 = omega (arith, slice_get_within fields.loads.lanes lane (Some loaded) at, c.inputs.ensures.long) in
           let is : lane_input c.inputs.result.now lane ≡ loaded.input = c.inputs.ensures.lanes lane loaded at in
-          let was : LaneHolds Spread netlist loaded fields.values.items lane = subst (λ (s : Stage). LaneHolds s netlist loaded fields.values.items lane) stage (held.lanes netlist lane loaded (record { circuit = of.circuit; whole = of.whole; inputs = of.inputs; gates = of.gates }) at) in
+          let was : LaneHolds Spread netlist loaded fields.values.items lane = subst (λ (s : Stage). LaneHolds s netlist loaded fields.values.items lane) stage (held.lanes lane loaded at) in
           subst (λ (values : List Pair). LaneHolds Settled netlist loaded values lane) (sym values_back.are)
-          (holds-settled netlist of.circuit loaded fields.values.items c.settle-are_evaluated.new.values lane c.inputs.result.now is was
-          (λ input first nodes rest has are bits falls settled. c.settle-are_evaluated.ensures.lanes netlist of.circuit of.whole inputs gates lane input first nodes rest inside
+          (holds-settled netlist held.schedule.circuit loaded fields.values.items c.settle-are_evaluated.new.values lane c.inputs.result.now is was
+          (λ input first nodes rest has are bits falls settled. c.settle-are_evaluated.ensures.lanes lane input first nodes rest inside
           (subst (λ (planes : List Pair). HasLane planes lane nodes) (sym c.as_mut_slice-2.ensures.value) has) are bits falls settled));
-      faults = λ netlist lane loaded of at begun. held.faults netlist lane loaded (record { circuit = of.circuit; whole = of.whole; inputs = of.inputs; gates = of.gates }) at (λ e. (let wrong : Spread ≡ Loading = sym stage ∙ e in cc));
+      faults = λ lane loaded at begun. held.faults lane loaded at (λ e. (let wrong : Spread ≡ Loading = sym stage ∙ e in cc));
       unsettled = λ settled. subst (λ (planes : List Pair). AreUnknownLanes planes (length planes) c.unsettled_lanes-self-inside.result) c.as_slice.ensures.value c.unsettled_lanes-self-inside.ensures;
     }
 

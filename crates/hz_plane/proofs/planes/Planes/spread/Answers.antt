@@ -17,27 +17,25 @@ invariant_of-self c =
     let stage : fields.stage ≡ Completed = ap (λ (s : Seen). s.stage) c.self.view_is ∙ c.requires.stage in
     let values_back = written-back c.spread.new.values c.spread.auto.values c.as_mut_slice-2.ensures.value c.as_mut_slice-2.ensures.len in
     let marks_back = written-back c.spread.new.marks c.spread.auto.marks c.as_mut_slice.ensures.value c.as_mut_slice.ensures.len in
+    let netlist = fields.net.now in
     record {
+      inputs = held.inputs;
       nodes = held.nodes;
-      small = held.small;
       values_count = ap (length {A = Pair}) values_back.are ∙ (values_back.long ∙ held.values_count);
       marks = ap (length {A = ℕ}) marks_back.are ∙ (marks_back.long ∙ held.marks);
       faults_count = held.faults_count;
       values_planes = subst AreAllPlanes (sym values_back.are) c.spread.ensures.planes;
-      sources = held.sources;
-      schedule = λ netlist of. held.schedule netlist (record { circuit = of.circuit; whole = of.whole; inputs = of.inputs; gates = of.gates });
+      schedule = held.schedule;
       lists = held.lists;
-      lanes = λ netlist lane loaded of at.
-          let inputs : c.args.net.now.inputs ≡ netlist.inputs = sym c.requires.net.0 ∙ (ap (λ (s : Seen). s.inputs) (sym c.self.view_is) ∙ of.inputs) in
-          let gates : c.args.net.now.gates ≡ netlist.gates = sym c.requires.net.1 ∙ (ap (λ (s : Seen). s.gates) (sym c.self.view_is) ∙ of.gates) in
+      lanes = λ lane loaded at.
           let inside : lane < 512 = omega (arith, slice_get_within fields.loads.lanes lane (Some loaded) at, c.inputs.ensures.long) in
           let is : lane_input c.inputs.result.now lane ≡ loaded.input = c.inputs.ensures.lanes lane loaded at in
-          let was : LaneHolds Completed netlist loaded fields.values.items lane = subst (λ (s : Stage). LaneHolds s netlist loaded fields.values.items lane) stage (held.lanes netlist lane loaded (record { circuit = of.circuit; whole = of.whole; inputs = of.inputs; gates = of.gates }) at) in
+          let was : LaneHolds Completed netlist loaded fields.values.items lane = subst (λ (s : Stage). LaneHolds s netlist loaded fields.values.items lane) stage (held.lanes lane loaded at) in
           subst (λ (values : List Pair). LaneHolds Spread netlist loaded values lane) (sym values_back.are)
-          (holds-spread netlist of.circuit loaded fields.values.items c.spread.new.values lane c.inputs.result.now is was
-          (λ input first nodes rounds has are bits rounded. c.spread.ensures.lanes netlist of.circuit of.whole inputs gates lane input first nodes rounds inside
+          (holds-spread netlist held.schedule.circuit loaded fields.values.items c.spread.new.values lane c.inputs.result.now is was
+          (λ input first nodes rounds has are bits rounded. c.spread.ensures.lanes lane input first nodes rounds inside
           (subst (λ (planes : List Pair). HasLane planes lane nodes) (sym c.as_mut_slice-2.ensures.value) has) are bits rounded));
-      faults = λ netlist lane loaded of at begun. held.faults netlist lane loaded (record { circuit = of.circuit; whole = of.whole; inputs = of.inputs; gates = of.gates }) at (λ e. (let wrong : Completed ≡ Loading = sym stage ∙ e in cc));
+      faults = λ lane loaded at begun. held.faults lane loaded at (λ e. (let wrong : Completed ≡ Loading = sym stage ∙ e in cc));
       unsettled = λ settled. cc;
     }
 
