@@ -47,7 +47,6 @@ pub mod Kleene
 pub mod Pattern
 pub mod BitOrSwitch
 pub mod NameHash
-pub mod NodeName
 pub mod Netlist
 pub mod Pins
 pub mod Inside

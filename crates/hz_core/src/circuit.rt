@@ -8,7 +8,7 @@ ghost use Rattle.hz_core.specs.Pins.{with_pins};
 ghost use Rattle.hz_core.specs.Limits.{most_variables};
 
 use crate::gate::GateEntry;
-use crate::name::NodeName;
+use crate::name::{Name, NodeName};
 use crate::{Kind, Memory, NameHashing};
 use hz_lists::NumberList;
 use indexmap::IndexSet;
@@ -27,7 +27,7 @@ pub const MAX_VARIABLES: u32 = 200_000;
 /// node. So a clocked circuit is one without flip-flops between two edges of its clock.
 #[derive(Debug, Drop)]
 pub struct Circuit {
-    names: IndexSet<NodeName<'static>, NameHashing>,
+    names: IndexSet<NodeName, NameHashing>,
     inputs: u32,
     cuts: Vec<Option<u32>>,
     gates: Vec<GateEntry>,
@@ -65,7 +65,7 @@ impl Circuit {
     }
 
     // A circuit without nodes.
-    fn of_names(alloc: Global, names: IndexSet<NodeName<'static>, NameHashing>) -> Circuit
+    fn of_names(alloc: Global, names: IndexSet<NodeName, NameHashing>) -> Circuit
         requires { names.keys ≡ [] }
         ensures { result ≡ empty_netlist }
     {
@@ -209,7 +209,7 @@ impl Circuit {
         ensures found { result ≡ node_named self.now name.now }
         ensures circuit { IsCircuit self.now }
     {
-        let place = self.names.get_index_of(&NodeName::sought(name))?;
+        let place = self.names.get_index_of(&Name::new(name))?;
         Some(place as u32)
     }
 
@@ -314,12 +314,12 @@ impl Circuit {
 
 // Adds a name after the others.
 #[inline(always)]
-fn add_name(names: &mut IndexSet<NodeName<'static>, NameHashing>, name: &[u8]) -> Result<(), Memory>
+fn add_name(names: &mut IndexSet<NodeName, NameHashing>, name: &[u8]) -> Result<(), Memory>
     requires { position (bytes_eq name.now) names.old.keys ≡ None }
     ensures ok { OnOk result (names.new.keys ≡ names.old.keys ++ name.now ∷ []) }
     ensures err { OnErr result (names.new.keys ≡ names.old.keys) }
 {
-    let entry = NodeName::kept(*names.allocator(), name)?;
+    let entry = NodeName::new(*names.allocator(), name)?;
     names.insert(entry)?;
     Ok(())
 }

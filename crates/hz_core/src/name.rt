@@ -11,6 +11,7 @@ ghost use Rattle.hz_core.specs.NameHash.{words_of};
 
 use crate::Memory;
 use crate::bytes::four_at;
+use indexmap::Equivalent;
 use smallvec::SmallVec;
 use std::alloc::Global;
 use std::hash::{Hash, Hasher};
@@ -77,63 +78,39 @@ impl<'a> Hash for Name<'a> {
     }
 }
 
-// The bytes of a name. Most names are short, and need no allocation.
+// A name that a circuit keeps. Most names are short, and need no allocation.
 #[derive(Debug, Drop)]
-enum NodeBytes<'a> {
-    Kept(SmallVec<u8, 16>),
-    Sought(&'a [u8]),
+pub(crate) struct NodeName {
+    bytes: SmallVec<u8, 16>,
 }
 
-// A name that a circuit keeps, or one that is sought in it.
-#[derive(Debug, Drop)]
-pub(crate) struct NodeName<'a> {
-    bytes: NodeBytes<'a>,
-}
-
-impl<'a> Model for NodeName<'a> {
+impl Model for NodeName {
     ghost use Rattle.std.specs.Prelude.{ℕ, List};
-    ghost use Rattle.hz_core.specs.NodeName.{bytes_in};
 
     ghost Value = { List ℕ };
 
-    ghost view = { λ name. bytes_in name.bytes };
+    ghost view = { λ name. name.bytes.items };
 }
 
-impl<'a> NodeName<'a> {
-    // The name with these bytes, to be kept.
-    pub(crate) fn kept(alloc: Global, name: &[u8]) -> Result<NodeName<'a>, Memory>
+impl NodeName {
+    pub(crate) fn new(alloc: Global, name: &[u8]) -> Result<NodeName, Memory>
         ensures { IfOk result (λ kept. kept ≡ name.now) }
     {
         let Ok(bytes) = SmallVec::from_slice(alloc, name) else {
             return Err(Memory);
         };
-        Ok(NodeName {
-            bytes: NodeBytes::Kept(bytes),
-        })
-    }
-
-    // The name with these bytes, to be sought.
-    #[inline(always)]
-    pub(crate) fn sought(name: &'a [u8]) -> NodeName<'a>
-        ensures { result ≡ name.now }
-    {
-        NodeName {
-            bytes: NodeBytes::Sought(name),
-        }
+        Ok(NodeName { bytes })
     }
 
     #[inline(always)]
     pub(crate) fn as_slice(&self) -> &[u8]
         ensures { result.now ≡ self.now }
     {
-        match &self.bytes {
-            NodeBytes::Kept(bytes) => bytes.as_slice(),
-            NodeBytes::Sought(bytes) => bytes,
-        }
+        self.bytes.as_slice()
     }
 }
 
-impl<'a> PartialEq for NodeName<'a> {
+impl PartialEq for NodeName {
     ghost eq = { bytes_eq };
 
     ghost laws = { partial_equiv_from_equiv nat_list_eq_equiv };
@@ -143,17 +120,32 @@ impl<'a> PartialEq for NodeName<'a> {
     }
 }
 
-impl<'a> Eq for NodeName<'a> {
+impl Eq for NodeName {
     ghost laws = { nat_list_eq_equiv };
 }
 
-impl<'a> Hash for NodeName<'a> {
+impl Hash for NodeName {
     ghost hash_input = { words_of };
 
     ghost respects_eq = { λ name other same. ap words_of ((bytes_decides name other).0 same) };
 
+    #[inline(always)]
     fn hash<H: Hasher>(&self, state: &mut H) {
         write_words(self.as_slice(), state);
+    }
+}
+
+// A circuit's names are sought by names that borrow their bytes.
+impl<'a> Equivalent<NodeName> for &Name<'a> {
+    ghost equivalent = { λ name. bytes_eq name.now };
+
+    ghost respects_hash = { λ name kept same. ap words_of ((bytes_decides name.now kept).0 same) };
+
+    ghost respects_eq = { λ name. nat_list_eq_equiv.congr name.now };
+
+    #[inline(always)]
+    fn equivalent(&self, key: &NodeName) -> bool {
+        same_name(self.bytes, key.as_slice())
     }
 }
 
