@@ -177,8 +177,10 @@ class Proposal:
         self.chosen.sort(key=lambda one: one.wires)
 
     def uses(self, one):
-        """The numbers of the changes that use an assumption."""
-        return [change.number for change in self.after if any(used.first == one.first and one.second in (None, used.second) for used in change.used)]
+        """The numbers of the changes that use an assumption, and in which its second wire can move: else each run keeps it."""
+        second = self.network.number[one.second or one.first]
+        used = [change for change in self.after if any(each.first == one.first and one.second in (None, each.second) for each in change.used)]
+        return [change.number for change, ranks in zip(used, self._ranks(used)) if one.second is None or second in ranks.round]
 
     def report(self, chosen):
         """The changes under what is chosen, without their runs."""

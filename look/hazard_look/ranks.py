@@ -87,9 +87,34 @@ class Ranks:
         return found[::-1]
 
     def paths(self, early, late):
-        """The paths to two variables, from where they part."""
-        first, second = self.path(early), self.path(late)
+        """The paths to two variables, from where they part. Of the paths on which the later one moves first, one that parts last."""
+        first = self.path(early)
+        second = self._path_along(first, late)
         common = 0
         while common < min(len(first), len(second)) - 1 and first[common] == second[common]:
             common += 1
         return first[common:], second[common:]
+
+    def _path_along(self, first, late):
+        """A path by which a variable moves first, as far along another path as it goes."""
+        onward, level = {late: None}, [late]
+        while level:
+            shared = next((variable for variable in level if variable in first), None)
+            if shared is not None:
+                path = first[:first.index(shared)]
+                while shared is not None:
+                    path.append(shared)
+                    shared = onward[shared]
+                return path
+            before = [(cause, variable) for variable in level for cause in self._causes(variable)]
+            for cause, variable in before:
+                onward.setdefault(cause, variable)
+            level = list(dict.fromkeys(cause for cause, _ in before))
+        return self.path(late)
+
+    def _causes(self, variable):
+        """What a variable reads that moves in the round before, and without which it would be held."""
+        pins = self.network.reads(variable)
+        control = self.network.control(variable, self.start[variable])
+        held = any(self.start[pin] == control for pin in pins)
+        return [pin for pin in pins if self.round.get(pin) == self.round[variable] - 1 and (not held or self.start[pin] == control)]

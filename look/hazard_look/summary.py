@@ -1,4 +1,5 @@
-"""The job `summary`: a line for each change of a script, and a sentence for each node that may do more than one clean edge."""
+"""The job `summary`: a line for each change of a script, and a sentence for each node that may do more than one clean edge. Nodes of which
+the same is said share it."""
 import json
 
 from . import clock, script
@@ -135,7 +136,7 @@ class _Teller:
         rows = told if self.words.all or len(told) <= MOST_LINES else [row for row in told if row.name in of_root][:None if self.words.roots else MOST_LINES]
         more = len(told) - len(rows)
         lines = [f"{change.title()}: {_verdict(told, finding)}{'' if change.changes() else '; no input changes'}"]
-        lines += [f"  {line}" for line in under(change)] + [_line(row, change) for row in rows]
+        lines += [f"  {line}" for line in under(change)] + ([_line(row, change) for row in rows] if self.words.all else _shared(rows, change))
         lines += [f"  .. and {more} more, which --all has"] if more else []
         names = {row.name for row in told}
         return lines + [_line(row, change) for row in change.rows.values() if self.words.all and row.name in self.chosen and row.name not in names]
@@ -194,6 +195,14 @@ def _verdict(told, finding):
 
 def _line(row, change):
     return f"  {row.name} {kind_of(row)}: {meaning(row, change.used)}"
+
+
+def _shared(rows, change):
+    """A line for each sentence, with the nodes of which it is said."""
+    names = {}
+    for row in rows:
+        names.setdefault((kind_of(row), meaning(row, change.used)), []).append(row.name)
+    return [f"  {', '.join(of)} {kind}{', each' if len(of) > 1 else ''}: {said}" for (kind, said), of in names.items()]
 
 
 def meaning(row, used=()):

@@ -13,6 +13,10 @@ class Wave(NamedTuple):
     values: list
     unstable: list
 
+    def tells(self):
+        """Whether the variable moves or waits."""
+        return len(set(self.values)) > 1 or any(self.unstable)
+
 
 def waves(follower, steps, variables, begin=0):
     """The waves of some variables along a run from one of its states on; the follower is where it was."""

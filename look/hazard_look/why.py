@@ -18,7 +18,8 @@ from .summary import meaning, under
 from .waves import LEGEND, drawn, waves
 
 # How many variables and how many steps a waveform shows: between two edges may be many steps, but of an end or a cycle the last ones tell enough.
-MOST_WAVES = 40
+# Of an end or a cycle with many waves only nodes are drawn.
+MOST_WAVES, MANY_WAVES = 40, 16
 MOST_STEPS, MOST_LAST = 200, 40
 
 
@@ -244,7 +245,10 @@ def _write(out, searcher, name, shown):
     begin = max(0, len(steps) - (MOST_STEPS if shown.cycle is None else MOST_LAST))
     if begin:
         out.write(f"the steps from {begin + 1} on; --save keeps all\n")
-    rows = waves(follower, steps, _variables(searcher, node, steps), begin)
+    rows = [row for row in waves(follower, steps, _variables(searcher, node, steps), begin) if row.name == name or row.tells()]
+    if shown.cycle is not None and len(rows) > MANY_WAVES:
+        rows = [row for row in rows if not network.is_wire(network.number[row.name])]
+        out.write("wires are not drawn\n")
     out.write("\n".join(drawn(rows, begin)) + "\n")
     out.write(f"{LEGEND}\n")
 

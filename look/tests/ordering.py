@@ -66,6 +66,11 @@ def _proposed(folder, call, write, example):
         yield f"orders for {name} that are to fail", call(["orders", "--fail"] + example(name))[0], int("left" in said)
     sentence = "wire r(2) no later than s(2), s, r(1): 1 wire against 1 gate and 2 wires"
     yield "the sentence", call(["orders"] + example("flipflop")), (0, f"{sentence}; in changes 3, 5\norder r(2) r(1)\nbefore: 3 hazards; left: none\n")
+    yield "changes in which the second wire can move", [line.split("; ")[-1] for line in call(["orders"] + example("clockgate"))[1].splitlines() if "; in" in line], ["in changes 2, 5"] * 2
+    same = [write(folder, "s.bench", "INPUT(b)\nINPUT(a)\nn = NOT(a)\nx = OR(b, a)\ny = BUFF(x)\nz = AND(n, y)\n"), write(folder, "s.txt", "start a=0 b=0\nchange a=1 b=1\n")]
+    yield "paths from one input", call(["orders"] + same)[1].split(":")[0], "n(1), n, z(1) no later than x(2), x, y(1), y, z(2)"
+    waves = call(["why", os.path.join(folder, "m.bench"), os.path.join(folder, "m.txt"), "c1", "2"])[1]
+    yield "a long waveform", ("wires are not drawn" in waves, re.findall(r"^\S+\(\d+\) +[-_~/\\\\]+$", waves, re.M)), (True, [])
     yield from _exact(folder, call, write, example)
     yield "an order that mends", call(["why"] + example("flipflop") + ["q"])[1].splitlines()[-1], f"order r(2) r(1) alone makes q clean (it keeps 1): {sentence}"
 

@@ -58,7 +58,7 @@ CIRCUITS = {
     "a burst-mode machine": (
         ("an essential hazard by its name", "why", HUFFMAN, "start a=0 b=0 y=0\nchange a=1 b=1\n", ["z"], 0, ("an essential hazard", "y(1), y, z(3), z"), ()),
         ("its feedback is padded: that can be said, and is enough", "expect", HUFFMAN, "start a=0 b=0 y=0\norder z(1) z(3)\nchange a=1 b=1 #expect z clean\n", [], 0, ("1 expectation, 0 failed",), ()),
-        ("what padding has to do", "why", HUFFMAN, "start a=0 b=0 y=0\nchange a=1 b=1\n", ["z"], 0, ("order z(1) z(3) alone makes z clean: a, na(1), na, z(1) no later than b, both(2), both, y(1), y, z(3)",), ()),
+        ("what padding has to do", "why", HUFFMAN, "start a=0 b=0 y=0\nchange a=1 b=1\n", ["z"], 0, ("order z(1) z(3) alone makes z clean: na(1), na, z(1) no later than both(1), both, y(1), y, z(3)",), ()),
     ),
     "the same with its feedback as a flip-flop": (
         ("slow feedback as a cut", "expect", SLOW, "start a=0 b=0 y=0 #expect z clean\nchange a=1 b=1\n#clock #expect yn steady\nchange a=0\n", [], 0, ("0 failed",), ()),
