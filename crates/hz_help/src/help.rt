@@ -1,6 +1,6 @@
 //! What a person needs next after a refusal, on standard error. No contract speaks of it.
 
-use hz_outside::FirstLines;
+use hz_outside::{FirstLines, Place};
 use hz_top::{Answer, Reached, Status};
 use std::alloc::{AllocError, Global};
 use std::io::{Read, Seek, SeekFrom};
@@ -30,6 +30,9 @@ const SYSTEM: u8 = 10;
 
 /// What is said if memory runs out.
 const WITHOUT_MEMORY: &str = "hazard: out of memory";
+
+/// What is said of a line with an assumption that is refused.
+const ASSUMPTIONS: &str = "hazard: `edges` and `explore` read `order GATE(PIN) GATE(PIN) [NUMBER]` and `ideal GATE(PIN)`";
 
 /// The jobs, their files and options, and an example.
 const USAGE: &str = "\
@@ -113,7 +116,7 @@ fn tell_usage(rt: &HostRuntime) {
 
 // The line of the text that a refusal names, if it names one.
 fn tell_line(rt: &HostRuntime, reached: Reached<'_>, read: FirstLines) {
-    let Reached { name, line, .. } = reached;
+    let Reached { place, name, line } = reached;
     if line == 0 {
         return;
     }
@@ -127,10 +130,20 @@ fn tell_line(rt: &HostRuntime, reached: Reached<'_>, read: FirstLines) {
     let Some(text) = read_line(rt, name, line as usize, read) else {
         return;
     };
-    let Ok(text) = visible(rt.alloc(), shown_of(text.as_slice())) else {
+    let text = shown_of(text.as_slice());
+    let Ok(visible_text) = visible(rt.alloc(), text) else {
         return;
     };
-    let _ = eprintln!(rt; "{shown}:{line}: {text}");
+    let _ = eprintln!(rt; "{shown}:{line}: {visible_text}");
+    if place == Place::Second && is_assumption(text) {
+        say(rt, ASSUMPTIONS);
+    }
+}
+
+// Whether a line of a script begins as an assumption does.
+fn is_assumption(line: &[u8]) -> bool {
+    let line = line.trim_ascii_start();
+    line.starts_with(b"order ") || line.starts_with(b"ideal ")
 }
 
 // Whether a file can be read once more. A pipe gives its bytes only once, and opening it again may wait for ever.
