@@ -1,5 +1,7 @@
 -- The fault of the lane, or both results.
-use Rattle.std.proofs.Common.{refl, ap, ◌∙◌, get_or}
+use Rattle.std.proofs.Common.{refl, ap, subst, ◌∙◌, get_or}
+use Rattle.hz_core.specs.Netlist.{Netlist}
+use Rattle.hz_net.specs.Starts.{IsLeastOpen, IsLeastUnstable}
 use Rattle.hz_batch.specs.Columns.{HasColumns}
 use Rattle.hz_batch.specs.PatternEnd.{Open, Unstable, Settled}
 use Rattle.hz_batch.specs.Counts.{settled_mark}
@@ -9,11 +11,21 @@ use Rattle.hz_batch.proofs.lanes.write_ending.Goals as goal
 
 pub returns-in-Some-Open-clause-gave : goal.returns-in-Some-Open-clause-gave
 returns-in-Some-Open-clause-gave g c =
-    λ loaded there. (Open c.in-Some-Open.gate, rw (c.requires.net, c.in-Some-Open.field-0-is) at (c.in-Some-Open.ensures loaded there), refl, rw c.circuit.ensures.same at c.write_refused.ensures.gave)
+    λ loaded there. (
+      Open c.in-Some-Open.gate,
+      subst (λ (netlist : Netlist). IsLeastOpen netlist loaded.listed c.in-Some-Open.gate) c.requires.net (rw c.in-Some-Open.field-0-is at (c.in-Some-Open.ensures loaded there)),
+      refl,
+      rw c.circuit.ensures.same at c.write_refused.ensures.gave,
+    )
 
 pub returns-in-Some-Unstable-clause-gave : goal.returns-in-Some-Unstable-clause-gave
 returns-in-Some-Unstable-clause-gave g c =
-    λ loaded there. (Unstable c.in-Some-Unstable.gate, rw (c.requires.net, c.in-Some-Unstable.field-0-is) at (c.in-Some-Unstable.ensures loaded there), refl, rw c.circuit-in-Some-Unstable.ensures.same at c.write_refused-in-Some-Unstable.ensures.gave)
+    λ loaded there. (
+      Unstable c.in-Some-Unstable.gate,
+      subst (λ (netlist : Netlist). IsLeastUnstable netlist loaded.listed c.in-Some-Unstable.gate) c.requires.net (rw c.in-Some-Unstable.field-0-is at (c.in-Some-Unstable.ensures loaded there)),
+      refl,
+      rw c.circuit-in-Some-Unstable.ensures.same at c.write_refused-in-Some-Unstable.ensures.gave,
+    )
 
 pub returns-in-None-clause-gave : goal.returns-in-None-clause-gave
 returns-in-None-clause-gave g c =
