@@ -17,6 +17,7 @@
 pub mod Element
 pub mod Circuit
 pub mod Names
+pub mod Key
 pub mod Table
 pub mod Build
 pub mod Draft

@@ -17,6 +17,7 @@ ghost use Rattle.hz_netlist.specs.Element.{Element};
 ghost use Rattle.hz_netlist.specs.Names.{AreNumbers, name_at};
 
 use crate::build::{add_outputs_and_data, resolve};
+use crate::growing::push;
 use crate::names::NameTable;
 use hz_core::{Circuit, Kind, Memory};
 use itoa::Buffer;
@@ -175,9 +176,7 @@ fn resolve_sources(
             Source::Name(name) => nodes[*name as usize],
             Source::Gate(gate) => (inputs + *gate) as u32,
         };
-        let Ok(()) = pins.push(node) else {
-            return Err(Memory);
-        };
+        push(&mut pins, node)?;
     }
     Ok(pins)
 }

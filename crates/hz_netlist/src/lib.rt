@@ -8,13 +8,18 @@
 //! | Module | What lives in it |
 //! |---|---|
 //! | `names` | [`NameTable`]: names with their numbers, and the lines that define and use them first |
+//! | `key` | the keys of that table |
 //! | `draft` | [`Draft`]: what was read of a text; [`build_draft`]: its circuit |
 //! | `build` | outputs, and the nodes of names |
+//! | `growing` | [`push`]: lists that grow by one item at a time |
 #![tactic(auto)]
 
 mod build;
 mod draft;
+mod growing;
+mod key;
 mod names;
 
 pub use draft::{Draft, Gate, Role, Source, build_draft};
+pub use growing::push;
 pub use names::{Definition, NameTable};

@@ -14,11 +14,11 @@ returns-clause-seen c =
       | then-is_new w ↦
           w.self-is ∙ ap (λ (names : List (List ℕ)). seen_with names w.push_reserved.new.self.items) (c.in-Ok-insert_full.ensures.keys ∙ keys-new c.self.inside.names.keys c.new.result c.args.name.now c.new.ensures c.in-Ok-insert_full.is_new c.in-Ok-insert_full.ensures.added w.if-is_new.true)
           ∙ ap (λ (lines : List Lines). seen_with (c.self.inside.names.keys ++ c.args.name.now ∷ []) lines)
-          (w.push_reserved.ensures.items ∙ ap (λ (was : List Lines). was ++ no_lines ∷ []) c.in_ok-reserve.ensures.items)
+          (w.push_reserved.ensures.items ∙ ap (λ (was : List Lines). was ++ no_lines ∷ []) c.in_ok-reserve_one.ensures.items)
           ∙ names-more c.self.inside.names.keys c.self.inside.lines.items c.args.self.now c.self.invariant.counted c.self.view_is c.args.name.now (absent-new c.self.inside.names.keys c.new.result c.args.name.now c.new.ensures c.in-Ok-insert_full.is_new c.in-Ok-insert_full.ensures.added w.if-is_new.true)
       | else-is_new w ↦
-          w.self-is ∙ ap (λ (names : List (List ℕ)). seen_with names c.reserve.new.self.items) (c.in-Ok-insert_full.ensures.keys ∙ keys-old c.self.inside.names.keys c.new.result c.args.name.now c.new.ensures c.in-Ok-insert_full.is_new c.in-Ok-insert_full.ensures.added w.if-is_new.false)
-          ∙ ap (λ (lines : List Lines). seen_with c.self.inside.names.keys lines) c.in_ok-reserve.ensures.items
+          w.self-is ∙ ap (λ (names : List (List ℕ)). seen_with names c.reserve_one.new.items.items) (c.in-Ok-insert_full.ensures.keys ∙ keys-old c.self.inside.names.keys c.new.result c.args.name.now c.new.ensures c.in-Ok-insert_full.is_new c.in-Ok-insert_full.ensures.added w.if-is_new.false)
+          ∙ ap (λ (lines : List Lines). seen_with c.self.inside.names.keys lines) c.in_ok-reserve_one.ensures.items
           ∙ names-same c.self.inside.names.keys c.self.inside.lines.items c.args.self.now c.self.invariant.counted c.self.view_is c.args.name.now (there-old c.self.inside.names.keys c.new.result c.args.name.now c.new.ensures c.in-Ok-insert_full.is_new c.in-Ok-insert_full.ensures.added w.if-is_new.false)
     ]
 
