@@ -32,7 +32,7 @@ use crate::notes::{Notes, Redefinition};
 use crate::statement::{punctuated_word, statement_of};
 use hz_core::{Kind, MAX_PINS, MAX_VARIABLES, Memory};
 use hz_line::{is_blank_line, split_line};
-use hz_netlist::{Gate, NameTable, Role, Source};
+use hz_netlist::{Gate, NameTable, Role, Source, push};
 use std::alloc::Global;
 
 /// What was read of the statements of a text.
@@ -264,15 +264,4 @@ fn use_names<'a>(
         left = source.rest;
     }
     Ok(())
-}
-
-// Adds an item to a list.
-#[inline(always)]
-fn push<T: Drop>(items: &mut Vec<T>, item: T) -> Result<(), Memory>
-    ensures { OnOk result (items.new.items ≡ items.old.items ++ item ∷ []) }
-{
-    match items.push(item) {
-        Ok(()) => Ok(()),
-        Err(_) => Err(Memory),
-    }
 }
