@@ -122,7 +122,7 @@ fn add_statement(
     match held {
         RunHeld::Run => runs.begin_run(alloc),
         RunHeld::Step(variables) => add_step(runs, variables, flips),
-        RunHeld::StepOfOne(variable) => add_step(runs, slice::from_ref(variable), flips),
+        RunHeld::StepOfOne(variable) => add_step_of_one(runs, *variable),
         RunHeld::Cycle => begin_cycle(alloc, runs),
         _ => unreachable!(),
     }
@@ -149,6 +149,18 @@ fn add_step(
 {
     read_known(variables, flips)?;
     runs.push_step(flips.as_slice())
+}
+
+// Adds a step of one variable to the last run.
+fn add_step_of_one(runs: &mut RunBuilder, variable: Option<u32>) -> Result<(), Memory>
+    requires follows { IsSome (place_after (last_place runs.old) (Step (variable ∷ []))) }
+    requires known { list_any is_none (variable ∷ []) ≡ false }
+    ensures { OnOk result (IsRunAdded runs.old (Step (variable ∷ [])) runs.new) }
+{
+    let Some(variable) = variable else {
+        unreachable!();
+    };
+    runs.push_step(slice::from_ref(&variable))
 }
 
 // Values that are all there, in place of those that the vector had.

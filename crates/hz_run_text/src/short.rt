@@ -26,9 +26,9 @@ pub(crate) fn step_of_one(net: &Net, line: &[u8]) -> Option<Option<u32>>
     Some(variable)
 }
 
-// Whether this is the keyword with the space behind it.
+// Whether this is the keyword with the space behind it. The pattern takes no call, which would be 20 instructions for each line.
 fn is_step(keyword: &[u8]) -> bool
     ensures { result ≡ bytes_eq keyword.now (codes "step ") }
 {
-    keyword == b"step ".as_slice()
+    matches!(keyword, [b's', b't', b'e', b'p', b' '])
 }

@@ -27,8 +27,8 @@ use hz_net::Net;
 use hz_text::{Assigned, Mismatch, Text, any_without_bit, read_assignments};
 use std::alloc::Global;
 
-/// A statement of a run text, looked up in a network. The variables of steps stand in an arena. Assignments are apart: a text has
-/// millions of steps, and two statements with assignments.
+/// A statement of a run text, looked up in a network. The variables of steps stand in an arena. A statement has one pointer at most, so
+/// with its line it takes 24 bytes and not 32. Assignments are apart: a text has millions of steps, and two statements with assignments.
 #[derive(Debug, Drop)]
 pub(crate) enum RunHeld<'a> {
     Header(Format),
@@ -36,7 +36,7 @@ pub(crate) enum RunHeld<'a> {
     Start(Box<Vec<Assigned>>),
     Input(Box<Vec<Assigned>>),
     Run,
-    Step(&'a [Option<u32>]),
+    Step(&'a &'a [Option<u32>]),
     // A step of one variable, as most are. It takes no room in the arena.
     StepOfOne(Option<u32>),
     Cycle,
@@ -196,7 +196,10 @@ fn read_step<'a>(
     let Ok(laid) = arena.try_alloc_slice_copy(variables.as_slice()) else {
         return Err(StatementFault::Memory);
     };
-    Ok(RunHeld::Step(laid))
+    let Ok(step) = arena.try_alloc(&*laid) else {
+        return Err(StatementFault::Memory);
+    };
+    Ok(RunHeld::Step(step))
 }
 
 // The assignments that the tokens of a line are, on the heap.
