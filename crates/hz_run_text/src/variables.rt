@@ -34,14 +34,15 @@ pub(crate) fn read_variables(
 {
     read.clear();
     let mut rest = line;
-    while !is_blank_line(rest) {
-        let Some((variable, after)) = first_variable(net, rest) else {
-            return Err(StatementFault::Form);
-        };
+    while let Some((variable, after)) = first_variable(net, rest) {
         read.push(variable)?;
         rest = after;
     }
-    Ok(())
+    if is_blank_line(rest) {
+        Ok(())
+    } else {
+        Err(StatementFault::Form)
+    }
 }
 
 // The variable with which a line begins that has tokens, looked up, and the line after it. A variable is a node's name, or a gate's name
