@@ -1,10 +1,9 @@
 -- The lines and words that are kept, node by node, and what is written of them.
-use Rattle.std.proofs.Common.{◌≡◌, ◌∙◌, refl, sym, ap, subst, ℕ, zero, suc, ◌+◌, ◌-◌, ◌<◌, ◌≤◌, Bool, true, false, List, [], ◌∷◌, ◌++◌, length, map, take, drop, set, get_or, get_or-set_same, length-set, slice_get, Some, append_assoc, arith, codes, add-one}
+use Rattle.std.proofs.Common.{◌≡◌, ◌∙◌, refl, sym, ap, subst, ℕ, suc, ◌+◌, ◌-◌, ◌<◌, ◌≤◌, Bool, false, List, [], ◌∷◌, ◌++◌, length, map, take, drop, set, get_or, get_or-set_same, length-set, slice_get, Some, append_assoc, arith, codes, add-one}
 use Rattle.std.specs.List.{between, flat_map}
-use Rattle.std.proofs.lemmas.List.{take-take, take-append-drop, length-take-le, length-map, map-append, map-set, set-get_or, take_more, take_more_set}
+use Rattle.std.proofs.Math.Seq.{take-length}
+use Rattle.std.proofs.lemmas.List.{take-take, take-append-drop, length-take-le, length-map, map-append, map-set, take_more, take_more_set}
 use Rattle.std.proofs.lemmas.List.Edits.{sets-eq, length-between}
-use Rattle.std.specs.Bool.{beq}
-use Rattle.std.proofs.lemmas.Bool.{false≢true}
 use Rattle.std.proofs.lemmas.Option.{get_or_from_slice_get, slice_get-get_or}
 use Rattle.std.proofs.lemmas.Slice.{between_is, between_from_start}
 use Rattle.hz_core.specs.Netlist.{Netlist, node_name}
@@ -14,7 +13,7 @@ use Rattle.hz_text.specs.VariableWord.{variable_word}
 use Rattle.hz_text.proofs.VariableWords.{variable_word-node}
 use Rattle.hz_desk.specs.declared.finding.Row.{Row}
 use Rattle.hz_report.specs.Report.{row_line, row_lines, row_text}
-use Rattle.hz_report.specs.Kept.{parts_text, ArePartsOf, AreRowParts, AreBitParts, AreBits, bit_stem}
+use Rattle.hz_report.specs.Kept.{parts_text, AreParts, ArePartsOf, AreRowParts, AreBits, HaveBits, bit_stem}
 use Rattle.hz_report.proofs.PartLemmas.{IsUnder, parts-none, parts-more, parts-longer, under-text, length-begins, middle-within, begin-within, begin-at, written-one}
 
 -- the line of one node more, which stays 0
@@ -26,26 +25,28 @@ row-more netlist node name text begins text' begins' parts named longer placed =
     (longer ∙ ap (λ (stem : List ℕ). text ++ (stem ++ codes " start 0 A 0 B 0 changes 0 steady\n")) (sym is)) placed
 
 -- the word of one node more, which is 0
-pub bit-more : (netlist : Netlist) (node : ℕ) (bits : List Bool) (name text begins text' begins' : List ℕ)
-    → ArePartsOf (bit_stem netlist) [] 1 node (map (λ (bit : Bool). letter_of bit ∷ []) bits) text begins → slice_get netlist.names node ≡ Some name
-    → text' ≡ text ++ (codes " " ++ (name ++ codes "=0")) → begins' ≡ begins ++ length text' ∷ []
-    → ArePartsOf (bit_stem netlist) [] 1 (node + 1) (map (λ (bit : Bool). letter_of bit ∷ []) (bits ++ false ∷ [])) text' begins'
-bit-more netlist node bits name text begins text' begins' are named longer placed =
+pub bit-more : (netlist : Netlist) (node : ℕ) (name text begins text' begins' : List ℕ) → HaveBits netlist node [] 0 text begins → slice_get netlist.names node ≡ Some name
+    → text' ≡ text ++ (codes " " ++ (name ++ codes "=0")) → begins' ≡ begins ++ length text' ∷ [] → HaveBits netlist (node + 1) [] 0 text' begins'
+bit-more netlist node name text begins text' begins' have named longer placed =
+    let value : Bool → List ℕ = λ bit. letter_of bit ∷ [] in
     let is : node_name netlist.names node ≡ name = get_or_from_slice_get netlist.names node name [] named in
     let word : 32 ∷ (node_name netlist.names node ++ 61 ∷ 48 ∷ []) ≡ bit_stem netlist node ++ ((48 ∷ []) ++ []) =
     ap (λ (list : List ℕ). 32 ∷ list) (sym (append_assoc (node_name netlist.names node) (61 ∷ []) (48 ∷ []))) in
-    let more = parts-longer (bit_stem netlist) [] 1 node (map (λ (bit : Bool). letter_of bit ∷ []) bits) (48 ∷ []) text begins text' begins' are refl
+    let more = parts-longer (bit_stem netlist) [] 1 node (map value have.shown) (48 ∷ []) text begins text' begins' have.are refl
     (longer ∙ ap (λ (stem : List ℕ). text ++ (32 ∷ (stem ++ 61 ∷ 48 ∷ []))) (sym is) ∙ ap (λ (list : List ℕ). text ++ list) word) placed in
-    subst (λ (middles : List (List ℕ)). ArePartsOf (bit_stem netlist) [] 1 (node + 1) middles text' begins')
-    (sym (map-append (λ (bit : Bool). letter_of bit ∷ []) bits (false ∷ []))) more
+    record {
+      shown = have.shown ++ false ∷ [];
+      are = subst (λ (middles : List (List ℕ)). ArePartsOf (bit_stem netlist) [] 1 (node + 1) middles text' begins') (sym (map-append value have.shown (false ∷ []))) more;
+      first = refl;
+    }
 
 -- no line
 pub none-kept : (netlist : Netlist) (rows begins : List ℕ) → rows ≡ [] → begins ≡ 0 ∷ [] → AreRowParts netlist 0 rows begins
 none-kept netlist rows begins no_row first = parts-none (node_name netlist.names) newline 33 rows begins no_row first
 
 -- no word
-pub none-said : (netlist : Netlist) (text begins : List ℕ) → text ≡ [] → begins ≡ 0 ∷ [] → ArePartsOf (bit_stem netlist) [] 1 0 [] text begins
-none-said netlist text begins none first = record { long = refl; wide = tt; text_is = none; begins_are = first }
+pub none-said : (netlist : Netlist) (text begins : List ℕ) → text ≡ [] → begins ≡ 0 ∷ [] → HaveBits netlist 0 [] 0 text begins
+none-said netlist text begins none first = record { shown = []; are = record { long = refl; wide = tt; text_is = none; begins_are = first }; first = refl }
 
 -- a row's line is a part
 row-part : (netlist : Netlist) (node : ℕ) (row : Row) → node < length netlist.names → row_line netlist node row ≡ node_name netlist.names node ++ (row_text row ++ newline)
@@ -101,14 +102,15 @@ pub byte-over : (text : List ℕ) (i byte : ℕ) → i < length text → set tex
 byte-over text i byte within = sets-eq (byte ∷ []) text i (omega (arith, within)) ∙ append_assoc (take i text) (byte ∷ []) (drop (i + 1) text)
 
 -- the word of a node gets a bit
-pub bit-set : (netlist : Netlist) (shown : List Bool) (node byte : ℕ) (bit : Bool) (text begins : List ℕ) → node < length netlist.names → byte ≡ letter_of bit
-    → AreBits netlist shown text begins → AreBits netlist (set shown node bit) (set text (get_or begins (node + 1) 0 - 1) byte) begins
+bit-set : (netlist : Netlist) (shown : List Bool) (node byte : ℕ) (bit : Bool) (text begins : List ℕ) → node < length netlist.names → byte ≡ letter_of bit
+    → AreBits netlist (length netlist.names) shown text begins
+    → AreBits netlist (length netlist.names) (set shown node bit) (set text (get_or begins (node + 1) 0 - 1) byte) begins
 bit-set netlist shown node byte bit text begins inside is are =
     let count = length netlist.names in
     let value : Bool → List ℕ = λ bit. letter_of bit ∷ [] in
     let long : length shown ≡ count = sym (length-map shown value) ∙ are.long in
     let within : node < length shown = omega (arith, long, inside) in
-    let parts : AreBitParts netlist count text begins = record { middles = map value shown; are = are } in
+    let parts : AreParts (bit_stem netlist) [] 1 count text begins = record { middles = map value shown; are = are } in
     let room = middle-within (bit_stem netlist) [] 1 count text begins node parts inside in
     let end = begin-within (bit_stem netlist) [] 1 count text begins (node + 1) parts (omega (arith, inside)) in
     let next : (get_or begins (node + 1) 0 - 1) + 1 ≡ get_or begins (node + 1) 0 - 0 = omega (arith, room) in
@@ -123,74 +125,60 @@ bit-set netlist shown node byte bit text begins inside is are =
     ap (λ (n : ℕ). set (map value shown) node (n ∷ [])) is ∙ sym (map-set value shown node bit) in
     let put = written-one value (bit_stem netlist) [] 1 count (set shown node bit) node bit (byte ∷ []) text begins (map value shown) are inside
     (omega (arith, long, length-set shown node bit)) there (ap (λ (n : ℕ). n ∷ []) is) refl in
-    subst (λ (list : List ℕ). AreBits netlist (set shown node bit) list begins) (sym over)
+    subst (λ (list : List ℕ). AreBits netlist count (set shown node bit) list begins) (sym over)
     (subst (λ (list : List (List ℕ)). ArePartsOf (bit_stem netlist) [] 1 count list
     (take (get_or begins (node + 1) 0 - 0 - 1) text ++ ((byte ∷ []) ++ drop (get_or begins (node + 1) 0 - 0) text)) begins) middles put)
   where
     set-here : (values : List Bool) (i : ℕ) (value : Bool) → i < length values → get_or (set values i value) i false ≡ value
     set-here values i value inside = rw get_or-set_same refl
 
--- a bit that stays needs no write
-pub bit-stays : (shown : List Bool) (node : ℕ) (bit : Bool) → beq (get_or shown node false) bit ≡ true → shown ≡ set shown node bit
-bit-stays shown node bit same = sym (set-get_or shown node false) ∙ ap (λ (b : Bool). set shown node b) (one-bit (get_or shown node false) bit same)
-  where
-    one-bit : (a b : Bool) → beq a b ≡ true → a ≡ b
-    one-bit true true e = refl
-    one-bit true false e = absurd (false≢true e)
-    one-bit false true e = absurd (false≢true e)
-    one-bit false false e = refl
-
--- one bit more is that of a list
-pub one-more : (bits shown : List Bool) (node : ℕ) (bit : Bool) → node < length bits → node < length shown → bit ≡ get_or bits node false → take node shown ≡ take node bits
-    → take (node + 1) (set shown node bit) ≡ take (node + 1) bits
-one-more bits shown node bit within inside is same =
-    take_more_set shown node bit inside ∙ ap (λ (list : List Bool). list ++ bit ∷ []) same ∙ ap (λ (last : Bool). take node bits ++ last ∷ []) is
-    ∙ sym (take_more bits node false within)
-
--- so many bits more are those of a list, as they are
-pub many-more : (bits shown : List Bool) (node count : ℕ) → node + count ≤ length bits → length bits ≤ length shown
-    → ((i : ℕ) → i < count → get_or shown (node + i) false ≡ get_or bits (node + i) false) → take node shown ≡ take node bits → take (node + count) shown ≡ take (node + count) bits
-many-more bits shown node zero within enough stay same =
-    let here : node ≡ node + zero = omega arith in
-    subst (λ (n : ℕ). take n shown ≡ take n bits) here same
-many-more bits shown node (suc count) within enough stay same =
-    let next : node + count + 1 ≡ node + suc count = omega arith in
-    let before = many-more bits shown node count (omega (arith, within)) enough (λ i less. stay i (omega (arith, less))) same in
-    subst (λ (n : ℕ). take n shown ≡ take n bits) next
-    (take_more shown (node + count) false (omega (arith, within, enough))
-    ∙ ap (λ (list : List Bool). list ++ get_or shown (node + count) false ∷ []) before
-    ∙ ap (λ (last : Bool). take (node + count) bits ++ last ∷ []) (stay count (omega arith))
-    ∙ sym (take_more bits (node + count) false (omega (arith, within))))
-
 -- how many bits there are
-pub length-bits : (netlist : Netlist) (shown : List Bool) (text begins : List ℕ) → AreBits netlist shown text begins → length shown ≡ length netlist.names
-length-bits netlist shown text begins are = sym (length-map shown (λ (bit : Bool). letter_of bit ∷ [])) ∙ are.long
+length-shown : (netlist : Netlist) (shown : List Bool) (text begins : List ℕ) → AreBits netlist (length netlist.names) shown text begins → length shown ≡ length netlist.names
+length-shown netlist shown text begins are = sym (length-map shown (λ (bit : Bool). letter_of bit ∷ [])) ∙ are.long
+
+-- the word of one node more gets its bit
+pub bit-put : (netlist : Netlist) (bits : List Bool) (node byte : ℕ) (text begins : List ℕ) → node < length bits → length bits ≤ length netlist.names → byte ≡ letter_of (get_or bits node false)
+    → HaveBits netlist (length netlist.names) bits node text begins
+    → HaveBits netlist (length netlist.names) bits (node + 1) (set text (get_or begins (node + 1) 0 - 1) byte) begins
+bit-put netlist bits node byte text begins within few is have =
+    let bit = get_or bits node false in
+    let inside : node < length have.shown = omega (arith, within, few, length-shown netlist have.shown text begins have.are) in
+    record {
+      shown = set have.shown node bit;
+      are = bit-set netlist have.shown node byte bit text begins (omega (arith, within, few)) is have.are;
+      first = take_more_set have.shown node bit inside ∙ ap (λ (list : List Bool). list ++ bit ∷ []) have.first ∙ sym (take_more bits node false within);
+    }
+
+-- words are parts
+words-parts : (netlist : Netlist) (count : ℕ) (bits : List Bool) (upto : ℕ) (text begins : List ℕ) → HaveBits netlist count bits upto text begins
+    → AreParts (bit_stem netlist) [] 1 count text begins
+words-parts netlist count bits upto text begins have = record { middles = map (λ (bit : Bool). letter_of bit ∷ []) have.shown; are = have.are }
 
 -- how many places there are, and where the bit of a node stands
-pub length-places : (netlist : Netlist) (shown : List Bool) (text begins : List ℕ) → AreBits netlist shown text begins → length begins ≡ length netlist.names + 1
-length-places netlist shown text begins are =
-    length-begins (bit_stem netlist) [] 1 (length netlist.names) text begins (record { middles = map (λ (bit : Bool). letter_of bit ∷ []) shown; are = are })
+pub length-places : (netlist : Netlist) (count : ℕ) (bits : List Bool) (upto : ℕ) (text begins : List ℕ) → HaveBits netlist count bits upto text begins → length begins ≡ count + 1
+length-places netlist count bits upto text begins have = length-begins (bit_stem netlist) [] 1 count text begins (words-parts netlist count bits upto text begins have)
 
-pub bit-room : (netlist : Netlist) (shown : List Bool) (node : ℕ) (text begins : List ℕ) → node < length netlist.names → AreBits netlist shown text begins
+pub bit-room : (netlist : Netlist) (count : ℕ) (bits : List Bool) (upto node : ℕ) (text begins : List ℕ) → node < count → HaveBits netlist count bits upto text begins
     → 1 ≤ get_or begins (node + 1) 0
-bit-room netlist shown node text begins inside are =
-    middle-within (bit_stem netlist) [] 1 (length netlist.names) text begins node (record { middles = map (λ (bit : Bool). letter_of bit ∷ []) shown; are = are }) inside
+bit-room netlist count bits upto node text begins inside have =
+    middle-within (bit_stem netlist) [] 1 count text begins node (words-parts netlist count bits upto text begins have) inside
 
-pub bit-end : (netlist : Netlist) (shown : List Bool) (node : ℕ) (text begins : List ℕ) → node ≤ length netlist.names → AreBits netlist shown text begins
+pub bit-end : (netlist : Netlist) (count : ℕ) (bits : List Bool) (upto node : ℕ) (text begins : List ℕ) → node ≤ count → HaveBits netlist count bits upto text begins
     → get_or begins node 0 ≤ length text
-bit-end netlist shown node text begins inside are =
-    begin-within (bit_stem netlist) [] 1 (length netlist.names) text begins node (record { middles = map (λ (bit : Bool). letter_of bit ∷ []) shown; are = are }) inside
+bit-end netlist count bits upto node text begins inside have =
+    begin-within (bit_stem netlist) [] 1 count text begins node (words-parts netlist count bits upto text begins have) inside
 
 -- the words of the first nodes
-pub words-front : (netlist : Netlist) (bits shown : List Bool) (text begins : List ℕ) → AreBits netlist shown text begins → length bits ≤ length netlist.names
-    → take (length bits) shown ≡ bits
+pub words-front : (netlist : Netlist) (bits : List Bool) (text begins : List ℕ) → HaveBits netlist (length netlist.names) bits (length bits) text begins → length bits ≤ length netlist.names
     → take (get_or begins (length bits) 0) text ≡ flat_map (assignment_text netlist) (listed_from 0 (map Some bits))
-words-front netlist bits shown text begins are within same =
+words-front netlist bits text begins have within =
+    let shown = have.shown in
+    let are = have.are in
     let count = length netlist.names in
     let value : Bool → List ℕ = λ bit. letter_of bit ∷ [] in
     let upto = length bits in
-    let long = length-bits netlist shown text begins are in
-    let front : between 0 upto shown ≡ bits = between_from_start shown upto ∙ same in
+    let long = length-shown netlist shown text begins are in
+    let front : between 0 upto shown ≡ bits = between_from_start shown upto ∙ have.first ∙ take-length bits in
     let cut : map value shown ≡ map value (between 0 upto shown) ++ map value (drop upto shown) =
     ap (map value) (sym (take-append-drop upto shown)) ∙ map-append value (take upto shown) (drop upto shown)
     ∙ ap (λ (list : List Bool). map value list ++ map value (drop upto shown)) (sym (between_from_start shown upto)) in

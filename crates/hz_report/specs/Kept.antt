@@ -1,6 +1,6 @@
 -- Texts of parts, one a node, that are kept as bytes: in each part only the middle changes, and not its length. Words about the
 -- inside of hz_report.
-use Rattle.std.specs.Prelude.{◌≡◌, ℕ, zero, suc, ◌+◌, ◌<◌, ◌≤◌, Bool, Option, Some, None, List, [], ◌∷◌, ◌++◌, length, map}
+use Rattle.std.specs.Prelude.{◌≡◌, ℕ, zero, suc, ◌+◌, ◌<◌, ◌≤◌, Bool, Option, Some, None, List, [], ◌∷◌, ◌++◌, length, map, take}
 use Rattle.std.specs.List.{range_with_len, slice_index_or, slice_get}
 use Rattle.hz_core.specs.Netlist.{Netlist, node_name}
 use Rattle.hz_desk.specs.declared.finding.Rest.{Rest}
@@ -46,7 +46,7 @@ pub record AreParts (stem : ℕ → List ℕ) (tail : List ℕ) (width count : �
 abbrev pub bit_stem : Netlist → ℕ → List ℕ
 bit_stem netlist node = 32 ∷ node_name netlist.names node ++ 61 ∷ []
 
--- lines of so many nodes, each with its name and a common row
+-- lines of so many nodes, each with its name and a row as long as one at rest
 abbrev pub AreRowParts : Netlist → ℕ → List ℕ → List ℕ → Type 0
 AreRowParts netlist count text begins =
     AreParts (node_name netlist.names) newline 33 count text begins
@@ -62,15 +62,21 @@ pub record AreRowLines (netlist : Netlist) (text begins : List ℕ)
       slice_index_or shown i None ≡ Some rest →
       slice_index_or middles i [] ≡ row_text (row_at_rest rest)
 
--- words of so many nodes, each with its name and a bit
-abbrev pub AreBitParts : Netlist → ℕ → List ℕ → List ℕ → Type 0
-AreBitParts netlist count text begins = AreParts (bit_stem netlist) [] 1 count text begins
+-- words of so many nodes, each with its name and one of these bits
+abbrev pub AreBits : Netlist → ℕ → List Bool → List ℕ → List ℕ → Type 0
+AreBits netlist count bits text begins =
+    ArePartsOf (bit_stem netlist) [] 1 count (map (λ bit. letter_of bit ∷ []) bits) text begins
 
--- words of all nodes with these bits
-abbrev pub AreBits : Netlist → List Bool → List ℕ → List ℕ → Type 0
-AreBits netlist bits text begins =
-    ArePartsOf (bit_stem netlist) [] 1 (length netlist.names) (map (λ bit. letter_of bit ∷ []) bits)
-    text begins
+-- words of so many nodes, of which the first ones, up to one, have these bits
+pub record HaveBits (netlist : Netlist) (count : ℕ) (bits : List Bool) (upto : ℕ)
+    (text begins : List ℕ) : Type 0 where
+  pub shown : List Bool
+  pub are : AreBits netlist count shown text begins
+  pub first : take upto shown ≡ take upto bits
+
+-- words of all nodes with any bits
+abbrev pub AreWords : Netlist → List ℕ → List ℕ → Type 0
+AreWords netlist text begins = HaveBits netlist (length netlist.names) [] 0 text begins
 
 -- rows from one node up to another are those of variables that rest at what is told of them
 abbrev pub AreShown : List Row → List (Option Rest) → ℕ → ℕ → Type 0
@@ -80,4 +86,4 @@ AreShown rows shown from upto = (i : ℕ) → from ≤ i → i < upto → (rest 
 -- a line and a word for each node
 pub record IsKept (netlist : Netlist) (kept : Kept) : Type 0 where
   pub rows : AreRowLines netlist kept.rows.text.items kept.rows.begins.items kept.shown
-  pub bits : AreBits netlist kept.bits.items kept.start.text.items kept.start.begins.items
+  pub words : AreWords netlist kept.start.text.items kept.start.begins.items

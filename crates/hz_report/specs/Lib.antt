@@ -16,6 +16,7 @@
 -- PlateOf: what contracts see of the lines that are kept from change to change
 -- parts_text stem tail node middles, part_place stem size node: a text of parts, one a node, and where the part of a node begins
 -- AreParts stem tail width count text begins, IsKept netlist kept: such a text whose middles have a fixed length
+-- HaveBits netlist count bits upto text begins: words of nodes, of which so many have these bits
 -- AreRowLines netlist text begins shown: lines of all nodes, and what those show that never change
 
 pub mod Report

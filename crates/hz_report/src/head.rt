@@ -1,13 +1,13 @@
 //! The lines that come once.
-ghost use Rattle.std.specs.Prelude.{◌≡◌, ◌+◌, ◌<◌, ◌≤◌, ℕ, ◌++◌, length, take, slice_set, All, IsTrue};
+ghost use Rattle.std.specs.Prelude.{◌≡◌, ◌≤◌, ◌++◌, length, All};
 ghost use Rattle.std.specs.List.{flat_map};
-ghost use Rattle.hz_net.specs.Network.{IsState, IsVariable, bit_at};
+ghost use Rattle.hz_net.specs.Network.{IsState, IsVariable};
 ghost use Rattle.hz_free.specs.FreePart.{IsFreePart};
 ghost use Rattle.hz_write.specs.Writer.{Writes, NoneWaits};
 ghost use Rattle.hz_write.specs.Writes.{newline};
 ghost use Rattle.hz_text.specs.Printed.{letter_of, assignment_text, all_listed};
 ghost use Rattle.hz_text.specs.VariableWord.{spaced_word};
-ghost use Rattle.hz_report.specs.Kept.{AreBits};
+ghost use Rattle.hz_report.specs.Kept.{AreWords, HaveBits};
 ghost use Rattle.hz_report.specs.Report.{netlist_line, feedback_line, start_line, head_text};
 
 use hz_free::Free;
@@ -109,95 +109,28 @@ pub(crate) fn write_kept_bits<K: Sink>(
     bits: &[bool],
     text: &mut [u8],
     begins: &[usize],
-    shown: &mut [bool],
 )
     requires bits { length bits.now ≤ length net.now.names }
-    requires kept { AreBits net.now shown.old text.old begins.now }
+    requires kept { AreWords net.now text.old begins.now }
     ensures gave { Writes K.output K.faults
         (flat_map (assignment_text net.now) (all_listed bits.now) ++ newline) writer.old writer.new }
     ensures none_waits { NoneWaits writer.new }
-    ensures kept { AreBits net.now shown.new text.new begins.now }
+    ensures kept { AreWords net.now text.new begins.now }
 {
-    set_bits(net, bits, text, begins, shown);
+    set_bits(net, bits, text, begins);
     writer.text(&text[..begins[bits.len()]]);
     writer.end();
 }
 
-// Writes other bits over those of the words of the first nodes. Most bits stay.
-fn set_bits(net: &Net, bits: &[bool], text: &mut [u8], begins: &[usize], shown: &mut [bool])
+// Writes bits over those of the words of the first nodes.
+fn set_bits(net: &Net, bits: &[bool], text: &mut [u8], begins: &[usize])
     requires bits { length bits.now ≤ length net.now.names }
-    requires kept { AreBits net.now shown.old text.old begins.now }
-    ensures kept { AreBits net.now shown.new text.new begins.now }
-    ensures shown { take (length bits.now) shown.new ≡ bits.now }
+    requires kept { AreWords net.now text.old begins.now }
+    ensures { HaveBits net.now (length net.now.names) bits.now (length bits.now) text.new begins.now }
 {
-    let mut from = 0;
-    while from < bits.len() {
-        if sixteen_stay(bits, shown, from) {
-            from += 16;
-            continue;
-        }
-        from = set_some(net, bits, text, begins, shown, from);
+    for node in 0..bits.len() {
+        text[begins[node + 1] - 1] = letter_of(bits[node]);
     }
-}
-
-// Whether sixteen bits from one on are seen to be those that are shown. It has no branch between two of them.
-#[inline(always)]
-fn sixteen_stay(bits: &[bool], shown: &[bool], from: usize) -> bool
-    requires from { from ≤ length bits.now }
-    requires shown { length bits.now ≤ length shown.now }
-    ensures inside { IsTrue result → from + 16 ≤ length bits.now }
-    ensures stay { IsTrue result → (i : ℕ) → i < 16
-        → bit_at shown.now (from + i) ≡ bit_at bits.now (from + i) }
-{
-    if bits.len() - from < 16 {
-        return false;
-    }
-    let mut same = true;
-    for place in 0..16 {
-        same &= shown[from + place] == bits[from + place];
-    }
-    same
-}
-
-// Writes up to sixteen bits from one place on over those of words, and says where the next ones begin.
-#[inline(always)]
-fn set_some(
-    net: &Net,
-    bits: &[bool],
-    text: &mut [u8],
-    begins: &[usize],
-    shown: &mut [bool],
-    from: usize,
-) -> usize
-    requires bits { length bits.now ≤ length net.now.names }
-    requires from { from < length bits.now }
-    requires kept { AreBits net.now shown.old text.old begins.now }
-    requires so_far { take from shown.old ≡ take from bits.now }
-    ensures kept { AreBits net.now shown.new text.new begins.now }
-    ensures more { from < result }
-    ensures within { result ≤ length bits.now }
-    ensures so_far { take result shown.new ≡ take result bits.now }
-{
-    let to = (from + 16).min(bits.len());
-    for node in from..to {
-        set_bit(net, node, bits[node], text, begins, shown);
-    }
-    to
-}
-
-// Writes the bit of a node over that of its word, if it is another one.
-#[inline(always)]
-fn set_bit(net: &Net, node: usize, bit: bool, text: &mut [u8], begins: &[usize], shown: &mut [bool])
-    requires node { node < length net.now.names }
-    requires kept { AreBits net.now shown.old text.old begins.now }
-    ensures kept { AreBits net.now shown.new text.new begins.now }
-    ensures shown { shown.new ≡ slice_set shown.old node bit }
-{
-    if shown[node] == bit {
-        return;
-    }
-    text[begins[node + 1] - 1] = letter_of(bit);
-    shown[node] = bit;
 }
 
 // The letter of a bit.

@@ -104,7 +104,6 @@ impl<'n> Plate<'n> {
                     bits,
                     kept.start.text.as_mut_slice(),
                     kept.start.begins.as_slice(),
-                    kept.bits.as_mut_slice(),
                 );
             }
             None => write_bits(writer, self.net.circuit(), keyword, bits),

@@ -1,7 +1,8 @@
--- A common row is written over that of its node; before another row the lines so far are given.
+-- A row at rest is written over that of its node; before another row the lines so far are given.
 use Rattle.std.proofs.Common.{◌≡◌, ◌∙◌, ◌+◌, ◌<◌, ◌≤◌, Some, length, take, get_or, slice_get, sym, arith}
 use Rattle.std.proofs.lemmas.Option.{slice_get-get_or}
 use Rattle.hz_net.proofs.Places.{length-network_of}
+use Rattle.hz_desk.specs.RowsOf.{row_at_rest}
 use Rattle.hz_write.specs.Writer.{Writes, NoneWaits}
 use Rattle.hz_write.proofs.Writers.{writes_nothing, writes_same, writes_then}
 use Rattle.hz_report.specs.Report.{row_lines}
@@ -31,14 +32,8 @@ loop-var-init g c =
       within,
     )
 
-pub rest-rest-requires : goal.rest-rest-requires
-rest-rest-requires g c =
-    let netlist = c.args.net.now in
-    let count : c.nodes-count.result ≡ length netlist.names = rw c.circuit.ensures.same at c.nodes-count.ensures.nodes in
-    omega (arith, count, c.loop-var-test.true, c.requires.rows, length-network_of netlist c.circuit.ensures.circuit)
-
-pub kept_text-requires-clause-var : goal.kept_text-requires-clause-var
-kept_text-requires-clause-var g c =
+pub rest-requires : goal.rest-requires
+rest-requires g c =
     let netlist = c.args.net.now in
     let count : c.nodes-count.result ≡ length netlist.names = rw c.circuit.ensures.same at c.nodes-count.ensures.nodes in
     omega (arith, count, c.loop-var-test.true, c.requires.rows, length-network_of netlist c.circuit.ensures.circuit)
@@ -65,7 +60,7 @@ loop-var-preserved g c =
     let begins = c.args.begins.now in
     let so_far = c.loop-var.invariant in
     let next = c.first_not_shown-var-in-loop-var in
-    let now = c.match-kept_text in
+    let now = c.match-rest in
     let count : c.nodes-count.result ≡ length netlist.names = rw c.circuit.ensures.same at c.nodes-count.ensures.nodes in
     let within : var < length netlist.names = omega (arith, count, c.loop-var-test.true) in
     let enough : length netlist.names ≤ length rows = omega (arith, c.requires.rows, length-network_of netlist c.circuit.ensures.circuit) in
@@ -74,10 +69,10 @@ loop-var-preserved g c =
     let more : ArePut netlist rows now.from (var + 1) now.text begins now.shown
     × Writes g.K.Sink.output g.K.Sink.faults (row_lines netlist 0 (take now.from rows)) c.args.writer.now now.writer
     × NoneWaits now.writer =
-    elim c.match-kept_text.branch [
+    elim c.match-rest.branch [
       | in-Some w ↦ rw (w.writer-is, w.text-is, w.shown-is, w.from-is, w.set_row.ensures.written, w.set.ensures) (
-        put-set netlist rows begins from var (get_or rows var no_row) w.in-Some.common.now text c.loop-var.shown c.rest-rest.result enough within
-            there (w.in-Some.ensures (get_or rows var no_row) there) w.set_row.ensures.long c.rest-rest.ensures so_far.0,
+        put-set netlist rows begins from var (row_at_rest w.in-Some.rest) w.rest_text.result.now text c.loop-var.shown (Some w.in-Some.rest) enough within
+            w.in-Some.ensures w.rest_text.ensures w.set_row.ensures.long w.in-Some.ensures so_far.0,
         so_far.1,
         so_far.2,
       )

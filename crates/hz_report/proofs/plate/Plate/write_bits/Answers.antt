@@ -1,10 +1,10 @@
 -- The words with their bits, and what stands before them.
-use Rattle.std.proofs.Common.{◌≡◌, Bool, List, ℕ, append_assoc, sym, subst, arith}
+use Rattle.std.proofs.Common.{◌≡◌, List, ℕ, append_assoc, sym, subst, arith}
 use Rattle.std.specs.Vec.{with_items}
 use Rattle.std.proofs.lemmas.List.{with_items_is}
 use Rattle.hz_text.specs.Printed.{statement_text}
 use Rattle.hz_write.proofs.Writers.{writes_then}
-use Rattle.hz_report.specs.Kept.{AreBits}
+use Rattle.hz_report.specs.Kept.{AreWords}
 use Rattle.hz_report.proofs.plate.Plate.write_bits.Goals as goal
 use Rattle.hz_report.proofs.plate.Plate.write_bits.Goals.{in-Some, in-None}
 
@@ -16,18 +16,12 @@ invariant_of-self g c =
           let was = w.in-Some.kept in
           let begins = was.start.begins.items in
           let text : List ℕ = w.write_kept_bits.new.text in
-          let bits : List Bool = w.write_kept_bits.new.shown in
           let text_is : (with_items was.start.text text).items ≡ text = with_items_is was.start.text text (omega (arith, w.write_kept_bits.auto.text, w.as_mut_slice.ensures.len)) in
-          let bits_is : (with_items was.bits bits).items ≡ bits = with_items_is was.bits bits (omega (arith, w.write_kept_bits.auto.shown, w.as_mut_slice-in-Some.ensures.len)) in
           let before = rw w.in-Some.is at c.self.invariant in
-          let are : AreBits netlist bits text begins = rw w.as_slice.ensures.value at w.write_kept_bits.ensures.kept in
+          let words : AreWords netlist text begins = rw w.as_slice.ensures.value at w.write_kept_bits.ensures.kept in
           rw w.self-inside-is (
             before.0,
-            record {
-              rows = before.1.rows;
-              bits = subst (λ (list : List Bool). AreBits netlist list (with_items was.start.text text).items begins) (sym bits_is)
-                  (subst (λ (list : List ℕ). AreBits netlist bits list begins) (sym text_is) are);
-            },
+            record { rows = before.1.rows; words = subst (λ (list : List ℕ). AreWords netlist list begins) (sym text_is) words },
           ))
       | in-None w ↦ rw w.self-inside-is c.self.invariant
     ]

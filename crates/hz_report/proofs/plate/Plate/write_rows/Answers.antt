@@ -21,7 +21,7 @@ invariant_of-self g c =
             before.0,
             record {
               rows = subst (λ (list : List ℕ). AreRowLines netlist list begins w.write_kept_rows.new.shown) (sym text_is) are;
-              bits = before.1.bits;
+              words = before.1.words;
             },
           ))
       | in-None w ↦ rw w.self-inside-is c.self.invariant
