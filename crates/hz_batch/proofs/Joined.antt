@@ -11,7 +11,7 @@ use Rattle.hz_write.specs.Writer.{Writes}
 use Rattle.hz_write.proofs.Writers.{writes_then, writes_nothing}
 use Rattle.hz_batch.specs.declared.counts.Counts.{Counts}
 use Rattle.hz_batch.specs.declared.counts.Mark.{Mark}
-use Rattle.hz_batch.specs.BatchText.{ending_line, ending_lines, is_open, is_unstable, is_unsettled}
+use Rattle.hz_batch.specs.BatchText.{ending_line, ending_lines, is_open, ends_unstable, ends_unsettled}
 use Rattle.hz_batch.specs.Counts.{AddsCounts, AreWithin, IsMarkOf, with_mark, settled_mark}
 use Rattle.hz_batch.specs.Each.{AreEach}
 use Rattle.hz_batch.specs.PatternEnd.{PatternEnd, Open, Unstable, Settled}
@@ -43,8 +43,8 @@ count-append p endings others = sum_by-append (λ (ending : PatternEnd). cond (p
 adds-append : (endings others : List PatternEnd) (a b c : Counts) → AddsCounts endings a b → AddsCounts others b c → AddsCounts (endings ++ others) a c
 adds-append endings others a b c first second = record {
   open_starts = omega (arith, first.open_starts, second.open_starts, count-append is_open endings others);
-  unstable_starts = omega (arith, first.unstable_starts, second.unstable_starts, count-append is_unstable endings others);
-  unsettled = omega (arith, first.unsettled, second.unsettled, count-append is_unsettled endings others);
+  unstable_starts = omega (arith, first.unstable_starts, second.unstable_starts, count-append ends_unstable endings others);
+  unsettled = omega (arith, first.unsettled, second.unsettled, count-append ends_unsettled endings others);
 }
 
 -- no line
@@ -57,8 +57,8 @@ within-after comes patterns endings first all a b are adds within few =
     let long = each-length comes patterns endings are in
     record {
       open_starts = omega (arith, adds.open_starts, within.open_starts, count_by-le-length is_open endings, long, few);
-      unstable_starts = omega (arith, adds.unstable_starts, within.unstable_starts, count_by-le-length is_unstable endings, long, few);
-      unsettled = omega (arith, adds.unsettled, within.unsettled, count_by-le-length is_unsettled endings, long, few);
+      unstable_starts = omega (arith, adds.unstable_starts, within.unstable_starts, count_by-le-length ends_unstable endings, long, few);
+      unsettled = omega (arith, adds.unsettled, within.unsettled, count_by-le-length ends_unsettled endings, long, few);
     }
 
 -- one ending is counted by its mark

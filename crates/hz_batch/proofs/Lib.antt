@@ -28,3 +28,5 @@ pub mod TextOf
 pub mod Exist
 -- The text of patterns, by what was given and counted
 pub mod Texts
+-- What patterns bring about where nobody knows the start is right
+pub mod RightResets

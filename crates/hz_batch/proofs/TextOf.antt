@@ -8,7 +8,7 @@ use Rattle.hz_pattern_text.specs.PatternValue.{PatternOf, PatternsOf}
 use Rattle.hz_batch.specs.Outputs.{outputs_line, output_values}
 use Rattle.hz_batch.specs.declared.job.Job.{Job}
 use Rattle.hz_batch.specs.declared.job.Job.TheVariants.{Batch, Reset}
-use Rattle.hz_batch.specs.BatchText.{ending_lines, is_unsettled}
+use Rattle.hz_batch.specs.BatchText.{ending_lines, ends_unsettled}
 use Rattle.hz_batch.specs.Comes.{comes_to, last_of, IsTextOf}
 use Rattle.hz_batch.specs.Each.{AreEach}
 use Rattle.hz_batch.specs.PatternEnd.{PatternEnd, Open, Unstable, Settled}
@@ -20,7 +20,7 @@ record AreValues (netlist : Netlist) (held : List (Option Bool)) (patterns : Lis
   are : AreEach (IsBroughtAbout netlist held) patterns values
   lines : ending_lines netlist number endings ≡ values_lines netlist number values
   long : length endings ≡ length values
-  unknown : count_by is_unsettled endings ≡ count_by leaves_unknown values
+  unknown : count_by ends_unsettled endings ≡ count_by leaves_unknown values
 
 as-values : (netlist : Netlist) (held : List (Option Bool)) (patterns : List PatternOf) (number : ℕ) (endings : List PatternEnd) → AreEach (comes_to Reset netlist held) patterns endings → AreValues netlist held patterns number endings
 as-values netlist held [] number [] are = record { values = []; are = tt; lines = refl; long = refl; unknown = refl }
@@ -35,7 +35,7 @@ as-values netlist held (pattern ∷ patterns) number (Settled a b ∷ endings) a
       are = (are.0, later.are);
       lines = ap (λ (text : List ℕ). outputs_line netlist number (output_values netlist a b) ++ text) later.lines;
       long = omega (arith, later.long);
-      unknown = sum_by-cons (λ (ending : PatternEnd). cond (is_unsettled ending) 1 0) (Settled a b) endings
+      unknown = sum_by-cons (λ (ending : PatternEnd). cond (ends_unsettled ending) 1 0) (Settled a b) endings
           ∙ (ap (λ (n : ℕ). cond (list_any is_unknown b) 1 0 + n) later.unknown
           ∙ sym (sum_by-cons (λ (values : BothValues). cond (leaves_unknown values) 1 0) (record { first = a; second = b }) later.values));
     }

@@ -12,7 +12,7 @@ use Rattle.hz_write.specs.Writes.{Stops}
 use Rattle.hz_write.proofs.Writers.{writes_then, writes_failed}
 use Rattle.hz_batch.specs.declared.counts.Counts.{Counts}
 use Rattle.hz_batch.specs.declared.job.Job.{Job}
-use Rattle.hz_batch.specs.BatchText.{ending_lines, is_open, is_unstable, is_unsettled}
+use Rattle.hz_batch.specs.BatchText.{ending_lines, is_open, ends_unstable, ends_unsettled}
 use Rattle.hz_batch.specs.Comes.{comes_to, last_line, last_of, IsTextOf}
 use Rattle.hz_batch.specs.Counts.{AddsCounts, no_counts}
 use Rattle.hz_batch.specs.Each.{AreEach}
@@ -24,8 +24,8 @@ use Rattle.hz_batch.proofs.TextOf.{text-of-endings}
 counts-told : (job : Job) (endings : List PatternEnd) (counts : Counts) (n : ℕ) → n ≡ length endings → AddsCounts endings no_counts counts → last_line job n counts.open_starts counts.unstable_starts counts.unsettled ≡ last_of job endings
 counts-told job endings counts n count adds =
     let opened : counts.open_starts ≡ count_by is_open endings = omega (arith, adds.open_starts) in
-    let unstable : counts.unstable_starts ≡ count_by is_unstable endings = omega (arith, adds.unstable_starts) in
-    let unsettled : counts.unsettled ≡ count_by is_unsettled endings = omega (arith, adds.unsettled) in
+    let unstable : counts.unstable_starts ≡ count_by ends_unstable endings = omega (arith, adds.unstable_starts) in
+    let unsettled : counts.unsettled ≡ count_by ends_unsettled endings = omega (arith, adds.unsettled) in
     rw (count, opened, unstable, unsettled) refl
 
 -- numbers of nodes are few

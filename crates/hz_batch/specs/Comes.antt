@@ -7,7 +7,7 @@ use Rattle.hz_plane.specs.declared.stage.Stage.TheVariants.{Completed, Spread}
 use Rattle.hz_batch.specs.declared.job.Job.{Job}
 use Rattle.hz_batch.specs.declared.job.Job.TheVariants.{Batch, Reset}
 use Rattle.hz_batch.specs.PatternEnd.{PatternEnd, Open, Unstable, Settled, IsPatternEnd, listing_of}
-use Rattle.hz_batch.specs.BatchText.{IsBatchText, counts_line, is_open, is_unstable, is_unsettled}
+use Rattle.hz_batch.specs.BatchText.{IsBatchText, counts_line, is_open, ends_unstable, ends_unsettled}
 use Rattle.hz_batch.specs.Blocks.{no_gate}
 use Rattle.hz_batch.specs.ResetText.{IsBroughtAbout, IsResetText, unknown_line}
 
@@ -44,8 +44,8 @@ last_line Reset patterns open_ones unstable_ones unsettled_ones =
 -- the last line of endings
 abbrev pub last_of : Job → List PatternEnd → List ℕ
 last_of job endings =
-    last_line job (length endings) (count_by is_open endings) (count_by is_unstable endings)
-    (count_by is_unsettled endings)
+    last_line job (length endings) (count_by is_open endings) (count_by ends_unstable endings)
+    (count_by ends_unsettled endings)
 
 -- the text
 abbrev pub IsTextOf : Job → Netlist → PatternsOf → List ℕ → Type 0

@@ -6,7 +6,7 @@ use Rattle.hz_batch.specs.declared.counts.Counts.{Counts}
 use Rattle.hz_batch.specs.declared.counts.Mark.{Mark}
 use Rattle.hz_batch.specs.declared.counts.Mark.TheVariants as mark
 use Rattle.hz_batch.specs.PatternEnd.{PatternEnd, Open, Unstable, Settled}
-use Rattle.hz_batch.specs.BatchText.{is_open, is_unstable, is_unsettled}
+use Rattle.hz_batch.specs.BatchText.{is_open, ends_unstable, ends_unsettled}
 
 -- nothing is counted
 abbrev pub no_counts : Counts
@@ -33,8 +33,8 @@ IsMarkOf (Settled a b) told = told ≡ settled_mark (list_any is_unknown b)
 -- the counts of endings were added
 pub record AddsCounts (endings : List PatternEnd) (was now : Counts) : Type 0 where
   pub open_starts : now.open_starts ≡ was.open_starts + count_by is_open endings
-  pub unstable_starts : now.unstable_starts ≡ was.unstable_starts + count_by is_unstable endings
-  pub unsettled : now.unsettled ≡ was.unsettled + count_by is_unsettled endings
+  pub unstable_starts : now.unstable_starts ≡ was.unstable_starts + count_by ends_unstable endings
+  pub unsettled : now.unsettled ≡ was.unsettled + count_by ends_unsettled endings
 
 -- no count is above a number of patterns
 pub record AreWithin (patterns : ℕ) (counts : Counts) : Type 0 where

@@ -14,6 +14,8 @@
 -- unknown_line patterns unknown: the last line of these
 -- IsResetText netlist patterns text: the text of what patterns bring about
 -- WroteBatch output faults text was now result: the text was written, or a prefix of it
+-- IsBatchOutcome netlist patterns status text: the text of patterns
+-- IsResetOutcome netlist patterns status text: the text of what they bring about, and that each value is right
 -- block_count patterns, block_of patterns block: patterns in blocks of 512
 -- planes_after patterns was blocks: the planes after so many blocks
 
@@ -37,3 +39,5 @@ pub mod Kept
 pub mod Lines
 pub mod Inside
 pub mod Written
+pub mod Batches
+pub mod Resets

@@ -13,7 +13,7 @@ ghost use Rattle.hz_batch.specs.Outputs.{output_values};
 ghost use Rattle.hz_pattern_text.specs.PatternText.{IsPatternOf};
 ghost use Rattle.hz_pattern_text.specs.PatternValue.{PatternOf};
 ghost use Rattle.hz_write.specs.Writer.{Writes, NoneWaits};
-ghost use Rattle.hz_batch.specs.BatchText.{ending_line, refused_line};
+ghost use Rattle.hz_batch.specs.BatchText.{ending_line, refused_pattern_line};
 ghost use Rattle.hz_batch.specs.Blocks.{load_of};
 ghost use Rattle.hz_batch.specs.Columns.{HasColumns};
 ghost use Rattle.hz_batch.specs.Comes.{comes_to, held_by, kept_at};
@@ -159,7 +159,7 @@ pub(crate) struct Lane {
 }
 
 // Gives the line of a pattern whose start is refused for a gate.
-#[tactic(auto, using(hz_write::proofs::Writers::writes_same), unfolding(crate::specs::BatchText::refused_line, hz_write::specs::Writes::line_of))]
+#[tactic(auto, using(hz_write::proofs::Writers::writes_same), unfolding(crate::specs::BatchText::refused_pattern_line, hz_write::specs::Writes::line_of))]
 fn write_refused<'p, K: Sink>(
     writer: &mut Writer<'_, K>,
     circuit: &'p Circuit,
@@ -168,7 +168,7 @@ fn write_refused<'p, K: Sink>(
     gate: u32,
 )
     requires { gate < length circuit.now.names }
-    ensures gave { Writes K.output K.faults (refused_line circuit.now number word.now gate)
+    ensures gave { Writes K.output K.faults (refused_pattern_line circuit.now number word.now gate)
         writer.old writer.new }
     ensures none_waits { NoneWaits writer.new }
 {

@@ -1,4 +1,4 @@
-//! Patterns of a circuit, 512 at a time: the line of each, and how many there are of each kind.
+//! The jobs on patterns of a circuit, 512 at a time: the line of each pattern, and how many there are of each kind.
 //!
 //! A pattern begins at the start that its first bits and the held gates give ([`batch`]), or at the
 //! start of which nothing else is known ([`reset`]). Planes that list the first bits alone hold
@@ -6,6 +6,8 @@
 //!
 //! | Module | What lives in it |
 //! |---|---|
+//! | `batching` | [`Batches`]: the job `batch` |
+//! | `resetting` | [`Resets`]: the job `reset` |
 //! | `writing` | [`batch`] and [`reset`]: block after block, and the last line |
 //! | `job` | which of both is made |
 //! | `blocks` | a block: it is loaded, all passes are made, and the line of each lane is written |
@@ -20,6 +22,7 @@
 //! | `fault` | [`BatchFault`]: why the text was not written |
 #![tactic(auto, using(hz_write::proofs::Writers::writes_then, hz_write::proofs::Writers::writes_nothing))]
 
+mod batching;
 mod blocks;
 mod columns;
 mod counts;
@@ -31,7 +34,10 @@ mod keys;
 mod lanes;
 mod letter;
 mod outputs;
+mod resetting;
 mod writing;
 
+pub use batching::Batches;
 pub use fault::BatchFault;
+pub use resetting::Resets;
 pub use writing::{batch, reset};

@@ -7,8 +7,8 @@ use Rattle.hz_line.specs.Line as cut
 use Rattle.hz_line.specs.LeastFault.{first_found}
 use Rattle.hz_line.specs.Statement.{Numbered, first_passing_line}
 use Rattle.hz_line.proofs.StatementLemmas.{Ascends}
-use Rattle.hz_blif.specs.Text.{goes_on, joined_from, joined_lines, joined_to, with_space_last, without_comment, tokens_of}
-use Rattle.hz_blif.specs.Line.{Line, Blank, Model, Inputs, Outputs, Names, Row, End, Construct, line_of, lines_in}
+use Rattle.hz_blif.specs.Text.{goes_on, joined_from, joined_lines, joined_to, with_space_last, without_comment, words_of_line}
+use Rattle.hz_blif.specs.Line.{Line, Blank, Model, Inputs, Outputs, Names, Row, End, Construct, line_of_words, lines_in}
 use Rattle.hz_blif.specs.Cover.{Cover, cover_with, covers_of, leading_rows, rows_with, cover_of_line}
 use Rattle.hz_netlist.proofs.Undefined.{one_of, none_of, the_first, a_later}
 
@@ -37,7 +37,7 @@ pub joined_lines-ascend : (text : List ℕ) → Ascends 1 (joined_lines text)
 joined_lines-ascend text = joined_from-ascends 1 (cut.lines_of text)
 
 meant-ascend : (low : ℕ) (lines : List (Numbered (List ℕ))) → Ascends low lines
-    → Ascends low (map (λ line. record { line = line.line; statement = line_of (tokens_of line.statement) }) lines)
+    → Ascends low (map (λ line. record { line = line.line; statement = line_of_words (words_of_line line.statement) }) lines)
 meant-ascend low [] h = tt
 meant-ascend low (first ∷ rest) h = (h.0, meant-ascend (suc first.line) rest h.1)
 

@@ -12,10 +12,10 @@ use Rattle.hz_blif.specs.declared.fault.BlifFault.TheVariants as fault
 use Rattle.hz_blif.specs.declared.notes.Excess.{Excess}
 use Rattle.hz_blif.specs.declared.notes.Redefinition.{Redefinition}
 use Rattle.hz_blif.specs.Check.{count_of, first_fault, first_of, least_of, too_many, twice_after, undefined_use, wrong_form_after, wrong_row}
-use Rattle.hz_blif.specs.Circuit.{elements_of}
+use Rattle.hz_blif.specs.Circuit.{elements_of_lines}
 use Rattle.hz_blif.specs.Cover.{Cover, covers_of, definitions_of, is_constant, is_skipped, is_too_large, uses_of}
 use Rattle.hz_blif.specs.Draft.{IsClean, IsDraftOf, pins_fault, twice_fault}
-use Rattle.hz_blif.specs.Fault.{IsLeastFault, has_long_name, is_forbidden}
+use Rattle.hz_blif.specs.Fault.{IsLeastFault, line_has_long_name, is_forbidden}
 use Rattle.hz_blif.specs.Line.{is_construct, lines_in}
 use Rattle.hz_blif.specs.Text.{joined_lines}
 use Rattle.hz_blif.proofs.FoundFaults.{answer-least}
@@ -31,7 +31,7 @@ stop one rest found is = ap (λ one. first_found (one ∷ rest)) is
 -- the notes are the first faults of their numbers
 pub record AreNoted (text : List ℕ) (draft : Draft) : Type 0 where
   pub form : option_map fault.Form (option_min (first_passing_line (list_any is_forbidden) (joined_lines text)) (wrong_form_after [] (lines_in text))) ≡ None
-  pub name : option_map fault.Name (first_passing_line has_long_name (lines_in text)) ≡ option_map fault.Name draft.notes.long_name
+  pub name : option_map fault.Name (first_passing_line line_has_long_name (lines_in text)) ≡ option_map fault.Name draft.notes.long_name
   pub construct : option_map fault.Construct (first_passing_line is_construct (lines_in text)) ≡ option_map fault.Construct draft.notes.construct
   pub twice : twice_after [] (definitions_of (lines_in text)) ≡ option_map twice_fault draft.notes.again
   pub cover : option_map fault.Cover (first_of (map wrong_row (covers_of (lines_in text)))) ≡ option_map fault.Cover draft.notes.wrong_row
@@ -86,7 +86,7 @@ found-excess text draft excess is name construct again right at =
 pub found-last : (text : List ℕ) (draft : Draft) → IsDraftOf text draft → IsClean draft → first_fault text ≡ first_found (
     option_map (λ (cover : Cover). fault.Constant cover.line) (find (λ cover. is_constant cover && not (is_skipped (lines_in text) cover)) (covers_of (lines_in text)))
     ∷ option_map fault.Undefined (least_of (map (undefined_use (names_of (definitions_of (lines_in text)))) (uses_of (lines_in text))))
-    ∷ too_many (variable_total (elements_of (lines_in text)))
+    ∷ too_many (variable_total (elements_of_lines (lines_in text)))
     ∷ []
     )
 found-last text draft is clean =

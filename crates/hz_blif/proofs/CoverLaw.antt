@@ -7,7 +7,7 @@ use Rattle.hz_netlist.specs.Element.{Element, Input, Output}
 use Rattle.hz_blif.specs.Line.{lines_in}
 use Rattle.hz_blif.specs.Cover.{Cover, covers_of, inputs_of, is_skipped, kept_covers, outputs_of}
 use Rattle.hz_blif.specs.Gates.{cover_gates}
-use Rattle.hz_blif.specs.Circuit.{blif_circuit, elements_of}
+use Rattle.hz_blif.specs.Circuit.{blif_circuit, elements_of_lines}
 use Rattle.hz_blif.specs.Fault.{IsFaultless}
 use Rattle.hz_blif.specs.Law.{node_value, KeepsCovers}
 use Rattle.hz_blif.proofs.KeptCovers.{kept-member, kept-terms}
@@ -31,7 +31,7 @@ keeps-covers text faultless input state long stable cover member =
     let value = node_value (blif_circuit text) state in
     let kept = kept-member (λ cover. not (is_skipped lines cover)) (covers_of lines) member.0 cover member.1 member.2 in
     let terms = kept-terms text faultless cover kept.0 (not-true (is_skipped lines cover) kept.1) in
-    let all = stable-elements (elements_of lines) input state (built_circuit (elements_of lines) (wired-text text faultless)) long stable in
+    let all = stable-elements (elements_of_lines lines) input state (built_circuit (elements_of_lines lines) (wired-text text faultless)) long stable in
     let outputs : List Element = map (λ (output : Numbered (List ℕ)). Output output.statement) (outputs_of lines) in
     let gates = agree-front value (flat_map cover_gates (kept_covers lines)) outputs
     (agree-back value (map Input (inputs_of lines)) (flat_map cover_gates (kept_covers lines) ++ outputs) all) in

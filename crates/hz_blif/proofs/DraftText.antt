@@ -7,7 +7,7 @@ use Rattle.hz_netlist.specs.Build.{AreWired}
 use Rattle.hz_netlist.specs.Element.{Element, Input, Output}
 use Rattle.hz_blif.specs.declared.draft.Draft.{Draft}
 use Rattle.hz_blif.specs.Built.{IsBuildable, elements_of_draft}
-use Rattle.hz_blif.specs.Circuit.{elements_of}
+use Rattle.hz_blif.specs.Circuit.{elements_of_lines}
 use Rattle.hz_blif.specs.Cover.{inputs_of, kept_covers, outputs_of}
 use Rattle.hz_blif.specs.Draft.{HoldsElements}
 use Rattle.hz_blif.specs.Entries.{elements_by}
@@ -17,7 +17,7 @@ use Rattle.hz_blif.specs.Line.{lines_in}
 use Rattle.hz_blif.proofs.WiredText.{wired-text}
 use Rattle.hz_netlist.specs.Names.{names_at, name_at}
 
-pub elements-of-text : (text : List ℕ) (draft : Draft) → HoldsElements text draft → elements_of_draft draft ≡ elements_of (lines_in text)
+pub elements-of-text : (text : List ℕ) (draft : Draft) → HoldsElements text draft → elements_of_draft draft ≡ elements_of_lines (lines_in text)
 elements-of-text text draft holds =
     let gates = elements_by (name_at draft.names) draft.gates in
     let outputs = names_at draft.names draft.outputs.items in

@@ -9,14 +9,14 @@ use Rattle.hz_blif.specs.declared.fault.BlifFault.TheVariants as fault
 use Rattle.hz_blif.specs.Check.{first_fault}
 use Rattle.hz_blif.specs.Line.{lines_in, Names, Row, Construct}
 use Rattle.hz_blif.specs.Cover.{kept_covers}
-use Rattle.hz_blif.specs.Circuit.{blif_circuit, elements_of}
+use Rattle.hz_blif.specs.Circuit.{blif_circuit, elements_of_lines}
 
 abbrev mux : List ℕ
 mux = codes ".model mux\n.inputs s x y\n.outputs z\n.names s x y z\n11- 1\n0-1 1\n.end\n"
 
 -- the multiplexer: an inverter, two row gates and the output, which are named as said
 mux_elements :
-    elements_of (lines_in mux) ≡
+    elements_of_lines (lines_in mux) ≡
     Input (codes "s") ∷ Input (codes "x") ∷ Input (codes "y")
     ∷ Gate (inverter_name (codes "z") 1) Not (codes "s" ∷ [])
     ∷ Gate (row_name (codes "z") 1) And (codes "s" ∷ codes "x" ∷ [])
@@ -30,7 +30,7 @@ consensus_variables : variable_count (blif_circuit (codes ".model mux\n.inputs s
 consensus_variables = refl
 
 -- a constant cover that nothing names has no gates, and its pins are no uses
-skipped_cover : elements_of (lines_in (codes ".inputs a\n.outputs y\n.names $false\n.names a y\n1 1\n")) ≡
+skipped_cover : elements_of_lines (lines_in (codes ".inputs a\n.outputs y\n.names $false\n.names a y\n1 1\n")) ≡
     Input (codes "a") ∷ Gate (codes "y") Buff (codes "a" ∷ []) ∷ Output (codes "y") ∷ []
 skipped_cover = refl
 
@@ -39,13 +39,13 @@ kept_by_skipped : map (λ cover. cover.output) (kept_covers (lines_in (codes ".n
 kept_by_skipped = refl
 
 -- column 0 with one row, and with one literal, plain and complemented
-column_zero : elements_of (lines_in (codes ".names a b y\n10 0\n.names a z\n1 0\n.names a w\n0 0\n")) ≡
+column_zero : elements_of_lines (lines_in (codes ".names a b y\n10 0\n.names a z\n1 0\n.names a w\n0 0\n")) ≡
     Gate (inverter_name (codes "y") 2) Not (codes "b" ∷ []) ∷ Gate (codes "y") Nand (codes "a" ∷ inverter_name (codes "y") 2 ∷ [])
     ∷ Gate (codes "z") Not (codes "a" ∷ []) ∷ Gate (codes "w") Buff (codes "a" ∷ []) ∷ []
 column_zero = refl
 
 -- several rows of column 0: a row of one literal stands for itself
-column_zero_rows : elements_of (lines_in (codes ".names a b y\n0- 0\n11 0\n")) ≡
+column_zero_rows : elements_of_lines (lines_in (codes ".names a b y\n0- 0\n11 0\n")) ≡
     Gate (inverter_name (codes "y") 1) Not (codes "a" ∷ []) ∷ Gate (row_name (codes "y") 2) And (codes "a" ∷ codes "b" ∷ [])
     ∷ Gate (codes "y") Nor (inverter_name (codes "y") 1 ∷ row_name (codes "y") 2 ∷ []) ∷ []
 column_zero_rows = refl

@@ -18,8 +18,8 @@ use Rattle.hz_blif.specs.declared.fault.BlifFault.TheVariants as fault
 use Rattle.hz_blif.specs.Text.{joined_lines}
 use Rattle.hz_blif.specs.Line.{Line, Inputs, Outputs, Names, Row, Model, End, Blank, Construct as ConstructLine, lines_in, is_construct}
 use Rattle.hz_blif.specs.Cover.{Cover, covers_of, definitions_of, definitions_with, uses_of, is_wrong_row, is_skipped, is_constant, is_too_large}
-use Rattle.hz_blif.specs.Circuit.{elements_of}
-use Rattle.hz_blif.specs.Fault.{Stands, IsSecond, HasFault, HasForbidden, HasWrongForm, HasThat, HasCover, IsTooLarge, UsesUndefined, IsFaultless, IsLeastFault, IsBlifRefusal, blif_faults, fault_number, fault_line, has_long_name, is_forbidden}
+use Rattle.hz_blif.specs.Circuit.{elements_of_lines}
+use Rattle.hz_blif.specs.Fault.{Stands, IsSecondDefinition, HasFault, HasForbidden, HasWrongForm, HasThat, HasCover, IsTooLarge, UsesUndefined, IsFaultless, IsLeastFault, IsBlifRefusal, blif_faults, blif_fault_number, blif_fault_line, line_has_long_name, is_forbidden}
 use Rattle.hz_blif.specs.Check.{wrong_form_after, twice_after, wrong_row, first_of, least_of, count_of, undefined_use, faults_in, first_fault}
 use Rattle.hz_line.proofs.StatementLemmas.{Ascends}
 use Rattle.hz_blif.proofs.Ascending.{HasRowAt, covers-ascend, find-cover, find-no_cover, first-least, first-row-least, joined_lines-ascend, lines_in-ascend, one-line}
@@ -31,15 +31,15 @@ use Rattle.hz_netlist.proofs.Undefined.{one_of, none_of, the_first, a_later, Cli
 abbrev pub ByNumber : List ℕ → ℕ → ℕ → ℕ → Type 0
 ByNumber text zero line count = ⊥
 ByNumber text (suc zero) line count = (HasForbidden text line ⊎ HasWrongForm text line) × (count ≡ 0)
-ByNumber text (suc (suc zero)) line count = HasThat has_long_name text line × (count ≡ 0)
+ByNumber text (suc (suc zero)) line count = HasThat line_has_long_name text line × (count ≡ 0)
 ByNumber text (suc (suc (suc zero))) line count = HasThat is_construct text line × (count ≡ 0)
-ByNumber text (suc (suc (suc (suc zero)))) line count = IsSecond (definitions_of (lines_in text)) line count
+ByNumber text (suc (suc (suc (suc zero)))) line count = IsSecondDefinition (definitions_of (lines_in text)) line count
 ByNumber text (suc (suc (suc (suc (suc zero))))) line count = HasRowAt is_wrong_row (covers_of (lines_in text)) line × (count ≡ 0)
 ByNumber text (suc (suc (suc (suc (suc (suc zero)))))) line count = (cover : Cover) × HasCover text cover × (cover.line ≡ line) × IsTooLarge cover count
 ByNumber text (suc (suc (suc (suc (suc (suc (suc zero))))))) line count =
     ((cover : Cover) × HasCover text cover × (cover.line ≡ line) × (is_constant cover ≡ true) × (is_skipped (lines_in text) cover ≡ false)) × (count ≡ 0)
 ByNumber text (suc (suc (suc (suc (suc (suc (suc (suc zero)))))))) line count = UsesUndefined (definitions_of (lines_in text)) (uses_of (lines_in text)) line × (count ≡ 0)
-ByNumber text (suc (suc (suc (suc (suc (suc (suc (suc (suc zero))))))))) line count = (line ≡ 0) × (most_variables < count) × (variable_total (elements_of (lines_in text)) ≡ count)
+ByNumber text (suc (suc (suc (suc (suc (suc (suc (suc (suc zero))))))))) line count = (line ≡ 0) × (most_variables < count) × (variable_total (elements_of_lines (lines_in text)) ≡ count)
 ByNumber text (suc (suc (suc (suc (suc (suc (suc (suc (suc (suc more)))))))))) line count = ⊥
 
 abbrev pub fault_count : BlifFault → ℕ
@@ -54,7 +54,7 @@ fault_count (fault.Undefined line) = 0
 fault_count (fault.TooMany variables) = variables
 fault_count fault.Memory = 0
 
-by_number : (text : List ℕ) (one : BlifFault) → HasFault text one → ByNumber text (fault_number one) (fault_line one) (fault_count one)
+by_number : (text : List ℕ) (one : BlifFault) → HasFault text one → ByNumber text (blif_fault_number one) (blif_fault_line one) (fault_count one)
 by_number text (fault.Form line) p = (p, refl)
 by_number text (fault.Name line) p = (p, refl)
 by_number text (fault.Construct line) p = (p, refl)
@@ -67,18 +67,18 @@ by_number text (fault.TooMany variables) p = (refl, p.0, p.1)
 by_number text fault.Memory p = p
 
 -- at another number that is the same
-at_number : (text : List ℕ) (one : BlifFault) (number : ℕ) → HasFault text one → fault_number one ≡ number → ByNumber text number (fault_line one) (fault_count one)
-at_number text one number p same = subst (λ number. ByNumber text number (fault_line one) (fault_count one)) same (by_number text one p)
+at_number : (text : List ℕ) (one : BlifFault) (number : ℕ) → HasFault text one → blif_fault_number one ≡ number → ByNumber text number (blif_fault_line one) (fault_count one)
+at_number text one number p same = subst (λ number. ByNumber text number (blif_fault_line one) (fault_count one)) same (by_number text one p)
 
 -- a fault of a number that is found by its line
 found-line : (text : List ℕ) (number : ℕ) (fault_at : ℕ → BlifFault) (P : ℕ → Type 0) (found : Option ℕ) (rest : List (Option BlifFault))
-    → ((line : ℕ) → fault_number (fault_at line) ≡ number) → ((line : ℕ) → fault_line (fault_at line) ≡ line) → ((line : ℕ) → P line → HasFault text (fault_at line))
+    → ((line : ℕ) → blif_fault_number (fault_at line) ≡ number) → ((line : ℕ) → blif_fault_line (fault_at line) ≡ line) → ((line : ℕ) → P line → HasFault text (fault_at line))
     → ((line count : ℕ) → ByNumber text number line count → P line) → IsLeastOf P found → AreFound (blif_faults text) (suc number) rest → AreFound (blif_faults text) number (option_map fault_at found ∷ rest)
-found-line text number fault_at P None rest is at stands by least more = (λ other p same. least (fault_line other) (by (fault_line other) (fault_count other) (at_number text other number p same)), more)
+found-line text number fault_at P None rest is at stands by least more = (λ other p same. least (blif_fault_line other) (by (blif_fault_line other) (fault_count other) (at_number text other number p same)), more)
 found-line text number fault_at P (Some line) rest is at stands by least more = record {
   stands = stands line least.here;
   number_is = is line;
-  least = λ other p same. (let up = least.least (fault_line other) (by (fault_line other) (fault_count other) (at_number text other number p same)) in omega (arith, up, at line));
+  least = λ other p same. (let up = least.least (blif_fault_line other) (by (blif_fault_line other) (fault_count other) (at_number text other number p same)) in omega (arith, up, at line));
 }
 
 -- names defined twice
@@ -108,7 +108,7 @@ Some-None : (line : ℕ) → Some line ≡ None → ⊥
 Some-None line e = cc
 
 -- where two second definitions stand, the one that was found and another
-second-place : (definitions : List (Numbered (List ℕ))) (line first other_line other_first : ℕ) → Climbs 1 definitions → IsTwiceAfter [] definitions line first → IsSecond definitions other_line other_first
+second-place : (definitions : List (Numbered (List ℕ))) (line first other_line other_first : ℕ) → Climbs 1 definitions → IsTwiceAfter [] definitions line first → IsSecondDefinition definitions other_line other_first
     → line ≤ other_line
 second-place definitions line first other_line other_first up is other =
     elim (stands-cases is.middle (record { line = line; statement = is.name } ∷ is.stands.after) other.before other_line other.name (record { after = other.stands.after; split = sym is.stands.split ∙ other.stands.split })) [
@@ -122,13 +122,13 @@ second-place definitions line first other_line other_first up is other =
 
 found-twice : (text : List ℕ) (found : Option BlifFault) (rest : List (Option BlifFault)) → IsTwiceFound [] (definitions_of (lines_in text)) found
     → AreFound (blif_faults text) 5 rest → AreFound (blif_faults text) 4 (found ∷ rest)
-found-twice text None rest none more = (λ other p same. (let is = at_number text other 4 p same in Some-None (fault_count other) (sym is.first_is ∙ none is.before (fault_line other) is.name is.stands)), more)
+found-twice text None rest none more = (λ other p same. (let is = at_number text other 4 p same in Some-None (fault_count other) (sym is.first_is ∙ none is.before (blif_fault_line other) is.name is.stands)), more)
 found-twice text (Some one) rest (line, first, is, it) more =
     subst (λ (one : BlifFault). IsLeastOfNumber (blif_faults text) 4 one) (sym is)
     (record {
       stands = record { before = it.middle; name = it.name; stands = it.stands; first_is = it.first_is; earliest = λ earlier other s. it.earliest earlier line other s };
       number_is = refl;
-      least = λ other p same. second-place (definitions_of (lines_in text)) line first (fault_line other) (fault_count other) (definitions-climb (lines_in text) 1 (lines_in-ascend text)) it (at_number text other 4 p same);
+      least = λ other p same. second-place (definitions_of (lines_in text)) line first (blif_fault_line other) (fault_count other) (definitions-climb (lines_in text) 1 (lines_in-ascend text)) it (at_number text other 4 p same);
     })
 
 -- covers that are too large, and constant covers that are used
@@ -228,7 +228,7 @@ undefined-least defined (first ∷ rest) =
     (here-least defined first (is_among defined first.statement) refl) (undefined-least defined rest)))
 
 -- the numbers begin with 1 and end with 9
-number-bounds : (text : List ℕ) (one : BlifFault) → HasFault text one → (1 ≤ fault_number one) × (fault_number one < 10)
+number-bounds : (text : List ℕ) (one : BlifFault) → HasFault text one → (1 ≤ blif_fault_number one) × (blif_fault_number one < 10)
 number-bounds text (fault.Form line) p = (lit≤ tt, lit≤ tt)
 number-bounds text (fault.Name line) p = (lit≤ tt, lit≤ tt)
 number-bounds text (fault.Construct line) p = (lit≤ tt, lit≤ tt)
@@ -241,7 +241,7 @@ number-bounds text (fault.TooMany variables) p = (lit≤ tt, lit≤ tt)
 number-bounds text fault.Memory p = absurd p
 
 -- too many variables
-found-many : (text : List ℕ) (variables : ℕ) (many : Bool) → nat_lt most_variables variables ≡ many → variable_total (elements_of (lines_in text)) ≡ variables
+found-many : (text : List ℕ) (variables : ℕ) (many : Bool) → nat_lt most_variables variables ≡ many → variable_total (elements_of_lines (lines_in text)) ≡ variables
     → AreFound (blif_faults text) 9 (cond many (Some (fault.TooMany variables)) None ∷ [])
 found-many text variables true t is = record {
   stands = (grind (arith, nat_tests, t), is);
@@ -261,8 +261,8 @@ are-found text =
     (option_min (first_passing_line (list_any is_forbidden) (joined_lines text)) (wrong_form_after [] lines)) _ (λ line. refl) (λ line. refl) (λ line p. p) (λ line count p. p.0)
     (IsLeastOf-either (HasForbidden text) (HasWrongForm text) (first_passing_line (list_any is_forbidden) (joined_lines text)) (wrong_form_after [] lines)
     (first-least (list_any is_forbidden) (joined_lines text) 1 (joined_lines-ascend text)) (wrong-form-least [] lines 1 (lines_in-ascend text)))
-    (found-line text 2 fault.Name (HasThat has_long_name text) (first_passing_line has_long_name lines) _ (λ line. refl) (λ line. refl) (λ line p. p) (λ line count p. p.0)
-    (first-least has_long_name lines 1 (lines_in-ascend text))
+    (found-line text 2 fault.Name (HasThat line_has_long_name text) (first_passing_line line_has_long_name lines) _ (λ line. refl) (λ line. refl) (λ line p. p) (λ line count p. p.0)
+    (first-least line_has_long_name lines 1 (lines_in-ascend text))
     (found-line text 3 fault.Construct (HasThat is_construct text) (first_passing_line is_construct lines) _ (λ line. refl) (λ line. refl) (λ line p. p) (λ line count p. p.0)
     (first-least is_construct lines 1 (lines_in-ascend text))
     (found-twice text (twice_after [] (definitions_of lines)) _ (twice-found [] (definitions_of lines))
@@ -272,7 +272,7 @@ are-found text =
     (found-constant text (find (λ cover. is_constant cover && not (is_skipped lines cover)) covers) _ refl
     (found-line text 8 fault.Undefined (UsesUndefined (definitions_of lines) (uses_of lines)) (least_of (map (undefined_use (names_of (definitions_of lines))) (uses_of lines))) _ (λ line. refl) (λ line. refl) (λ line p. p) (λ line count p. p.0)
     (undefined-least (names_of (definitions_of lines)) (uses_of lines))
-    (found-many text (variable_total (elements_of lines)) (nat_lt most_variables (variable_total (elements_of lines))) refl refl))))))))
+    (found-many text (variable_total (elements_of_lines lines)) (nat_lt most_variables (variable_total (elements_of_lines lines))) refl refl))))))))
 
 pub first-answer : (text : List ℕ) → IsAnswer (blif_faults text) (first_fault text)
 first-answer text = found-least (blif_faults text) 1 (faults_in text) (λ one p. (number-bounds text one p).0) (are-found text)
@@ -286,7 +286,7 @@ answer-faultless text is = subst (IsAnswer (blif_faults text)) is (first-answer 
 
 -- the least fault is one
 -- two second definitions that are the earliest of one line are one
-same-second : (definitions : List (Numbered (List ℕ))) (line one other : ℕ) → IsSecond definitions line one → IsSecond definitions line other → one ≡ other
+same-second : (definitions : List (Numbered (List ℕ))) (line one other : ℕ) → IsSecondDefinition definitions line one → IsSecondDefinition definitions line other → one ≡ other
 same-second definitions line one other a b =
     elim (stands-cases a.before (record { line = line; statement = a.name } ∷ a.stands.after) b.before line b.name (record { after = b.stands.after; split = sym a.stands.split ∙ b.stands.split })) [
       | inl front ↦ absurd (Some-None other (sym b.first_is ∙ a.earliest b.before b.name front))
@@ -342,7 +342,7 @@ fault_of (suc (suc (suc (suc (suc (suc (suc (suc zero)))))))) line count = fault
 fault_of (suc (suc (suc (suc (suc (suc (suc (suc (suc zero))))))))) line count = fault.TooMany count
 fault_of (suc (suc (suc (suc (suc (suc (suc (suc (suc (suc more)))))))))) line count = fault.Memory
 
-fault_of-back : (one : BlifFault) → fault_of (fault_number one) (fault_line one) (fault_count one) ≡ one
+fault_of-back : (one : BlifFault) → fault_of (blif_fault_number one) (blif_fault_line one) (fault_count one) ≡ one
 fault_of-back (fault.Form line) = refl
 fault_of-back (fault.Name line) = refl
 fault_of-back (fault.Construct line) = refl
@@ -358,10 +358,10 @@ pub least-unique : (text : List ℕ) (one other : BlifFault) → IsLeastFault te
 least-unique text one other a b =
     let same = both-first (blif_faults text) one other (a.least other b.stands) (b.least one a.stands) in
     let counts : fault_count one ≡ fault_count other =
-    same-count text (fault_number one) (fault_line one) (fault_count one) (fault_count other) (by_number text one a.stands)
-    (subst (λ line. ByNumber text (fault_number one) line (fault_count other)) (sym same.1) (at_number text other (fault_number one) b.stands (sym same.0))) in
-    sym (fault_of-back one) ∙ ap (λ number. fault_of number (fault_line one) (fault_count one)) same.0 ∙ ap (λ line. fault_of (fault_number other) line (fault_count one)) same.1
-    ∙ ap (fault_of (fault_number other) (fault_line other)) counts ∙ fault_of-back other
+    same-count text (blif_fault_number one) (blif_fault_line one) (fault_count one) (fault_count other) (by_number text one a.stands)
+    (subst (λ line. ByNumber text (blif_fault_number one) line (fault_count other)) (sym same.1) (at_number text other (blif_fault_number one) b.stands (sym same.0))) in
+    sym (fault_of-back one) ∙ ap (λ number. fault_of number (blif_fault_line one) (fault_count one)) same.0 ∙ ap (λ line. fault_of (blif_fault_number other) line (fault_count one)) same.1
+    ∙ ap (fault_of (blif_fault_number other) (blif_fault_line other)) counts ∙ fault_of-back other
 
 pub answer-exact : (text : List ℕ) (one other : BlifFault) → IsBlifRefusal text one → IsLeastFault text other → (one ≡ other) ⊎ (one ≡ fault.Memory)
 answer-exact text one other (inl memory) least = inr memory

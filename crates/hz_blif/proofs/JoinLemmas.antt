@@ -12,14 +12,14 @@ use Rattle.hz_blif.specs.declared.lines.JoinedLine.{JoinedLine}
 use Rattle.hz_blif.specs.Cover.{all_but_last}
 use Rattle.hz_blif.specs.Fault.{is_forbidden}
 use Rattle.hz_blif.specs.Reading.{IsJoinedLine, bytes_of}
-use Rattle.hz_blif.specs.Text.{goes_on, joined_from, joined_to, tokens_of, with_line, with_space_last, without_comment}
+use Rattle.hz_blif.specs.Text.{goes_on, joined_from, joined_to, words_of_line, with_line, with_space_last, without_comment}
 use Rattle.hz_blif.proofs.TokenLemmas.{space_last, tokens_of-space}
 
 -- what was read so far of a joined line: all its lines go on, so that the tokens of what comes next come behind theirs
 pub record IsJoining (text : List ℕ) (tokens : List (List ℕ)) (lines : ℕ) (forbidden : Bool) (rest : Option (Bor (List ℕ))) : Type 0 where
   pub bytes : List ℕ
   pub joined : (line : ℕ) → joined_from line (lines_of text) ≡ joined_to line bytes (joined_from (line + lines) (lines_of_rest rest))
-  pub spaced : (more : List ℕ) → tokens_of (bytes ++ more) ≡ tokens ++ tokens_of more
+  pub spaced : (more : List ℕ) → words_of_line (bytes ++ more) ≡ tokens ++ words_of_line more
   pub seen : forbidden ≡ list_any is_forbidden bytes
 
 -- joining nothing to a first line leaves it
@@ -54,7 +54,7 @@ pub joining-told : (text : List ℕ) (tokens : List (List ℕ)) (lines : ℕ) (f
 joining-told text tokens lines forbidden rest tokens_now lines_now forbidden_now was same_tokens same_lines same = record {
   bytes = was.bytes;
   joined = λ line. was.joined line ∙ ap (λ n. joined_to line was.bytes (joined_from (line + n) (lines_of_rest rest))) (sym same_lines);
-  spaced = λ more. was.spaced more ∙ ap (λ tokens. tokens ++ tokens_of more) (sym same_tokens);
+  spaced = λ more. was.spaced more ∙ ap (λ tokens. tokens ++ words_of_line more) (sym same_tokens);
   seen = same ∙ was.seen;
 }
 
@@ -74,7 +74,7 @@ with-more line bytes later h =
 -- one line more, which goes on
 pub joining-more : (text : List ℕ) (tokens : List (List ℕ)) (lines : ℕ) (forbidden : Bool) (left : Bor (List ℕ)) (line : List ℕ) (rest : Option (Bor (List ℕ))) (front : List ℕ)
     → IsJoining text tokens lines forbidden (Some left) → lines_of left.now ≡ line ∷ lines_of_rest rest → goes_on (without_comment line) ≡ true → front ≡ all_but_last (without_comment line)
-    → IsJoining text (tokens ++ tokens_of front) (suc lines) (forbidden || list_any is_forbidden front) rest
+    → IsJoining text (tokens ++ words_of_line front) (suc lines) (forbidden || list_any is_forbidden front) rest
 joining-more text tokens lines forbidden left line rest front was cut more is =
     let bytes = without_comment line in
     record {
@@ -87,9 +87,9 @@ joining-more text tokens lines forbidden left line rest front was cut more is =
           ∙ joined-twice number (number + lines) was.bytes (front ++ 32 ∷ []) (joined_from (suc (number + lines)) (lines_of_rest rest))
           ∙ ap (λ (next : ℕ). joined_to number (was.bytes ++ (front ++ 32 ∷ [])) (joined_from next (lines_of_rest rest))) (omega arith);
       spaced = λ later.
-          ap tokens_of (append_assoc was.bytes (front ++ 32 ∷ []) later ∙ ap (λ rest. was.bytes ++ rest) (append_assoc front (32 ∷ []) later))
+          ap words_of_line (append_assoc was.bytes (front ++ 32 ∷ []) later ∙ ap (λ rest. was.bytes ++ rest) (append_assoc front (32 ∷ []) later))
           ∙ was.spaced (front ++ 32 ∷ later) ∙ ap (λ found. tokens ++ found) (tokens_of-space front later)
-          ∙ sym (append_assoc tokens (tokens_of front) (tokens_of later));
+          ∙ sym (append_assoc tokens (words_of_line front) (words_of_line later));
       seen = ap (λ b. b || list_any is_forbidden front) was.seen
           ∙ sym (list_any-append is_forbidden was.bytes (front ++ 32 ∷ []) ∙ ap (λ b. list_any is_forbidden was.bytes || b) (list_any-append is_forbidden front (32 ∷ []) ∙ or-false (list_any is_forbidden front)));
     }
@@ -102,7 +102,7 @@ joining-more text tokens lines forbidden left line rest front was cut more is =
 pub record IsJoined (text : List ℕ) (tokens : List (List ℕ)) (lines : ℕ) (forbidden : Bool) (rest : Option (Bor (List ℕ))) : Type 0 where
   pub bytes : List ℕ
   pub first : (line : ℕ) → joined_from line (lines_of text) ≡ record { line = line; statement = bytes } ∷ joined_from (line + lines) (lines_of_rest rest)
-  pub tokens_are : tokens_of bytes ≡ tokens
+  pub tokens_are : words_of_line bytes ≡ tokens
   pub seen : forbidden ≡ list_any is_forbidden bytes
 
 -- the text ends where its last line would go on
@@ -110,7 +110,7 @@ pub joined-end : (text : List ℕ) (tokens : List (List ℕ)) (lines : ℕ) (for
 joined-end text tokens lines forbidden was = record {
   bytes = was.bytes;
   first = was.joined;
-  tokens_are = ap tokens_of (sym (append-nil was.bytes)) ∙ was.spaced [] ∙ append-nil tokens;
+  tokens_are = ap words_of_line (sym (append-nil was.bytes)) ∙ was.spaced [] ∙ append-nil tokens;
   seen = was.seen;
 }
 

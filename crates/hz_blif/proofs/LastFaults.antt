@@ -24,7 +24,7 @@ use Rattle.hz_blif.proofs.Growing.{varying-room}
 use Rattle.hz_blif.proofs.TextRoom.{text-room}
 use Rattle.hz_blif.specs.declared.fault.BlifFault.TheVariants as fault
 use Rattle.hz_blif.specs.Check.{first_fault, least_of, undefined_use, too_many}
-use Rattle.hz_blif.specs.Circuit.{elements_of}
+use Rattle.hz_blif.specs.Circuit.{elements_of_lines}
 use Rattle.hz_blif.specs.Cover.{Cover, all_but_last, cover_of_line, covers_of, definitions_of, inputs_of, is_constant, is_skipped, is_used, kept_covers, last_token, leading_rows, outputs_of, outputs_with, uses_of}
 use Rattle.hz_blif.specs.Draft.{IsClean, IsDraftOf, constant_by, cover_uses, first_used, is_used_number, output_on, uses_in_order, varying}
 use Rattle.hz_blif.specs.Gates.{cover_gates}
@@ -165,7 +165,7 @@ outputs-total (one ∷ rest) = (let a = sum_by-cons element_variables (Output on
 
 pub variables-told : (text : List ℕ) (draft : Draft) → IsDraftOf text draft → IsClean draft
     → find (λ cover. is_constant cover && not (is_skipped (lines_in text) cover)) (covers_of (lines_in text)) ≡ None
-    → variable_total (elements_of (lines_in text)) ≡ length draft.inputs.items + draft.variables
+    → variable_total (elements_of_lines (lines_in text)) ≡ length draft.inputs.items + draft.variables
 variables-told text draft is clean none =
     let lines = lines_in text in
     let read = is-read lines in
@@ -261,8 +261,8 @@ last-two text draft is clean at =
     let lines = lines_in text in
     found-last text draft is clean
     ∙ (ap (λ found. first_found (option_map (λ (cover : Cover). fault.Constant cover.line) found
-    ∷ option_map fault.Undefined (least_of (map (undefined_use (names_of (definitions_of lines))) (uses_of lines))) ∷ too_many (variable_total (elements_of lines)) ∷ [])) none
-    ∙ (ap (λ line. first_found (option_map fault.Undefined line ∷ too_many (variable_total (elements_of lines)) ∷ [])) (undefined-told text draft is clean none)
+    ∷ option_map fault.Undefined (least_of (map (undefined_use (names_of (definitions_of lines))) (uses_of lines))) ∷ too_many (variable_total (elements_of_lines lines)) ∷ [])) none
+    ∙ (ap (λ line. first_found (option_map fault.Undefined line ∷ too_many (variable_total (elements_of_lines lines)) ∷ [])) (undefined-told text draft is clean none)
     ∙ ap (λ variables. first_found (option_map fault.Undefined (first_undefined draft.names) ∷ too_many variables ∷ [])) (variables-told text draft is clean none)))
 
 pub refuse-undefined : (text : List ℕ) (draft : Draft) (line : ℕ) → IsDraftOf text draft → IsClean draft → first_used draft draft.constants.items ≡ None → first_undefined draft.names ≡ Some line → IsLeastFault text (fault.Undefined line)

@@ -17,10 +17,10 @@ use Rattle.hz_blif.specs.declared.lines.JoinedLine.{JoinedLine}
 use Rattle.hz_blif.specs.Check.{wrong_form_after}
 use Rattle.hz_blif.specs.Cover.{covers_of}
 use Rattle.hz_blif.specs.Draft.{Holds, IsDraftOf, MayGoOn, Read, closed, cover_room, nothing_read, noting, read_of, taking, with_next}
-use Rattle.hz_blif.specs.Fault.{HasFault, HasForbidden, HasWrongForm, IsLeastFault, Stands, fault_line, fault_number, has_wrong_form, is_forbidden}
-use Rattle.hz_blif.specs.Line.{Line, line_of, lines_in}
+use Rattle.hz_blif.specs.Fault.{HasFault, HasForbidden, HasWrongForm, IsLeastFault, Stands, blif_fault_line, blif_fault_number, has_wrong_form, is_forbidden}
+use Rattle.hz_blif.specs.Line.{Line, line_of_words, lines_in}
 use Rattle.hz_blif.specs.Reading.{IsJoinedLine, bytes_of, course_of}
-use Rattle.hz_blif.specs.Text.{joined_from, joined_lines, tokens_of}
+use Rattle.hz_blif.specs.Text.{joined_from, joined_lines, words_of_line}
 use Rattle.hz_blif.proofs.Ascending.{above, joined_lines-ascend, lines_in-ascend}
 use Rattle.hz_blif.proofs.FaultLaws.{stands-cases, stands-contained}
 use Rattle.hz_blif.proofs.ReadLaws.{room-so-far}
@@ -32,7 +32,7 @@ true-false e = cc
 
 -- what a line is
 abbrev pub meant : Numbered (List ℕ) → Numbered Line
-meant line = record { line = line.line; statement = line_of (tokens_of line.statement) }
+meant line = record { line = line.line; statement = line_of_words (words_of_line line.statement) }
 
 -- what was read of a text so far: the lines that were seen have no wrong form
 pub record IsReading (text : List ℕ) (draft : Draft) (course : Course) (number : ℕ) (rest : Option (Bor (List ℕ))) : Type 0 where
@@ -88,14 +88,14 @@ fold-push (first ∷ rest) next read = fold-push rest next (with_next read first
 
 pub reading-more : (text : List ℕ) (draft new : Draft) (course more : Course) (number : ℕ) (left : Bor (List ℕ)) (tokens : List (Bor (List ℕ))) (joined : JoinedLine) (line : Line) (wrong : Bool)
     → IsReading text draft course number (Some left) → IsJoinedLine left.now tokens joined → joined.lines + rest_length joined.rest ≤ length left.now + 1
-    → joined.is_forbidden ≡ false → line ≡ line_of (bytes_of tokens) → wrong ≡ false
+    → joined.is_forbidden ≡ false → line ≡ line_of_words (bytes_of tokens) → wrong ≡ false
     → ((before : List (Numbered Line)) → course ≡ course_of before → wrong ≡ has_wrong_form before line)
     → ((before : List (Numbered Line)) (number : ℕ) → course ≡ course_of before → more ≡ course_of (before ++ record { line = number; statement = line } ∷ []))
     → ((read : Read) → Holds read draft → Holds (taking number line (noting number line read)) new)
     → IsReading text new more (number + joined.lines) joined.rest
 reading-more text draft new course more number left tokens joined line wrong was is counted clean line_is formed refuses goes taken =
     let next : Numbered (List ℕ) = record { line = number; statement = is.bytes } in
-    let told : line ≡ (meant next).statement = line_is ∙ ap line_of (sym is.tokens_are) in
+    let told : line ≡ (meant next).statement = line_is ∙ ap line_of_words (sym is.tokens_are) in
     let all : map meant (was.seen ++ next ∷ []) ≡ map meant was.seen ++ record { line = number; statement = line } ∷ [] =
     map-append meant was.seen (next ∷ []) ∙ ap (λ line. map meant was.seen ++ record { line = number; statement = line } ∷ []) (sym told) in
     record {
@@ -170,7 +170,7 @@ formed-before before (first ∷ rest) middle line it none s wrong = by_first (ha
         (ap (λ before. has_wrong_form before it) (append_assoc before (first ∷ []) middle) ∙ (ap (λ (one : Numbered Line). has_wrong_form (before ++ one ∷ middle) it) same ∙ wrong))
 
 pub reading-fault : (text : List ℕ) (draft : Draft) (course : Course) (number : ℕ) (left : Bor (List ℕ)) (tokens : List (Bor (List ℕ))) (joined : JoinedLine) (line : Line) (wrong : Bool)
-    → IsReading text draft course number (Some left) → IsJoinedLine left.now tokens joined → line ≡ line_of (bytes_of tokens)
+    → IsReading text draft course number (Some left) → IsJoinedLine left.now tokens joined → line ≡ line_of_words (bytes_of tokens)
     → (joined.is_forbidden ≡ true) ⊎ ((wrong ≡ true) × ((before : List (Numbered Line)) → course ≡ course_of before → wrong ≡ has_wrong_form before line))
     → IsLeastFault text (fault.Form number)
 reading-fault text draft course number left tokens joined line wrong was is line_is bad =
@@ -178,7 +178,7 @@ reading-fault text draft course number left tokens joined line wrong was is line
     let later = joined_from (number + joined.lines) (lines_of_rest joined.rest) in
     let split : joined_lines text ≡ was.seen ++ next ∷ later = was.split ∙ ap (λ lines. was.seen ++ lines) (is.first number) in
     let lines : lines_in text ≡ map meant was.seen ++ meant next ∷ map meant later = ap (map meant) split ∙ map-append meant was.seen (next ∷ later) in
-    let told : line ≡ (meant next).statement = line_is ∙ ap line_of (sym is.tokens_are) in
+    let told : line ≡ (meant next).statement = line_is ∙ ap line_of_words (sym is.tokens_are) in
     let rest_ascends : Ascends number (next ∷ later) = ascends-behind 1 was.seen next later (subst (Ascends 1) split (joined_lines-ascend text)) in
     let meant_ascends : Ascends number (meant next ∷ map meant later) = ascends-behind 1 (map meant was.seen) (meant next) (map meant later) (subst (Ascends 1) lines (lines_in-ascend text)) in
     record {
@@ -215,7 +215,7 @@ reading-fault text draft course number left tokens joined line wrong was is line
         → lines_in text ≡ map meant was.seen ++ meant (record { line = number; statement = is.bytes }) ∷ map meant (joined_from (number + joined.lines) (lines_of_rest joined.rest))
         → Ascends number (record { line = number; statement = is.bytes } ∷ joined_from (number + joined.lines) (lines_of_rest joined.rest))
         → Ascends number (meant (record { line = number; statement = is.bytes }) ∷ map meant (joined_from (number + joined.lines) (lines_of_rest joined.rest)))
-        → (1 < fault_number other) ⊎ ((1 ≡ fault_number other) × (number ≤ fault_line other))
+        → (1 < blif_fault_number other) ⊎ ((1 ≡ blif_fault_number other) × (number ≤ blif_fault_line other))
     by_other (fault.Form line) stands split lines up meant_up = inr (refl, no-later line (record { line = number; statement = is.bytes }) (joined_from (number + joined.lines) (lines_of_rest joined.rest)) refl split lines up meant_up stands)
     by_other (fault.Name line) stands split lines up meant_up = inl (omega arith)
     by_other (fault.Construct line) stands split lines up meant_up = inl (omega arith)

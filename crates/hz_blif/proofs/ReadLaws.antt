@@ -7,7 +7,7 @@ use Rattle.std.proofs.lemmas.List.Sums.{sum_by-append, sum_by-cons}
 use Rattle.hz_line.specs.Statement.{Numbered, first_passing_line}
 use Rattle.hz_blif.specs.Cover.{Cover, all_but_last, covers_of, definitions_of, inputs_of, last_token, leading_rows, outputs_of, plane_of}
 use Rattle.hz_blif.specs.Draft.{Read, closed, cover_room, cover_uses, covers_with, note_if, noting, nothing_read, read_of, row_added, taking, uses_in_order, uses_with, with_next}
-use Rattle.hz_blif.specs.Fault.{has_long_name}
+use Rattle.hz_blif.specs.Fault.{line_has_long_name}
 use Rattle.hz_blif.specs.Line.{Line, Blank, Model, Inputs, Outputs, Names, Row, End, Construct, is_construct}
 use Rattle.hz_netlist.specs.Names.{names_of, on_line}
 
@@ -18,7 +18,7 @@ with_rows (Some cover) rows = record cover { rows = cover.rows ++ rows } ∷ []
 
 -- what is read of lines behind others
 pub record ReadsOn (read all : Read) (lines : List (Numbered Line)) : Type 0 where
-  pub long_name : all.long_name ≡ option_or read.long_name (first_passing_line has_long_name lines)
+  pub long_name : all.long_name ≡ option_or read.long_name (first_passing_line line_has_long_name lines)
   pub construct : all.construct ≡ option_or read.construct (first_passing_line is_construct lines)
   pub definitions : all.definitions ≡ read.definitions ++ definitions_of lines
   pub inputs : all.inputs ≡ read.inputs ++ inputs_of lines
@@ -57,7 +57,7 @@ reads-closing : (read all : Read) (line : ℕ) (it : Line) (rest : List (Numbere
     definitions_of lines ≡ definitions_of rest → inputs_of lines ≡ inputs_of rest → outputs_of lines ≡ outputs_of rest → uses_in_order lines ≡ uses_in_order rest → covers_of lines ≡ covers_of rest → leading_rows lines ≡ []
     → ReadsOn (closed (noting line it read)) all rest → ReadsOn read all lines
 reads-closing read all line it rest definitions inputs outputs uses covers rows is = record {
-  long_name = is.long_name ∙ first-cons has_long_name read.long_name (record { line = line; statement = it }) rest;
+  long_name = is.long_name ∙ first-cons line_has_long_name read.long_name (record { line = line; statement = it }) rest;
   construct = is.construct ∙ first-cons is_construct read.construct (record { line = line; statement = it }) rest;
   definitions = is.definitions ∙ ap (λ more. read.definitions ++ more) (sym definitions);
   inputs = is.inputs ∙ ap (λ more. read.inputs ++ more) (sym inputs);
@@ -71,7 +71,7 @@ reads-closing read all line it rest definitions inputs outputs uses covers rows 
 -- one line more in front
 reads-step : (read all : Read) (line : ℕ) (it : Line) (rest : List (Numbered Line)) → ReadsOn (taking line it (noting line it read)) all rest → ReadsOn read all (record { line = line; statement = it } ∷ rest)
 reads-step read all line Blank rest is = record {
-  long_name = is.long_name ∙ first-cons has_long_name read.long_name (record { line = line; statement = Blank }) rest;
+  long_name = is.long_name ∙ first-cons line_has_long_name read.long_name (record { line = line; statement = Blank }) rest;
   construct = is.construct ∙ first-cons is_construct read.construct (record { line = line; statement = Blank }) rest;
   definitions = is.definitions;
   inputs = is.inputs;
@@ -80,7 +80,7 @@ reads-step read all line Blank rest is = record {
   done = is.done;
 }
 reads-step read all line (Row tokens) rest is = record {
-  long_name = is.long_name ∙ first-cons has_long_name read.long_name (record { line = line; statement = Row tokens }) rest;
+  long_name = is.long_name ∙ first-cons line_has_long_name read.long_name (record { line = line; statement = Row tokens }) rest;
   construct = is.construct ∙ first-cons is_construct read.construct (record { line = line; statement = Row tokens }) rest;
   definitions = is.definitions;
   inputs = is.inputs;
@@ -96,7 +96,7 @@ reads-step read all line (Model names) rest is = reads-closing read all line (Mo
 reads-step read all line (End tokens) rest is = reads-closing read all line (End tokens) rest refl refl refl refl refl refl is
 reads-step read all line Construct rest is = reads-closing read all line Construct rest refl refl refl refl refl refl is
 reads-step read all line (Inputs names) rest is = record {
-  long_name = is.long_name ∙ first-cons has_long_name read.long_name (record { line = line; statement = Inputs names }) rest;
+  long_name = is.long_name ∙ first-cons line_has_long_name read.long_name (record { line = line; statement = Inputs names }) rest;
   construct = is.construct ∙ first-cons is_construct read.construct (record { line = line; statement = Inputs names }) rest;
   definitions = is.definitions ∙ append_assoc read.definitions (on_line line names) (definitions_of rest);
   inputs = is.inputs ∙ append_assoc read.inputs names (inputs_of rest);
@@ -105,7 +105,7 @@ reads-step read all line (Inputs names) rest is = record {
   done = is.done ∙ ended-covers read.done read.current (covers_of rest);
 }
 reads-step read all line (Outputs names) rest is = record {
-  long_name = is.long_name ∙ first-cons has_long_name read.long_name (record { line = line; statement = Outputs names }) rest;
+  long_name = is.long_name ∙ first-cons line_has_long_name read.long_name (record { line = line; statement = Outputs names }) rest;
   construct = is.construct ∙ first-cons is_construct read.construct (record { line = line; statement = Outputs names }) rest;
   definitions = is.definitions;
   inputs = is.inputs;
@@ -120,7 +120,7 @@ reads-step read all line (Outputs names) rest is = record {
     names-on_line line (name ∷ names) = ap (λ (all : List (List ℕ)). name ∷ all) (names-on_line line names)
 reads-step read all line (Names []) rest is = reads-closing read all line (Names []) rest refl refl refl refl refl refl is
 reads-step read all line (Names (name ∷ names)) rest is = record {
-  long_name = is.long_name ∙ first-cons has_long_name read.long_name (record { line = line; statement = Names (name ∷ names) }) rest;
+  long_name = is.long_name ∙ first-cons line_has_long_name read.long_name (record { line = line; statement = Names (name ∷ names) }) rest;
   construct = is.construct ∙ first-cons is_construct read.construct (record { line = line; statement = Names (name ∷ names) }) rest;
   definitions = is.definitions ∙ append_assoc read.definitions (record { line = line; statement = last_token (name ∷ names) } ∷ []) (definitions_of rest);
   inputs = is.inputs;
@@ -149,7 +149,7 @@ reads-on (first ∷ rest) read = reads-step read (closed (fold with_next read (f
 
 -- what is read of all lines
 pub record IsReadOf (lines : List (Numbered Line)) (read : Read) : Type 0 where
-  pub long_name : read.long_name ≡ first_passing_line has_long_name lines
+  pub long_name : read.long_name ≡ first_passing_line line_has_long_name lines
   pub construct : read.construct ≡ first_passing_line is_construct lines
   pub definitions : read.definitions ≡ definitions_of lines
   pub inputs : read.inputs ≡ inputs_of lines

@@ -11,8 +11,8 @@ use Rattle.hz_line.specs.Line as cut
 use Rattle.hz_line.specs.Statement.{Numbered}
 use Rattle.hz_blif.specs.Cover.{Cover, all_but_last, cover_of_line, covers_of, inputs_of, inputs_with, last_token, leading_rows, plane_of, rows_with}
 use Rattle.hz_blif.specs.Draft.{cover_room}
-use Rattle.hz_blif.specs.Line.{Line, Blank, Model, Inputs, Outputs, Names, Row, End, Construct, begins_with_dot, dotted, line_of, lines_in}
-use Rattle.hz_blif.specs.Text.{goes_on, is_blank, is_some_list, joined_from, joined_lines, joined_to, tokens_of, with_space_last, without_comment}
+use Rattle.hz_blif.specs.Line.{Line, Blank, Model, Inputs, Outputs, Names, Row, End, Construct, begins_with_dot, dotted, line_of_words, lines_in}
+use Rattle.hz_blif.specs.Text.{goes_on, is_blank, is_some_list, joined_from, joined_lines, joined_to, words_of_line, with_space_last, without_comment}
 
 -- a list of lists, with a byte behind each
 abbrev weight : List (List ℕ) → ℕ
@@ -41,7 +41,7 @@ filter-weight test (part ∷ parts) = by_test (test part) (filter-weight test pa
     by_test true h = (let a = weight-cons part (filter test parts) in let b = weight-cons part parts in omega (arith, a, b, h))
     by_test false h = (let b = weight-cons part parts in omega (arith, b, h))
 
-tokens-weight : (bytes : List ℕ) → weight (tokens_of bytes) ≤ suc (length bytes)
+tokens-weight : (bytes : List ℕ) → weight (words_of_line bytes) ≤ suc (length bytes)
 tokens-weight bytes = (let a = filter-weight is_some_list (slice_split is_blank bytes) in let b = split-weight is_blank bytes in omega (arith, a, b))
 
 -- no token is empty
@@ -88,7 +88,7 @@ dotted-room word rest =
     by_word false false false false true = omega arith
     by_word false false false false false = omega arith
 
-line_of-room : (tokens : List (List ℕ)) → AllByRecursion IsSome tokens → line_room (line_of tokens) ≤ weight tokens
+line_of-room : (tokens : List (List ℕ)) → AllByRecursion IsSome tokens → line_room (line_of_words tokens) ≤ weight tokens
 line_of-room [] some = omega arith
 line_of-room (first ∷ rest) some = by_dot (begins_with_dot first)
   where
@@ -182,12 +182,12 @@ strip-weight [] = omega arith
 strip-weight (part ∷ parts) =
     (let a = weight-cons part parts in let b = weight-cons (strip_carriage_return part) (map strip_carriage_return parts) in let c = strip-shorter part in let d = strip-weight parts in omega (arith, a, b, c, d))
 
-meant-room : (lines : List (Numbered (List ℕ))) → room_of (map (λ line. record { line = line.line; statement = line_of (tokens_of line.statement) }) lines) ≤ joined_weight lines
+meant-room : (lines : List (Numbered (List ℕ))) → room_of (map (λ line. record { line = line.line; statement = line_of_words (words_of_line line.statement) }) lines) ≤ joined_weight lines
 meant-room [] = omega arith
 meant-room (first ∷ rest) =
-    let a = sum_by-cons (λ (line : Numbered Line). line_room line.statement) (record { line = first.line; statement = line_of (tokens_of first.statement) }) (map (λ line. record { line = line.line; statement = line_of (tokens_of line.statement) }) rest) in
+    let a = sum_by-cons (λ (line : Numbered Line). line_room line.statement) (record { line = first.line; statement = line_of_words (words_of_line first.statement) }) (map (λ line. record { line = line.line; statement = line_of_words (words_of_line line.statement) }) rest) in
     let b = joined-cons first rest in
-    let c = line_of-room (tokens_of first.statement) (filter-some (slice_split is_blank first.statement)) in
+    let c = line_of-room (words_of_line first.statement) (filter-some (slice_split is_blank first.statement)) in
     let d = tokens-weight first.statement in
     let e = meant-room rest in
     omega (arith, a, b, c, d, e)

@@ -13,9 +13,9 @@ use Rattle.hz_netlist.proofs.Tests.{either}
 use Rattle.hz_blif.proofs.Lists.{all-contained}
 use Rattle.hz_blif.specs.Plain.{IsPlain}
 use Rattle.hz_blif.specs.declared.fault.BlifFault.TheVariants as fault
-use Rattle.hz_blif.specs.Fault.{IsFaultless, has_end, has_long_name, has_wrong_form, is_forbidden, is_ill_formed, is_long, is_sign, longest_blif_name}
-use Rattle.hz_blif.specs.Line.{Line, Model, Inputs, Outputs, Names, Row, End, Construct, begins_with_dot, dotted, is_statement, line_of, lines_in, names_in}
-use Rattle.hz_blif.specs.Text.{goes_on, is_blank, is_some_list, joined_from, joined_lines, joined_to, tokens_of, with_space_last, without_comment}
+use Rattle.hz_blif.specs.Fault.{IsFaultless, has_end, line_has_long_name, has_wrong_form, is_forbidden, is_ill_formed, is_too_long, is_sign, longest_blif_name}
+use Rattle.hz_blif.specs.Line.{Line, Model, Inputs, Outputs, Names, Row, End, Construct, begins_with_dot, dotted, is_statement, line_of_words, lines_in, names_in}
+use Rattle.hz_blif.specs.Text.{goes_on, is_blank, is_some_list, joined_from, joined_lines, joined_to, words_of_line, with_space_last, without_comment}
 
 both : (a b : Bool) → (a && b) ≡ true → (a ≡ true) × (b ≡ true)
 both true b h = (refl, h)
@@ -90,11 +90,11 @@ some-kept P ((byte ∷ word) ∷ rest) all = ((all.0, refl), some-kept P rest al
 abbrev IsTokenBy : (ℕ → Bool) → List ℕ → Type 0
 IsTokenBy test token = IsWordBy test token × (is_some_list token ≡ true)
 
-tokens-by : (test : ℕ → Bool) (line : List ℕ) → list_all test line ≡ true → AllByRecursion (IsTokenBy test) (tokens_of line)
+tokens-by : (test : ℕ → Bool) (line : List ℕ) → list_all test line ≡ true → AllByRecursion (IsTokenBy test) (words_of_line line)
 tokens-by test line h = some-kept (IsWordBy test) (slice_split is_blank line) (parts-by test line h)
 
 -- the names of a line are among its tokens
-names-by : (P : List ℕ → Type 0) (tokens : List (List ℕ)) → AllByRecursion P tokens → AllByRecursion P (names_in (line_of tokens))
+names-by : (P : List ℕ → Type 0) (tokens : List (List ℕ)) → AllByRecursion P tokens → AllByRecursion P (names_in (line_of_words tokens))
 names-by P [] all = tt
 names-by P (first ∷ rest) all = by_dot (begins_with_dot first)
   where
@@ -143,12 +143,12 @@ plain-names text faultless before (one ∷ rest) is = (
 
 -- no name is too long
 abbrev HasShortNames : Numbered Line → Type 0
-HasShortNames line = has_long_name line.statement ≡ false
+HasShortNames line = line_has_long_name line.statement ≡ false
 
 short-names : (text : List ℕ) → IsFaultless text → AllByRecursion HasShortNames (lines_in text)
-short-names text faultless = all-contained HasShortNames (lines_in text) (λ line there. by_test line there (has_long_name line.statement) refl)
+short-names text faultless = all-contained HasShortNames (lines_in text) (λ line there. by_test line there (line_has_long_name line.statement) refl)
   where
-    by_test : (line : Numbered Line) → Contains (lines_in text) line → (long : Bool) → has_long_name line.statement ≡ long → long ≡ false
+    by_test : (line : Numbered Line) → Contains (lines_in text) line → (long : Bool) → line_has_long_name line.statement ≡ long → long ≡ false
     by_test line there true h = absurd (faultless (fault.Name line.line) (line.statement, there, h))
     by_test line there false h = refl
 
@@ -168,10 +168,10 @@ abbrev HasTokenNames : Numbered Line → Type 0
 HasTokenNames line = AllByRecursion (IsTokenBy is_right) (names_in line.statement)
 
 token-lines : (lines : List (Numbered (List ℕ))) → AllByRecursion IsCleanLine lines → AllByRecursion IsAllowedLine lines
-    → AllByRecursion HasTokenNames (map (λ (line : Numbered (List ℕ)). record { line = line.line; statement = line_of (tokens_of line.statement) }) lines)
+    → AllByRecursion HasTokenNames (map (λ (line : Numbered (List ℕ)). record { line = line.line; statement = line_of_words (words_of_line line.statement) }) lines)
 token-lines [] clean free = tt
 token-lines (line ∷ lines) clean free = (
-  names-by (IsTokenBy is_right) (tokens_of line.statement) (tokens-by is_right line.statement (right-line line.statement clean.0 free.0)),
+  names-by (IsTokenBy is_right) (words_of_line line.statement) (tokens-by is_right line.statement (right-line line.statement clean.0 free.0)),
   token-lines lines clean.1 free.1,
 )
 
@@ -227,14 +227,14 @@ some-bytes : (name : List ℕ) → is_some_list name ≡ true → 1 ≤ length n
 some-bytes [] some = let e : false ≡ true = some in cc
 some-bytes (byte ∷ rest) some = omega arith
 
-short-bytes : (name : List ℕ) → is_long name ≡ false → length name ≤ longest_blif_name
+short-bytes : (name : List ℕ) → is_too_long name ≡ false → length name ≤ longest_blif_name
 short-bytes name short = grind (arith, nat_tests, short)
 
-names-right : (names : List (List ℕ)) → AllByRecursion (IsTokenBy is_right) names → list_any (list_any is_sign) names ≡ false → list_any is_long names ≡ false → AllByRecursion IsTextName names
+names-right : (names : List (List ℕ)) → AllByRecursion (IsTokenBy is_right) names → list_any (list_any is_sign) names ≡ false → list_any is_too_long names ≡ false → AllByRecursion IsTextName names
 names-right [] tokens plain short = tt
 names-right (name ∷ names) tokens plain short =
     let signs = either (list_any is_sign name) (list_any (list_any is_sign) names) plain in
-    let lengths = either (is_long name) (list_any is_long names) short in
+    let lengths = either (is_too_long name) (list_any is_too_long names) short in
     let word = word-right name tokens.0.0 signs.0 in (
       record { some = some-bytes name tokens.0.1; short = short-bytes name lengths.0; bytes = word.0; plain = word.1 },
       names-right names tokens.1 signs.1 lengths.1,

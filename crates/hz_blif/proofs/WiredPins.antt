@@ -13,7 +13,7 @@ use Rattle.hz_netlist.specs.Element.{Element, Input, Cut, Gate, Output, variable
 use Rattle.hz_netlist.proofs.Lists.{all-append}
 use Rattle.hz_blif.proofs.Lists.{all-contained, all-kept}
 use Rattle.hz_blif.specs.declared.fault.BlifFault.TheVariants as fault
-use Rattle.hz_blif.specs.Circuit.{elements_of}
+use Rattle.hz_blif.specs.Circuit.{elements_of_lines}
 use Rattle.hz_blif.specs.Cover.{Cover, covers_of, inputs_of, is_skipped, kept_covers, outputs_of, plane_of, planes_of, column_of}
 use Rattle.hz_blif.specs.Fault.{HasCover, IsFaultless}
 use Rattle.hz_blif.specs.Gates.{Literal, cover_gates, gates_of_row, gates_of_rows, inverters_from, has_zero, literal_name, literal_names, literals_from, literals_of, row_gates_from, terms_from}
@@ -150,7 +150,7 @@ gates-right text faultless =
     let lines = lines_in text in
     covers-right (kept_covers lines) (all-kept FitsGates (λ cover. not (is_skipped lines cover)) (covers_of lines) (all-contained FitsGates (covers_of lines) (fits text faultless)))
 
-pub wired-pins : (text : List ℕ) → IsFaultless text → AllByRecursion HasRightPins (elements_of (lines_in text))
+pub wired-pins : (text : List ℕ) → IsFaultless text → AllByRecursion HasRightPins (elements_of_lines (lines_in text))
 wired-pins text faultless =
     let lines = lines_in text in
     let gates = flat_map cover_gates (kept_covers lines) in
@@ -161,8 +161,8 @@ wired-pins text faultless =
     (outputs-right (outputs_of lines)))
 
 -- and they are not too many
-pub wired-few : (text : List ℕ) → IsFaultless text → variable_total (elements_of (lines_in text)) ≤ most_variables
-wired-few text faultless = elim (cases_lt most_variables (variable_total (elements_of (lines_in text)))) [
-  | inl more ↦ absurd (faultless (fault.TooMany (variable_total (elements_of (lines_in text)))) (more, refl))
+pub wired-few : (text : List ℕ) → IsFaultless text → variable_total (elements_of_lines (lines_in text)) ≤ most_variables
+wired-few text faultless = elim (cases_lt most_variables (variable_total (elements_of_lines (lines_in text)))) [
+  | inl more ↦ absurd (faultless (fault.TooMany (variable_total (elements_of_lines (lines_in text)))) (more, refl))
   | inr no_more ↦ omega (arith, no_more)
 ]

@@ -11,7 +11,7 @@ use Rattle.hz_netlist.specs.Circuit.{all_inputs, node_names}
 use Rattle.hz_netlist.specs.Element.{Element, Input, Cut, Gate, Output, input_names, cut_names, gate_names}
 use Rattle.hz_blif.specs.declared.fault.BlifFault.TheVariants as fault
 use Rattle.hz_blif.specs.Plain.{IsPlain}
-use Rattle.hz_blif.specs.Circuit.{elements_of}
+use Rattle.hz_blif.specs.Circuit.{elements_of_lines}
 use Rattle.hz_blif.specs.Cover.{Cover, cover_of_line, covers_of, definitions_of, definitions_with, inputs_of, inputs_with, is_constant, is_skipped, is_used, kept_covers, leading_rows, outputs_of, uses_of}
 use Rattle.hz_blif.specs.Fault.{IsFaultless}
 use Rattle.hz_blif.specs.Gates.{cover_gates}
@@ -216,7 +216,7 @@ module _ (text : List ℕ) (faultless : IsFaultless text) where
   outputs-node [] = tt
   outputs-node (output ∷ rest) = (tt, outputs-node rest)
 
-  wired-named : AllByRecursion HasNodeName (elements_of lines)
+  wired-named : AllByRecursion HasNodeName (elements_of_lines lines)
   wired-named =
       let outputs : List Element = map (λ (output : Numbered (List ℕ)). Output output.statement) (outputs_of lines) in
       all-append HasNodeName (map Input (inputs_of lines)) (gates ++ outputs) (inputs-node (inputs_of lines) inputs-text)
@@ -245,21 +245,21 @@ module _ (text : List ℕ) (faultless : IsFaultless text) where
       (gate_names gates) (later-names name kept covers-small (all-kept (λ cover. name ≢ cover.output) is_kept (covers_of lines) differ)))
       (inputs_of lines) inputs-text apart.2)
 
-  named : HasNames (inputs_of lines) gates (elements_of lines)
+  named : HasNames (inputs_of lines) gates (elements_of_lines lines)
   named = elements-named (inputs_of lines) gates (outputs_of lines) (gates-right text faultless)
 
-  inputs-are : all_inputs (elements_of lines) ≡ inputs_of lines
-  inputs-are = ap (λ cuts. input_names (elements_of lines) ++ cuts) named.cuts ∙ nothing-more (input_names (elements_of lines)) ∙ named.inputs
+  inputs-are : all_inputs (elements_of_lines lines) ≡ inputs_of lines
+  inputs-are = ap (λ cuts. input_names (elements_of_lines lines) ++ cuts) named.cuts ∙ nothing-more (input_names (elements_of_lines lines)) ∙ named.inputs
 
-  nodes-are : node_names (elements_of lines) ≡ inputs_of lines ++ gate_names gates
-  nodes-are = ap (λ inputs. inputs ++ gate_names (elements_of lines)) inputs-are ∙ ap (λ names. inputs_of lines ++ names) named.gates_are
+  nodes-are : node_names (elements_of_lines lines) ≡ inputs_of lines ++ gate_names gates
+  nodes-are = ap (λ inputs. inputs ++ gate_names (elements_of_lines lines)) inputs-are ∙ ap (λ names. inputs_of lines ++ names) named.gates_are
 
   -- names that are used are those of nodes
   abbrev IsKnown : List ℕ → Type 0
-  IsKnown name = list_any (bytes_eq name) (node_names (elements_of (lines_in text))) ≡ true
+  IsKnown name = list_any (bytes_eq name) (node_names (elements_of_lines (lines_in text))) ≡ true
 
   nodes-known : AllByRecursion IsKnown (inputs_of lines) × AllByRecursion IsKnown (gate_names gates)
-  nodes-known = all-cut IsKnown (inputs_of lines) (gate_names gates) (subst (AllByRecursion IsKnown) nodes-are (among-own [] (node_names (elements_of lines))))
+  nodes-known = all-cut IsKnown (inputs_of lines) (gate_names gates) (subst (AllByRecursion IsKnown) nodes-are (among-own [] (node_names (elements_of_lines lines))))
 
   outputs-known : AllByRecursion (λ cover. is_kept cover ≡ true → IsKnown cover.output) (covers_of lines)
   outputs-known =
@@ -320,7 +320,7 @@ module _ (text : List ℕ) (faultless : IsFaultless text) where
       (covers-named IsKnown kept nodes-known.1))
 
   outputs-use : (outputs : List (Numbered (List ℕ))) → AllByRecursion (λ (one : Numbered (List ℕ)). IsKnown one.statement) outputs
-      → AllByRecursion (UsesKnown (node_names (elements_of lines))) (map (λ (output : Numbered (List ℕ)). Output output.statement) outputs)
+      → AllByRecursion (UsesKnown (node_names (elements_of_lines lines))) (map (λ (output : Numbered (List ℕ)). Output output.statement) outputs)
   outputs-use [] all = tt
   outputs-use (output ∷ rest) all = (all.0, outputs-use rest all.1)
 
@@ -337,13 +337,13 @@ module _ (text : List ℕ) (faultless : IsFaultless text) where
       names-append [] back = refl
       names-append (first ∷ front) back = ap (λ names. first.statement ∷ names) (names-append front back)
 
-  inputs-use : (names : List (List ℕ)) → AllByRecursion (UsesKnown (node_names (elements_of lines))) (map Input names)
+  inputs-use : (names : List (List ℕ)) → AllByRecursion (UsesKnown (node_names (elements_of_lines lines))) (map Input names)
   inputs-use [] = tt
   inputs-use (name ∷ names) = (tt, inputs-use names)
 
-  wired-defined : AllByRecursion (UsesKnown (node_names (elements_of lines))) (elements_of lines)
+  wired-defined : AllByRecursion (UsesKnown (node_names (elements_of_lines lines))) (elements_of_lines lines)
   wired-defined =
-      let names = node_names (elements_of lines) in
+      let names = node_names (elements_of_lines lines) in
       let outputs : List Element = map (λ (output : Numbered (List ℕ)). Output output.statement) (outputs_of lines) in
       let parts = all-cut (λ (one : Numbered (List ℕ)). IsDefined one.statement) (flat_map (λ (cover : Cover). on_line cover.line cover.pins) kept) (outputs_of lines) uses-defined in
       all-append (UsesKnown names) (map Input (inputs_of lines)) (gates ++ outputs) (inputs-use (inputs_of lines))
@@ -354,7 +354,7 @@ module _ (text : List ℕ) (faultless : IsFaultless text) where
       (outputs_of lines) parts.1 (used-outputs [] (outputs_of lines)))))
 
 -- the elements of a text without fault make a circuit
-pub wired-text : (text : List ℕ) → IsFaultless text → AreWired (elements_of (lines_in text))
+pub wired-text : (text : List ℕ) → IsFaultless text → AreWired (elements_of_lines (lines_in text))
 wired-text text faultless =
     let lines = lines_in text in
     let is = named text faultless in
@@ -362,8 +362,8 @@ wired-text text faultless =
     record {
       named = wired-named text faultless;
       inputs_apart = subst (Apart []) (sym is.inputs) (new-names [] (inputs_of lines) (front-apart (inputs_of lines) (gate_names (gates text faultless)) apart));
-      cuts_apart = subst (Apart (input_names (elements_of lines))) (sym is.cuts) tt;
-      gates_apart = subst (λ inputs. Apart inputs (gate_names (elements_of lines))) (sym (inputs-are text faultless))
+      cuts_apart = subst (Apart (input_names (elements_of_lines lines))) (sym is.cuts) tt;
+      gates_apart = subst (λ inputs. Apart inputs (gate_names (elements_of_lines lines))) (sym (inputs-are text faultless))
           (subst (Apart (inputs_of lines)) (sym is.gates_are) (new-names (inputs_of lines) (gate_names (gates text faultless)) apart));
       pins = wired-pins text faultless;
       defined = wired-defined text faultless;

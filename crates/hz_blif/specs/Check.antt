@@ -13,8 +13,8 @@ use Rattle.hz_line.specs.LeastFault.{first_found}
 use Rattle.hz_blif.specs.Text.{joined_lines}
 use Rattle.hz_blif.specs.Line.{Line, lines_in, is_construct}
 use Rattle.hz_blif.specs.Cover.{Cover, covers_of, definitions_of, uses_of, is_wrong_row, is_skipped, is_constant, is_too_large}
-use Rattle.hz_blif.specs.Circuit.{elements_of}
-use Rattle.hz_blif.specs.Fault.{is_forbidden, has_wrong_form, has_long_name}
+use Rattle.hz_blif.specs.Circuit.{elements_of_lines}
+use Rattle.hz_blif.specs.Fault.{is_forbidden, has_wrong_form, line_has_long_name}
 use Rattle.hz_netlist.specs.Names.{is_among, names_of}
 
 -- the first line, of these behind others, whose form is wrong
@@ -70,7 +70,7 @@ faults_in text =
     option_map fault.Form
     (option_min (first_passing_line (list_any is_forbidden) (joined_lines text))
     (wrong_form_after [] lines))
-    ∷ option_map fault.Name (first_passing_line has_long_name lines)
+    ∷ option_map fault.Name (first_passing_line line_has_long_name lines)
     ∷ option_map fault.Construct (first_passing_line is_construct lines)
     ∷ twice_after [] (definitions_of lines)
     ∷ option_map fault.Cover (first_of (map wrong_row (covers_of lines)))
@@ -80,7 +80,7 @@ faults_in text =
     (find (λ cover. is_constant cover && not (is_skipped lines cover)) (covers_of lines))
     ∷ option_map fault.Undefined
     (least_of (map (undefined_use (names_of (definitions_of lines))) (uses_of lines)))
-    ∷ too_many (variable_total (elements_of lines))
+    ∷ too_many (variable_total (elements_of_lines lines))
     ∷ []
 
 -- the least fault of a text, if one stands

@@ -10,12 +10,12 @@ use Rattle.hz_blif.specs.Cover.{inputs_of, outputs_of, kept_covers}
 use Rattle.hz_blif.specs.Gates.{cover_gates}
 
 -- the inputs of lines, the gates of their covers and their outputs
-abbrev pub elements_of : List (Numbered Line) → List Element
-elements_of lines =
+abbrev pub elements_of_lines : List (Numbered Line) → List Element
+elements_of_lines lines =
     map Input (inputs_of lines)
     ++ (flat_map cover_gates (kept_covers lines)
     ++ map (λ output. Output output.statement) (outputs_of lines))
 
 -- the circuit of a text
 abbrev pub blif_circuit : List ℕ → Netlist
-blif_circuit text = circuit_of_elements (elements_of (lines_in text))
+blif_circuit text = circuit_of_elements (elements_of_lines (lines_in text))

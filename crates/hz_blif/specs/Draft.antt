@@ -20,7 +20,7 @@ use Rattle.hz_blif.specs.declared.notes.Redefinition.{Redefinition}
 use Rattle.hz_blif.specs.Check.{count_of, first_of, twice_after, wrong_form_after, wrong_row}
 use Rattle.hz_blif.specs.Cover.{Cover, all_but_last, cover_of_line, inputs_of, is_constant, is_too_large, kept_covers, last_token, leading_rows, outputs_of, outputs_with, plane_of}
 use Rattle.hz_blif.specs.Entries.{AreNamed, HoldsGates, elements_by}
-use Rattle.hz_blif.specs.Fault.{has_long_name, is_forbidden}
+use Rattle.hz_blif.specs.Fault.{line_has_long_name, is_forbidden}
 use Rattle.hz_blif.specs.Gates.{cover_gates}
 use Rattle.hz_blif.specs.Line.{Line, Blank, Model, Inputs, Outputs, Names, Row, End, Construct, is_construct, lines_in}
 use Rattle.hz_blif.specs.Reading.{KeepsRows}
@@ -161,7 +161,7 @@ note_if known here line = option_or known (if here then Some line else None)
 abbrev pub noting : ℕ → Line → Read → Read
 noting line it read =
     record read {
-      long_name = note_if read.long_name (has_long_name it) line;
+      long_name = note_if read.long_name (line_has_long_name it) line;
       construct = note_if read.construct (is_construct it) line;
     }
 

@@ -12,7 +12,7 @@ use Rattle.hz_line.specs.OrThat.{OrThat}
 use Rattle.hz_blif.specs.Text.{joined_lines, is_some_list}
 use Rattle.hz_blif.specs.Line.{Line, Blank, Model, Inputs, Outputs, Names, Row, End, Construct as ConstructLine, names_in, lines_in, takes_rows_after, is_statement, is_construct, is_end, has_two}
 use Rattle.hz_blif.specs.Cover.{Cover as CoverOf, covers_of, definitions_of, uses_of, is_wrong_row, is_skipped, is_constant}
-use Rattle.hz_blif.specs.Circuit.{elements_of}
+use Rattle.hz_blif.specs.Circuit.{elements_of_lines}
 use Rattle.hz_netlist.specs.Names.{is_among, names_of}
 
 -- the most bytes of a name: room is left for what the names of gates add to it
@@ -64,12 +64,12 @@ has_wrong_form before line =
     || (is_statement line && has_end before)
 
 -- a name is too long
-abbrev pub is_long : List ℕ → Bool
-is_long name = nat_lt longest_blif_name (length name)
+abbrev pub is_too_long : List ℕ → Bool
+is_too_long name = nat_lt longest_blif_name (length name)
 
 -- some name of a line is too long
-abbrev pub has_long_name : Line → Bool
-has_long_name line = list_any is_long (names_in line)
+abbrev pub line_has_long_name : Line → Bool
+line_has_long_name line = list_any is_too_long (names_in line)
 
 -- the count that a cover carries that has too many pins or rows: that of its pins, if they are too many
 abbrev pub IsTooLarge : CoverOf → ℕ → Type 0
@@ -101,7 +101,7 @@ abbrev pub HasCover : List ℕ → CoverOf → Type 0
 HasCover text cover = Contains (covers_of (lines_in text)) cover
 
 -- the line defines a name that was defined before, first on line `first`; of several such names on one line the earliest counts
-pub record IsSecond (definitions : List (Numbered (List ℕ))) (line first : ℕ) : Type 0 where
+pub record IsSecondDefinition (definitions : List (Numbered (List ℕ))) (line first : ℕ) : Type 0 where
   pub before : List (Numbered (List ℕ))
   pub name : List ℕ
   pub stands : Stands definitions before line name
@@ -118,9 +118,9 @@ UsesUndefined definitions uses line =
 -- the fault stands in the text
 abbrev pub HasFault : List ℕ → BlifFault → Type 0
 HasFault text (Form line) = HasForbidden text line ⊎ HasWrongForm text line
-HasFault text (Name line) = HasThat has_long_name text line
+HasFault text (Name line) = HasThat line_has_long_name text line
 HasFault text (Construct line) = HasThat is_construct text line
-HasFault text (Twice line first) = IsSecond (definitions_of (lines_in text)) line first
+HasFault text (Twice line first) = IsSecondDefinition (definitions_of (lines_in text)) line first
 HasFault text (Cover line) =
     (cover : CoverOf) × HasCover text cover
     × ((row : List (List ℕ)) × Contains cover.rows (record { line = line; statement = row })
@@ -133,38 +133,38 @@ HasFault text (Constant line) =
 HasFault text (Undefined line) =
     UsesUndefined (definitions_of (lines_in text)) (uses_of (lines_in text)) line
 HasFault text (TooMany variables) =
-    (most_variables < variables) × (variable_total (elements_of (lines_in text)) ≡ variables)
+    (most_variables < variables) × (variable_total (elements_of_lines (lines_in text)) ≡ variables)
 HasFault text Memory = ⊥
 
 -- the number of a fault
-abbrev pub fault_number : BlifFault → ℕ
-fault_number (Form line) = 1
-fault_number (Name line) = 2
-fault_number (Construct line) = 3
-fault_number (Twice line first) = 4
-fault_number (Cover line) = 5
-fault_number (Pins line count) = 6
-fault_number (Constant line) = 7
-fault_number (Undefined line) = 8
-fault_number (TooMany variables) = 9
-fault_number Memory = 10
+abbrev pub blif_fault_number : BlifFault → ℕ
+blif_fault_number (Form line) = 1
+blif_fault_number (Name line) = 2
+blif_fault_number (Construct line) = 3
+blif_fault_number (Twice line first) = 4
+blif_fault_number (Cover line) = 5
+blif_fault_number (Pins line count) = 6
+blif_fault_number (Constant line) = 7
+blif_fault_number (Undefined line) = 8
+blif_fault_number (TooMany variables) = 9
+blif_fault_number Memory = 10
 
 -- the line of a fault; too many variables have none
-abbrev pub fault_line : BlifFault → ℕ
-fault_line (Form line) = line
-fault_line (Name line) = line
-fault_line (Construct line) = line
-fault_line (Twice line first) = line
-fault_line (Cover line) = line
-fault_line (Pins line count) = line
-fault_line (Constant line) = line
-fault_line (Undefined line) = line
-fault_line (TooMany variables) = 0
-fault_line Memory = 0
+abbrev pub blif_fault_line : BlifFault → ℕ
+blif_fault_line (Form line) = line
+blif_fault_line (Name line) = line
+blif_fault_line (Construct line) = line
+blif_fault_line (Twice line first) = line
+blif_fault_line (Cover line) = line
+blif_fault_line (Pins line count) = line
+blif_fault_line (Constant line) = line
+blif_fault_line (Undefined line) = line
+blif_fault_line (TooMany variables) = 0
+blif_fault_line Memory = 0
 
 -- the faults of a text
 abbrev pub blif_faults : List ℕ → Faults BlifFault
-blif_faults text = record { stands = HasFault text; number = fault_number; line = fault_line }
+blif_faults text = record { stands = HasFault text; number = blif_fault_number; line = blif_fault_line }
 
 -- the answer among the faults of a text: the least number and, among those, the least line
 abbrev pub IsLeastFault : List ℕ → BlifFault → Type 0

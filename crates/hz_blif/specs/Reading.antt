@@ -10,7 +10,7 @@ use Rattle.hz_blif.specs.declared.line.Line.TheVariants as read
 use Rattle.hz_blif.specs.declared.line.Course.{Course}
 use Rattle.hz_blif.specs.declared.lines.JoinedLine.{JoinedLine}
 use Rattle.hz_blif.specs.declared.lines.Piece.{Piece}
-use Rattle.hz_blif.specs.Text.{without_comment, goes_on, is_blank, tokens_of, joined_from}
+use Rattle.hz_blif.specs.Text.{without_comment, goes_on, is_blank, words_of_line, joined_from}
 use Rattle.hz_core.specs.Limits.{most_gate_pins}
 use Rattle.hz_blif.specs.Cover.{all_but_last, first_column, has_literal, plane_of}
 use Rattle.hz_blif.specs.Line.{Line, Blank, Model, Inputs, Outputs, Names, Row, End, Construct}
@@ -23,9 +23,9 @@ begins_blank (byte ∷ rest) = is_blank byte
 
 -- the first word of a line, with the line after it; none if the line has no token
 abbrev pub IsFirstWord : List ℕ → Option (Bor (List ℕ) × Bor (List ℕ)) → Type 0
-IsFirstWord line None = tokens_of line ≡ []
+IsFirstWord line None = words_of_line line ≡ []
 IsFirstWord line (Some found) =
-    (tokens_of line ≡ found.0.now ∷ tokens_of found.1.now) × (length found.1.now < length line)
+    (words_of_line line ≡ found.0.now ∷ words_of_line found.1.now) × (length found.1.now < length line)
 
 -- words as they are seen: the bytes of each
 abbrev pub bytes_of : List (Bor (List ℕ)) → List (List ℕ)
@@ -57,7 +57,7 @@ pub record IsJoinedLine (text : List ℕ) (tokens : List (Bor (List ℕ)))
       joined_from line (lines_of text)
       ≡ record { line = line; statement = bytes }
       ∷ joined_from (line + joined.lines) (lines_of_rest joined.rest)
-  pub tokens_are : tokens_of bytes ≡ bytes_of tokens
+  pub tokens_are : words_of_line bytes ≡ bytes_of tokens
   pub forbidden : joined.is_forbidden ≡ list_any is_forbidden bytes
 
 -- what is known of lines that came before another

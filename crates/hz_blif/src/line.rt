@@ -3,8 +3,8 @@
 ghost use Rattle.std.specs.Prelude.{◌≡◌, ◌++◌, ◌∷◌, [], ℕ, List, false};
 ghost use Rattle.std.specs.List.{list_any};
 ghost use Rattle.hz_line.specs.Statement.{Numbered};
-ghost use Rattle.hz_blif.specs.Fault.{has_long_name, has_wrong_form, is_ill_formed, is_long, is_sign};
-ghost use Rattle.hz_blif.specs.Line.{Line as LineOf, begins_with_dot, dotted, is_construct, is_end, is_statement, line_of, names_in, takes_rows_after};
+ghost use Rattle.hz_blif.specs.Fault.{line_has_long_name, has_wrong_form, is_ill_formed, is_too_long, is_sign};
+ghost use Rattle.hz_blif.specs.Line.{Line as LineOf, begins_with_dot, dotted, is_construct, is_end, is_statement, line_of_words, names_in, takes_rows_after};
 ghost use Rattle.hz_blif.specs.Plain.{HasPlainWords};
 ghost use Rattle.hz_blif.specs.Reading.{bytes_of, course_of, line_by};
 
@@ -32,7 +32,7 @@ pub(crate) enum Line<'a, 't> {
 
 /// What a line with these tokens is.
 pub(crate) fn line_of<'a, 't>(tokens: &'a [&'t [u8]]) -> Line<'a, 't>
-    ensures { line_by result ≡ line_of (bytes_of tokens.now) }
+    ensures { line_by result ≡ line_of_words (bytes_of tokens.now) }
 {
     let Some((first, rest)) = tokens.split_first() else {
         return Line::Blank;
@@ -128,7 +128,7 @@ impl<'a, 't> Line<'a, 't> {
 
     /// Whether some name is too long.
     pub(crate) fn has_long_name(&self) -> bool
-        ensures { result ≡ has_long_name (line_by self.now) }
+        ensures { result ≡ line_has_long_name (line_by self.now) }
     {
         has_long(self.names())
     }
@@ -144,7 +144,7 @@ impl<'a, 't> Line<'a, 't> {
 
 // Whether some name is too long.
 fn has_long(names: &[&[u8]]) -> bool
-    ensures { result ≡ list_any is_long (bytes_of names.now) }
+    ensures { result ≡ list_any is_too_long (bytes_of names.now) }
 {
     for name in names {
         if name.len() > MAX_BLIF_NAME {

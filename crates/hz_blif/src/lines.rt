@@ -2,7 +2,7 @@
 
 ghost use Rattle.std.specs.Prelude.{◌≡◌, ◌+◌, ◌≤◌, ◌++◌, IfOk, OnOk, length};
 ghost use Rattle.hz_line.specs.Line.{most_text_bytes, rest_length};
-ghost use Rattle.hz_blif.specs.Text.{without_comment, tokens_of};
+ghost use Rattle.hz_blif.specs.Text.{without_comment, words_of_line};
 ghost use Rattle.hz_blif.specs.Reading.{IsJoinedLine, IsPieceOf, bytes_of};
 
 use crate::words::{first_word, has_forbidden};
@@ -106,7 +106,7 @@ fn without_comment<'t>(line: &'t [u8]) -> &'t [u8]
 // Adds the words of a line to the tokens.
 fn push_words<'t>(line: &'t [u8], tokens: &mut Vec<&'t [u8]>) -> Result<(), Memory>
     ensures { OnOk result (bytes_of tokens.new.items ≡ bytes_of tokens.old.items
-        ++ tokens_of line.now) }
+        ++ words_of_line line.now) }
 {
     let mut left = line;
     while let Some((word, rest)) = first_word(left) {

@@ -2,7 +2,7 @@
 
 ghost use Rattle.std.specs.Prelude.{◌≡◌, ◌≤◌, false, length};
 ghost use Rattle.std.specs.List.{list_any, position_or_len};
-ghost use Rattle.hz_blif.specs.Text.{is_blank, tokens_of};
+ghost use Rattle.hz_blif.specs.Text.{is_blank, words_of_line};
 ghost use Rattle.hz_blif.specs.Fault.{is_forbidden, is_sign};
 ghost use Rattle.hz_blif.specs.Reading.{IsFirstWord, begins_blank};
 
@@ -23,7 +23,7 @@ pub(crate) fn first_word<'a>(line: &'a [u8]) -> Option<(&'a [u8], &'a [u8])>
 // A line without the blanks at its front.
 #[inline]
 fn without_blanks<'a>(line: &'a [u8]) -> &'a [u8]
-    ensures same { tokens_of line.now ≡ tokens_of result.now }
+    ensures same { words_of_line line.now ≡ words_of_line result.now }
     ensures all { begins_blank result.now ≡ false }
     ensures within { length result.now ≤ length line.now }
 {

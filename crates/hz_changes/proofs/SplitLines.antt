@@ -1,7 +1,7 @@
 -- The text of changes, of which the first that leaves a variable unsettled is the last that is made.
 use Rattle.std.proofs.Common.{◌≡◌, ◌∙◌, ℕ, ◌+◌, ◌<◌, Bool, true, false, List, [], ◌∷◌, ◌++◌, length, map, take, get_or, codes, Option, None, refl, sym, ap, subst, arith, inl, inr}
 use Rattle.hz_changes.proofs.Words.{flat_map, Netlist, Row, FindingOf, values_b, Analysis, Found, Stopped, AreAnalyses, SequenceState, IsFindingOfChange, IsLeftBy}
-use Rattle.hz_changes.proofs.Words.{AreFirstAnalyses, all-analyses, run_text, line_of, closed, is_unsettled, found_in, SplitsChange, SplitsChanges}
+use Rattle.hz_changes.proofs.Words.{AreFirstAnalyses, all-analyses, run_text, line_of, closed, leaves_unsettled, found_in, SplitsChange, SplitsChanges}
 use Rattle.std.specs.List.{list_any, Contains}
 use Rattle.std.proofs.lemmas.Bool.{false≢true}
 use Rattle.std.proofs.lemmas.List.{append-nil, map-append, take_more}
@@ -20,13 +20,13 @@ use Rattle.hz_refusal.specs.declared.status.Status.TheVariants as status
 use Rattle.hz_split.specs.Attempts.{outcome_of}
 use Rattle.hz_run_text.specs.RunPrinted.{states_text, run_text_printed}
 use Rattle.hz_text.specs.RunParts.{RunOf}
-use Rattle.hz_changes.specs.Splits.{change_line, changes_text, split_text, AreSplits}
+use Rattle.hz_changes.specs.Splits.{split_line, changes_text, split_text, AreSplits}
 use Rattle.hz_changes.proofs.Writable.{first-inside}
 
 -- changes that leave no variable unsettled
 abbrev pub AreQuiet : List Analysis → Type 0
 AreQuiet [] = Unit {0}
-AreQuiet (Found finding ∷ analyses) = (is_unsettled finding ≡ false) × AreQuiet analyses
+AreQuiet (Found finding ∷ analyses) = (leaves_unsettled finding ≡ false) × AreQuiet analyses
 AreQuiet (Stopped var ∷ analyses) = ⊥
 
 -- they write nothing
@@ -43,7 +43,7 @@ quiet-splits netlist [] more quiet splits = splits
 quiet-splits netlist (Found finding ∷ analyses) more quiet splits = inr (quiet.0, quiet-splits netlist analyses more quiet.1 splits)
 quiet-splits netlist (Stopped var ∷ analyses) more quiet splits = absurd quiet
 
-pub quiet-more : (finding : FindingOf) (analyses : List Analysis) → AreQuiet analyses → is_unsettled finding ≡ false → AreQuiet (analyses ++ Found finding ∷ [])
+pub quiet-more : (finding : FindingOf) (analyses : List Analysis) → AreQuiet analyses → leaves_unsettled finding ≡ false → AreQuiet (analyses ++ Found finding ∷ [])
 quiet-more finding [] quiet settles = (settles, tt)
 quiet-more finding (Found other ∷ analyses) quiet settles = (quiet.0, quiet-more finding analyses quiet.1 settles)
 quiet-more finding (Stopped var ∷ analyses) quiet settles = absurd quiet
@@ -67,7 +67,7 @@ contains-unknown values some =
     subst (Contains values) first.1.here (Contains-get_or values first.0 Zero (first-inside values first.0 first.1))
 
 -- a change that leaves no variable unsettled does not stop the next one
-pub goes-on-settled : (finding : FindingOf) (was now : SequenceState) → is_unsettled finding ≡ false → IsLeftBy finding was now → now.stopped ≡ None
+pub goes-on-settled : (finding : FindingOf) (was now : SequenceState) → leaves_unsettled finding ≡ false → IsLeftBy finding was now → now.stopped ≡ None
 goes-on-settled finding was now settles left =
     let values = values_b finding.rows in
     elim left.2 [
@@ -78,7 +78,7 @@ goes-on-settled finding was now settles left =
 
 module _ (netlist : Netlist) (cap : ℕ) (start : List Bool) (before : List (List (ℕ × Bool))) (analyses : List Analysis) (was : SequenceState) (first : AreFirstAnalyses netlist cap start before analyses was) (long : length analyses ≡ length before) (quiet : AreQuiet analyses) where
   -- the first change that leaves a variable unsettled
-  pub ends-unsettled : (later : List (List (ℕ × Bool))) (change : List (ℕ × Bool)) (finding : FindingOf) → was.stopped ≡ None → IsFindingOfChange was.desk.netlist cap was.start change finding → is_unsettled finding ≡ true
+  pub ends-unsettled : (later : List (List (ℕ × Bool))) (change : List (ℕ × Bool)) (finding : FindingOf) → was.stopped ≡ None → IsFindingOfChange was.desk.netlist cap was.start change finding → leaves_unsettled finding ≡ true
       → (own : Status) (text : List ℕ) → SplitsChange netlist (length before + 1) finding own text → SplitsChanges cap netlist start (before ++ change ∷ later) own text
   ends-unsettled later change finding going found unsettled own text says =
       let unknown = first-unknown (values_b finding.rows) unsettled in
@@ -119,7 +119,7 @@ closed-more text_of found number below =
 
 -- the lines of a change and of its runs, one after the other
 pub split-lines : (netlist : Netlist) (number : ℕ) (finding : FindingOf) (found : List (List (List ℕ)))
-    → change_line number (outcome_of found) ++ (states_text netlist (take (length netlist.names) (map (λ (row : Row). row.start) finding.rows)) finding.input ++ flat_map (run_text netlist) (map closed found) ++ codes "end\n")
+    → split_line number (outcome_of found) ++ (states_text netlist (take (length netlist.names) (map (λ (row : Row). row.start) finding.rows)) finding.input ++ flat_map (run_text netlist) (map closed found) ++ codes "end\n")
     ≡ split_text netlist number finding found
 unfolding split_text run_text_printed
 split-lines netlist number finding found = refl

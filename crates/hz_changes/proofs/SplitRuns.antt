@@ -1,7 +1,7 @@
 -- The runs of a change that end in stable states are accepted by a replay; and when a change may be split.
 use Rattle.std.proofs.Common.{◌≡◌, ℕ, ◌<◌, Bool, List, [], ◌∷◌, length, map, take, All, sym, subst, arith, true}
 use Rattle.hz_changes.proofs.Words.{length-take-le, Netlist, IsCircuit, network_of, IsStableStart, length-network_of, Row, FindingOf, finding_of, IsFindingOfChange, closed}
-use Rattle.hz_changes.proofs.Words.{found_in, is_unsettled}
+use Rattle.hz_changes.proofs.Words.{found_in, leaves_unsettled}
 use Rattle.std.proofs.lemmas.List.Elements.{All-nil, All-cons, All-head, All-tail}
 use Rattle.hz_net.specs.Network.{Driver}
 use Rattle.hz_desk.specs.RightFinding.{IsRightFinding}
@@ -49,7 +49,7 @@ is-split read netlist finding circuit begins given runs =
 
 -- a change whose finding is right, and which leaves a variable unsettled
 pub can-be-split : (change : Unsettled) (was : Netlist) (cap : ℕ) (start : List Bool) (flips : List (ℕ × Bool)) → was ≡ change.net.now → IsCircuit change.net.now → IsStableStart change.net.now start
-    → IsFindingOfChange was cap start flips (finding_of change.finding.now) → is_unsettled (finding_of change.finding.now) ≡ true → CanBeSplit change
+    → IsFindingOfChange was cap start flips (finding_of change.finding.now) → leaves_unsettled (finding_of change.finding.now) ≡ true → CanBeSplit change
 can-be-split change was cap start flips same circuit stable found unsettled =
     let netlist = change.net.now in
     let net = network_of netlist in

@@ -1,6 +1,6 @@
 -- The names that most proofs of this crate cite, passed on from one place. Declares nothing.
 pub use Rattle.hz_changes.specs.Reports.{analyses_text}
-pub use Rattle.hz_changes.specs.Splits.{SplitsChange, SplitsChanges, closed, found_in, is_unsettled}
+pub use Rattle.hz_changes.specs.Splits.{SplitsChange, SplitsChanges, closed, found_in, leaves_unsettled}
 pub use Rattle.hz_core.specs.Netlist.{IsCircuit, Netlist}
 pub use Rattle.hz_desk.specs.Finding.{FindingOf, finding_of, values_b}
 pub use Rattle.hz_desk.specs.declared.finding.Row.{Row}

@@ -21,8 +21,8 @@ use Rattle.hz_refusal.specs.declared.status.Status.TheVariants as status
 use Rattle.hz_replay.specs.RunTexts.{ReplaysAs}
 
 -- whether a change leaves a variable unsettled
-abbrev pub is_unsettled : FindingOf → Bool
-is_unsettled finding = list_any is_unknown (values_b finding.rows)
+abbrev pub leaves_unsettled : FindingOf → Bool
+leaves_unsettled finding = list_any is_unknown (values_b finding.rows)
 
 -- the word for what a search comes to
 abbrev pub outcome_word : Outcome → List ℕ
@@ -31,8 +31,8 @@ outcome_word OneState = codes "one"
 outcome_word Critical = codes "critical"
 
 -- the number of a change, and what the search comes to
-unfoldable pub change_line : ℕ → Outcome → List ℕ
-change_line number outcome =
+unfoldable pub split_line : ℕ → Outcome → List ℕ
+split_line number outcome =
     line_of (codes "split change " ∷ decimal number ∷ codes " " ∷ outcome_word outcome ∷ [])
 
 -- a run that ends in a stable state, with this state alone as its cycle
@@ -51,7 +51,7 @@ runs_of_split netlist finding found =
 -- the text of a change that leaves a variable unsettled
 unfoldable pub split_text : Netlist → ℕ → FindingOf → List (List (List ℕ)) → List ℕ
 split_text netlist number finding found =
-    change_line number (outcome_of found)
+    split_line number (outcome_of found)
     ++ run_text_printed netlist (runs_of_split netlist finding found)
 
 -- the runs that are found in a change from its start
@@ -65,7 +65,7 @@ abbrev pub changes_text : Netlist → ℕ → List Analysis → List ℕ
 changes_text netlist number [] = line_of (codes "split settled" ∷ [])
 changes_text netlist number (Stopped var ∷ analyses) = []
 changes_text netlist number (Found finding ∷ analyses) =
-    if is_unsettled finding then split_text netlist number finding (found_in netlist finding)
+    if leaves_unsettled finding then split_text netlist number finding (found_in netlist finding)
     else changes_text netlist (number + 1) analyses
 
 -- The runs that are found of a change are runs from its start to stable outcome states, which differ. Printed, they replay, if they are
@@ -85,8 +85,8 @@ abbrev pub AreSplits : Netlist → List Analysis → Type 0
 AreSplits netlist [] = Unit {0}
 AreSplits netlist (Stopped var ∷ analyses) = Unit {0}
 AreSplits netlist (Found finding ∷ analyses) =
-    ((is_unsettled finding ≡ true) × IsSplitOf netlist finding)
-    ⊎ ((is_unsettled finding ≡ false) × AreSplits netlist analyses)
+    ((leaves_unsettled finding ≡ true) × IsSplitOf netlist finding)
+    ⊎ ((leaves_unsettled finding ≡ false) × AreSplits netlist analyses)
 
 -- The job is done with this text, by the analyses of the changes from a start.
 abbrev pub SplitsChanges : ℕ → Netlist → List Bool → List (List (ℕ × Bool)) → Status → List ℕ →

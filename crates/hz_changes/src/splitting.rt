@@ -13,7 +13,7 @@ ghost use Rattle.hz_write.specs.Writes.{Wrote};
 ghost use Rattle.hz_desk.specs.Finding.{finding_of};
 ghost use Rattle.hz_split.specs.Attempts.{outcome_of};
 ghost use Rattle.hz_refusal.specs.Ends.{Ends};
-ghost use Rattle.hz_changes.specs.Splits.{SplitsChanges, SplitsChange, is_unsettled, outcome_word, change_line, split_text, closed};
+ghost use Rattle.hz_changes.specs.Splits.{SplitsChanges, SplitsChange, leaves_unsettled, outcome_word, split_line, split_text, closed};
 ghost use Rattle.hz_changes.specs.Unsettled.{CanBeSplit};
 
 use hz_desk::{Desk, Finding};
@@ -130,7 +130,7 @@ fn split_changes<K: Sink>(
 
 // Whether a change leaves a variable unsettled.
 fn is_unsettled(finding: &Finding) -> bool
-    ensures { result ≡ is_unsettled (finding_of finding.now) }
+    ensures { result ≡ leaves_unsettled (finding_of finding.now) }
 {
     finding
         .rows
@@ -190,7 +190,7 @@ fn write_split<K: Sink>(
 
 // Gives the number of a change, and what the search came to.
 fn write_outcome<K: Sink>(writer: &mut Writer<'_, K>, number: u32, outcome: Outcome)
-    ensures gave { Writes K.output K.faults (change_line number outcome) writer.old writer.new }
+    ensures gave { Writes K.output K.faults (split_line number outcome) writer.old writer.new }
     ensures none_waits { NoneWaits writer.new }
 {
     writer.line(&[

@@ -1,7 +1,7 @@
 //! The first text: a netlist, in the format that the name of its file tells.
 ghost use Rattle.std.specs.Prelude.{◌≡◌, ◌≤◌, IfOk, IfErr, length};
 ghost use Rattle.hz_bench.specs.Fault.{bench_row};
-ghost use Rattle.hz_blif.specs.Fault.{fault_line};
+ghost use Rattle.hz_blif.specs.Fault.{blif_fault_line};
 ghost use Rattle.hz_core.specs.Netlist.{IsWhole};
 ghost use Rattle.hz_line.specs.Line.{most_text_bytes};
 ghost use Rattle.hz_formats.specs.Netlists.{has_blif_name, IsNetlistText, IsNetlistRefusal, TextsAreCircuits, named_netlist_line};
@@ -51,7 +51,7 @@ fn bench_line(fault: BenchFault) -> u32
 
 // The line that a fault of a netlist in BLIF names.
 fn blif_line(fault: BlifFault) -> u32
-    ensures { result ≡ fault_line fault }
+    ensures { result ≡ blif_fault_line fault }
 {
     match fault {
         BlifFault::Form { line }

@@ -32,7 +32,8 @@ const SYSTEM: u8 = 10;
 const WITHOUT_MEMORY: &str = "hazard: out of memory";
 
 /// What is said of a line with an assumption that is refused.
-const ASSUMPTIONS: &str = "hazard: `edges` and `explore` read `order GATE(PIN) GATE(PIN) [NUMBER]` and `ideal GATE(PIN)`";
+const ASSUMPTIONS: &str =
+    "hazard: `edges` and `explore` read `order GATE(PIN) GATE(PIN) [NUMBER]` and `ideal GATE(PIN)`";
 
 /// The jobs, their files and options, and an example.
 const USAGE: &str = "\

@@ -18,13 +18,13 @@ use Rattle.hz_words.specs.declared.job.Task.{Task}
 use Rattle.hz_words.specs.declared.job.Task.TheVariants.{Analyse, Edges, Explore, Split, Replay, Convert, Vcd, Batch, Reset}
 use Rattle.hz_refusal.specs.declared.status.Status.{Status}
 use Rattle.hz_refusal.specs.declared.status.Status.TheVariants as status
-use Rattle.hz_patterns.specs.Batches.{IsBatchOutcome}
+use Rattle.hz_batch.specs.Batches.{IsBatchOutcome}
 use Rattle.hz_changes.specs.Reports.{Reports}
 use Rattle.hz_edge_reports.specs.EdgeReports.{ReportsEdges}
 use Rattle.hz_timing.specs.TimedValue.{TimedScriptOf}
 use Rattle.hz_timing.specs.Timed.{FirstStartRefused, IsGoodTimed, OfTimed, TimedStarted}
 use Rattle.hz_explore.specs.ExploreReports.{ReportsExploring}
-use Rattle.hz_patterns.specs.Resets.{IsResetOutcome}
+use Rattle.hz_batch.specs.Resets.{IsResetOutcome}
 use Rattle.hz_replay.specs.RunTexts.{IsConvertOutcome, EndsReplay}
 use Rattle.hz_changes.specs.Splits.{SplitsChanges}
 use Rattle.hz_refusal.specs.Second.{IsTextOutcome, Started, IsGoodText}

@@ -17,6 +17,7 @@ ghost use Rattle.hz_top.specs.Reached.{IsReached, IsLineOnCircuit, tells_line};
 ghost use Rattle.hz_top.specs.Tasks.{comes_of};
 
 use crate::reached::{Answer, Reached};
+use hz_batch::{Batches, Resets};
 use hz_changes::{Analyses, Splits};
 use hz_edge_reports::Edges;
 use hz_explore::Explores;
@@ -26,7 +27,6 @@ use hz_net::Net;
 use hz_options::Options;
 use hz_outside::{Files, Place, Sink};
 use hz_pattern_text::PatternReader;
-use hz_patterns::{Batches, Resets};
 use hz_refusal::{
     Ending, OnPatterns, OnRuns, OnScript, Status, on_patterns, on_runs, on_script, refuse_load,
 };

@@ -2,7 +2,7 @@ use Rattle.std.proofs.Common.{◌∙◌, ap, inl, inr, subst, sym, Err}
 use Rattle.std.proofs.lemmas.Result.{err_from_is_err_and}
 use Rattle.hz_core.specs.Netlist.{IsWhole, Netlist}
 use Rattle.hz_netlist.proofs.Circuits.{whole}
-use Rattle.hz_blif.specs.Circuit.{elements_of}
+use Rattle.hz_blif.specs.Circuit.{elements_of_lines}
 use Rattle.hz_blif.specs.Line.{lines_in}
 use Rattle.hz_blif.proofs.DraftHolds.{text-built}
 use Rattle.hz_blif.proofs.FoundFaults.{answer-exact}
@@ -31,7 +31,7 @@ pub returns-clause-whole : goal.returns-clause-whole
 returns-clause-whole c =
     let faultless = c.in_ok-check.ensures c.args.text.now c.in_ok-draft.ensures in
     let is = c.in-Ok.ensures ∙ (text-built c.args.text.now c.in_ok-draft.draft c.in_ok-draft.ensures faultless).1 in
-    subst (λ (circuit : Netlist). IsWhole circuit) (sym is) (whole (elements_of (lines_in c.args.text.now)) (wired-text c.args.text.now faultless))
+    subst (λ (circuit : Netlist). IsWhole circuit) (sym is) (whole (elements_of_lines (lines_in c.args.text.now)) (wired-text c.args.text.now faultless))
 
 pub returns-clause-exact : goal.returns-clause-exact
 returns-clause-exact c =

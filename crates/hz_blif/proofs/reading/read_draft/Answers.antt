@@ -1,7 +1,7 @@
 use Rattle.std.proofs.Common.{◌∙◌, ◌+◌, ◌<◌, ap, arith, false, inl, inr, length, subst, sym, Option, List, ℕ}
 use Rattle.std.specs.Borrow.{Bor}
 use Rattle.hz_line.specs.Line.{lines_of_rest}
-use Rattle.hz_blif.specs.Line.{line_of}
+use Rattle.hz_blif.specs.Line.{line_of_words}
 use Rattle.hz_blif.specs.Reading.{bytes_of, line_by}
 use Rattle.hz_blif.specs.Text.{joined_from}
 use Rattle.hz_blif.proofs.LoopSteps.{IsReading, left-shorter, reading-begin, reading-fault, reading-left, reading-more, reading-short}
@@ -29,7 +29,7 @@ loop-rest-preserved c =
     let was = subst (λ (rest : Option (Bor (List ℕ))). IsReading c.args.text.now c.loop-rest.draft c.loop-rest.course c.loop-rest.number rest) c.in-Some.is c.loop-rest.invariant in
     reading-more c.args.text.now c.loop-rest.draft c.add.new.self c.loop-rest.course c.with-course.result c.loop-rest.number c.in-Some.left c.read_line.new.tokens.items c.in-Ok.joined
     (line_by c.line_of-line.result) c.refuses.result was c.in-Ok.ensures.joined c.in-Ok.ensures.counted c.if-joined.false
-    (c.line_of-line.ensures ∙ ap (λ tokens. line_of (bytes_of tokens)) c.as_slice.ensures.value) c.if-refuses.false c.refuses.ensures.refuses c.with-course.ensures c.in-Ok-add.ensures
+    (c.line_of-line.ensures ∙ ap (λ tokens. line_of_words (bytes_of tokens)) c.as_slice.ensures.value) c.if-refuses.false c.refuses.ensures.refuses c.with-course.ensures c.in-Ok-add.ensures
 
 pub loop-rest-smaller : goal.loop-rest-smaller
 loop-rest-smaller c =
@@ -43,10 +43,10 @@ pub returns-then-joined : goal.returns-then-joined
 returns-then-joined c =
     let was = subst (λ (rest : Option (Bor (List ℕ))). IsReading c.args.text.now c.loop-rest.draft c.loop-rest.course c.loop-rest.number rest) c.in-Some.is c.loop-rest.invariant in
     inr (reading-fault c.args.text.now c.loop-rest.draft c.loop-rest.course c.loop-rest.number c.in-Some.left c.read_line.new.tokens.items c.in-Ok.joined (line_by c.line_of-line.result) false was c.in-Ok.ensures.joined
-    (c.line_of-line.ensures ∙ ap (λ tokens. line_of (bytes_of tokens)) c.as_slice.ensures.value) (inl c.if-joined.true))
+    (c.line_of-line.ensures ∙ ap (λ tokens. line_of_words (bytes_of tokens)) c.as_slice.ensures.value) (inl c.if-joined.true))
 
 pub returns-then-refuses : goal.returns-then-refuses
 returns-then-refuses c =
     let was = subst (λ (rest : Option (Bor (List ℕ))). IsReading c.args.text.now c.loop-rest.draft c.loop-rest.course c.loop-rest.number rest) c.in-Some.is c.loop-rest.invariant in
     inr (reading-fault c.args.text.now c.loop-rest.draft c.loop-rest.course c.loop-rest.number c.in-Some.left c.read_line.new.tokens.items c.in-Ok.joined (line_by c.line_of-line.result) c.refuses.result was c.in-Ok.ensures.joined
-    (c.line_of-line.ensures ∙ ap (λ tokens. line_of (bytes_of tokens)) c.as_slice.ensures.value) (inr (c.if-refuses.true, c.refuses.ensures.refuses)))
+    (c.line_of-line.ensures ∙ ap (λ tokens. line_of_words (bytes_of tokens)) c.as_slice.ensures.value) (inr (c.if-refuses.true, c.refuses.ensures.refuses)))

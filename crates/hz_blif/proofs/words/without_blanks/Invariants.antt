@@ -1,10 +1,10 @@
 use Rattle.std.proofs.Common.{◌≡◌, ◌≤◌, length}
-use Rattle.hz_blif.specs.Text.{tokens_of}
+use Rattle.hz_blif.specs.Text.{words_of_line}
 use Rattle.hz_blif.proofs.words.without_blanks.Given as goal
 
 abbrev pub invariant-loop-rest : goal.invariant-loop-rest
 invariant-loop-rest l = record {
-  same : tokens_of l.line ≡ tokens_of l.rest;
+  same : words_of_line l.line ≡ words_of_line l.rest;
   within : length l.rest ≤ length l.line;
 }
 

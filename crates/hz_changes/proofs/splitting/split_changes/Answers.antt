@@ -1,7 +1,7 @@
 -- One change after the other, up to the first that leaves a variable unsettled.
 use Rattle.std.proofs.Common.{◌≡◌, ◌∙◌, ◌+◌, ◌<◌, ℕ, suc, Bool, true, false, List, [], ◌∷◌, ◌++◌, length, take, drop, get_or, codes, None, refl, sym, ap, subst, arith, add-one}
 use Rattle.hz_changes.proofs.Words.{length-take-le, get_or_from_slice_get, take-length, IsChange, line_of, finding_of, IsLeftBy, Analysis, Found, AreFirstAnalyses, no-changes}
-use Rattle.hz_changes.proofs.Words.{is_unsettled, SplitsChange, SplitsChanges, Ends-put, Ends-more}
+use Rattle.hz_changes.proofs.Words.{leaves_unsettled, SplitsChange, SplitsChanges, Ends-put, Ends-more}
 use Rattle.std.proofs.lemmas.List.{length-append, take-append-drop}
 use Rattle.std.proofs.Math.Seq.{take-suc, drop-cons}
 use Rattle.hz_refusal.specs.declared.status.Status.TheVariants as status
@@ -41,7 +41,7 @@ loop-number-preserved g c =
     let now = c.next.follows.lender-at-none in
     let so_far = c.loop-number.invariant in
     let left : IsLeftBy finding was now = rw c.in-Ok.is at c.next.follows.holds-at-none in
-    let settles : is_unsettled finding ≡ false = sym c.is_unsettled.ensures ∙ c.if-is_unsettled.false in
+    let settles : leaves_unsettled finding ≡ false = sym c.is_unsettled.ensures ∙ c.if-is_unsettled.false in
     let few : number < length changes = omega (arith, c.loop-number-test.true, c.changes-number-end.ensures.changes) in
     let taken : take (number + 1) changes ≡ take number changes ++ change ∷ [] =
     rw add-one (take-suc changes number [] few)
@@ -70,7 +70,7 @@ returns-then-is_unsettled g c =
     let start = c.args.sequence.now.start in
     let finding = finding_of c.in-Ok.finding.now in
     let so_far = c.loop-number.invariant in
-    let unsettled : is_unsettled finding ≡ true = sym c.is_unsettled.ensures ∙ c.if-is_unsettled.true in
+    let unsettled : leaves_unsettled finding ≡ true = sym c.is_unsettled.ensures ∙ c.if-is_unsettled.true in
     let few : number < length changes = omega (arith, c.loop-number-test.true, c.changes-number-end.ensures.changes) in
     let is : get_or changes number [] ≡ change = get_or_from_slice_get changes number change [] c.change.ensures.change in
     let whole : take number changes ++ change ∷ drop (suc number) changes ≡ changes =

@@ -12,7 +12,7 @@ use Rattle.hz_pattern_text.specs.PatternValue.{PatternOf, PatternsOf}
 use Rattle.hz_batch.specs.Each.{AreEach}
 use Rattle.hz_batch.specs.ResetText.{BothValues, IsBroughtAbout, IsResetText}
 use Rattle.hz_refusal.specs.declared.status.Status.TheVariants as status
-use Rattle.hz_patterns.specs.Resets.{IsRight, IsResetOutcome}
+use Rattle.hz_batch.specs.Resets.{IsRight, IsResetOutcome}
 
 -- values along inputs cover the outcomes, as the law says
 abbrev pub ValuesCover : Type 0

@@ -4,7 +4,7 @@ use Rattle.hz_core.specs.Netlist.{Netlist}
 use Rattle.hz_plane.specs.View.{Seen}
 use Rattle.hz_batch.specs.BatchText.{IsBatchText}
 use Rattle.hz_refusal.specs.declared.status.Status.TheVariants as status
-use Rattle.hz_patterns.proofs.batching.BatchesOnPatterns.with_patterns.Goals as goal
+use Rattle.hz_batch.proofs.batching.BatchesOnPatterns.with_patterns.Goals as goal
 
 pub returns-in-Err-Sink : goal.returns-in-Err-Sink
 returns-in-Err-Sink g c =

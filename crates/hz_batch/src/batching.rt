@@ -1,22 +1,21 @@
-//! The job `reset`: what patterns bring about where nobody knows the start, 512 at a time.
+//! The job `batch`: patterns, 512 at a time.
 
-use hz_batch::{BatchFault, reset};
+use crate::{BatchFault, batch};
 use hz_net::Net;
 use hz_outside::Sink;
 use hz_pattern_text::Patterns;
 use hz_plane::Planes;
 use hz_refusal::{OnPatterns, Status};
-use hz_reset::{outcomes_exist, values_cover};
 use std::alloc::Global;
 
-/// The job `reset`.
+/// The job `batch`.
 #[derive(Drop)]
-pub struct Resets;
+pub struct Batches;
 
-impl OnPatterns for Resets {
-    ghost use Rattle.hz_patterns.specs.Resets.{IsResetOutcome};
+impl OnPatterns for Batches {
+    ghost use Rattle.hz_batch.specs.Batches.{IsBatchOutcome};
 
-    ghost judges = { λ _. IsResetOutcome };
+    ghost judges = { λ _. IsBatchOutcome };
 
     fn with_patterns<K: Sink>(
         &self,
@@ -25,12 +24,10 @@ impl OnPatterns for Resets {
         patterns: &Patterns,
         out: &mut K,
     ) -> Status {
-        values_cover();
-        outcomes_exist();
         let Ok(mut planes) = Planes::new(alloc, net) else {
             return Status::Memory;
         };
-        match reset(alloc, patterns, &mut planes, out) {
+        match batch(alloc, patterns, &mut planes, out) {
             Ok(()) => Status::Done,
             Err(BatchFault::Sink) => Status::Sink,
             Err(BatchFault::Memory) => Status::Memory,

@@ -4,8 +4,8 @@ use Rattle.hz_core.specs.Netlist.{Netlist}
 use Rattle.hz_plane.specs.View.{Seen}
 use Rattle.hz_batch.specs.ResetText.{IsResetText}
 use Rattle.hz_refusal.specs.declared.status.Status.TheVariants as status
-use Rattle.hz_patterns.proofs.RightResets.{reset-outcome}
-use Rattle.hz_patterns.proofs.resetting.ResetsOnPatterns.with_patterns.Goals as goal
+use Rattle.hz_batch.proofs.RightResets.{reset-outcome}
+use Rattle.hz_batch.proofs.resetting.ResetsOnPatterns.with_patterns.Goals as goal
 
 pub returns-in-Ok-reset : goal.returns-in-Ok-reset
 returns-in-Ok-reset g c =

@@ -2,7 +2,7 @@
 use Rattle.std.proofs.Common.{◌≡◌, ◌∙◌, length, ap, sym, arith}
 use Rattle.hz_net.specs.Network.{network_of}
 use Rattle.hz_reset.proofs.Covers.{length-unknown_start}
-use Rattle.hz_lane_tests.proofs.resets.push_both.Goals as goal
+use Rattle.hz_text_tests.proofs.resets.push_both.Goals as goal
 
 pub push_values-requires : goal.push_values-requires
 push_values-requires c =

@@ -32,7 +32,7 @@ fn found_on(alloc: Global, net: &Net, text: &str) -> Result<String, Fail> {
 fn found_in(alloc: Global, net: &Net, patterns: &Patterns) -> Result<String, Fail> {
     let mut planes = Planes::new(alloc, net)?;
     let mut found = String::new(alloc);
-    push_found(alloc, &mut found, &mut planes, net, patterns)?;
+    push_found(alloc, &mut found, &mut planes, patterns)?;
     Ok(found)
 }
 
@@ -40,14 +40,11 @@ fn push_found(
     alloc: Global,
     text: &mut String,
     planes: &mut Planes<'_>,
-    net: &Net,
     patterns: &Patterns,
-) -> Result<(), Fail>
-    requires { planes.old.netlist ≡ net.now }
-{
+) -> Result<(), Fail> {
     planes.clear();
     for number in 0..patterns.count() {
-        load(alloc, planes, net, patterns, number)?;
+        load(alloc, planes, patterns, number)?;
     }
     planes.complete();
     planes.spread();
@@ -61,15 +58,12 @@ fn push_found(
 fn load(
     alloc: Global,
     planes: &mut Planes<'_>,
-    net: &Net,
     patterns: &Patterns,
     number: usize,
 ) -> Result<(), Fail>
-    requires net { planes.old.netlist ≡ net.now }
     requires stage { planes.old.stage ≡ Loading }
     requires number { number < length patterns.now.patterns }
-    ensures net { planes.new.netlist ≡ net.now }
-    ensures stage { planes.new.stage ≡ Loading }
+    ensures { planes.new.stage ≡ Loading }
 {
     let listed = listed_of(alloc, patterns.held(), patterns.from(number))?;
     let (input, listed) = (patterns.to(number), listed.as_slice());
@@ -77,7 +71,7 @@ fn load(
     if lane >= 512 {
         return Err("more patterns than lanes".into());
     }
-    if !fits(net, input, listed) {
+    if !fits(planes.net(), input, listed) {
         return Err("no pattern of this network".into());
     }
     planes.load(lane, input, listed);

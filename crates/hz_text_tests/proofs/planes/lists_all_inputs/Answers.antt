@@ -2,7 +2,7 @@ use Rattle.std.proofs.Common.{◌≡◌, ◌∙◌, ◌<◌, ℕ, Bool, Some, No
 use Rattle.std.proofs.lemmas.Bool.{cases_eq}
 use Rattle.std.proofs.lemmas.Option.{slice_get-get_or}
 use Rattle.hz_core.specs.Netlist.{Netlist}
-use Rattle.hz_lane_tests.proofs.planes.lists_all_inputs.Goals as goal
+use Rattle.hz_text_tests.proofs.planes.lists_all_inputs.Goals as goal
 
 pub loop-input-preserved : goal.loop-input-preserved
 loop-input-preserved c input below =

@@ -1,2 +1,0 @@
--- What patterns bring about where nobody knows the start is right
-pub mod RightResets
