@@ -29,6 +29,7 @@ use crate::line::Line;
 use crate::names::TextNames;
 use crate::notes::{Excess, Notes, Redefinition, note};
 use hz_core::{MAX_VARIABLES, Memory};
+use hz_netlist::push;
 use std::alloc::Global;
 
 /// A constant cover: the line of its `.names`, and the number of its output's name.
@@ -417,16 +418,6 @@ fn extend(list: &mut Vec<u32>, numbers: &[u32]) -> Result<(), Memory>
     ensures { OnOk result (list.new.items ≡ list.old.items ++ numbers.now) }
 {
     match list.extend_from_slice(numbers) {
-        Ok(()) => Ok(()),
-        Err(_) => Err(Memory),
-    }
-}
-
-// Adds an item to a list.
-fn push<T: Drop>(items: &mut Vec<T>, item: T) -> Result<(), Memory>
-    ensures { OnOk result (items.new.items ≡ items.old.items ++ item ∷ []) }
-{
-    match items.push(item) {
         Ok(()) => Ok(()),
         Err(_) => Err(Memory),
     }

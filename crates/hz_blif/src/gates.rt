@@ -17,7 +17,7 @@ ghost use Rattle.hz_blif.specs.Reading.{bytes_of};
 
 use crate::cover::Cover;
 use hz_core::{Kind, Memory};
-use hz_netlist::{Gate, Role, Source};
+use hz_netlist::{Gate, Role, Source, push};
 use std::alloc::Global;
 
 /// The gates of covers, in the order of the text.
@@ -428,16 +428,6 @@ fn extend(list: &mut Vec<Source>, items: &[Source]) -> Result<(), Memory>
     ensures { OnOk result (list.new.items ≡ list.old.items ++ items.now) }
 {
     match list.extend_from_slice(items) {
-        Ok(()) => Ok(()),
-        Err(_) => Err(Memory),
-    }
-}
-
-// Adds an item to a list.
-fn push<T: Drop>(items: &mut Vec<T>, item: T) -> Result<(), Memory>
-    ensures { OnOk result (items.new.items ≡ items.old.items ++ item ∷ []) }
-{
-    match items.push(item) {
         Ok(()) => Ok(()),
         Err(_) => Err(Memory),
     }
