@@ -26,5 +26,5 @@ pub told-netlist-line : (name text : List ℕ) (fault : NetlistFault) (own : Sta
     → line ≡ named_netlist_line fault → IsToldNetlistLine name text own line
 told-netlist-line name text (Bench fault) own line (format, inl is) memory named = inr (inr (memory is), named ∙ ap (λ fault. (bench_row fault).line) is)
 told-netlist-line name text (Bench fault) own line (format, inr least) memory named = inl (Bench fault, (format, least), named)
-told-netlist-line name text (Blif fault) own line (format, inl is) memory named = inr (inr (memory is), named ∙ ap blif_fault.fault_line is)
+told-netlist-line name text (Blif fault) own line (format, inl is) memory named = inr (inr (memory is), named ∙ ap blif_fault.blif_fault_line is)
 told-netlist-line name text (Blif fault) own line (format, inr least) memory named = inl (Blif fault, (format, least), named)

@@ -32,7 +32,7 @@ IsLeastNetlistFault name bytes (Blif fault) =
 -- the line of the text that a fault names; 0 if it names none
 abbrev pub named_netlist_line : NetlistFault → ℕ
 named_netlist_line (Bench fault) = (bench_row fault).line
-named_netlist_line (Blif fault) = blif.fault_line fault
+named_netlist_line (Blif fault) = blif.blif_fault_line fault
 
 -- The line that is told of a netlist's text: that of its least fault, 0 if it names none. If the call was cut short, none is told.
 abbrev pub IsToldNetlistLine : (name bytes : List ℕ) → (own : Status) → (line : ℕ) → Type 0
