@@ -65,7 +65,7 @@ def of_why(folder, run, write):
     write(folder, "l.bench", f"INPUT(r)\nINPUT(s)\n{chain}q = NOR(c149, qb)\nqb = NOR(s, q)\n")
     long = run(["why", "l.bench", write(folder, "l.txt", "start r=1 s=1\nchange r=0 s=0\n"), "q"], folder)[1].splitlines()
     yield "why of an unsettled node behind a long way", (len(long) < 100, "q ends at 0 if r, c0(1), c0, c1(1), .., c148, c149(1), c149, q(1) are slower than s, qb(1), qb, q(2)" in long[3],
-                                                         long[4:6]), (True, True, ["the steps from 267 on; --save keeps all", " " * 12 + "   ".join(map(str, range(268, 308, 2)))])
+                                                         long[4:7]), (True, True, ["the steps from 267 on; --save keeps all", "wires are not drawn", " " * 9 + "   ".join(map(str, range(268, 308, 2)))])
     echo = run(["why", "l.bench", write(folder, "l.txt", "start r=0 s=0 q=1\nchange r=1\n"), "q"], folder)[1].splitlines()
     moving = [line for line in echo if re.match(r"c\d", line)]
     yield "rows of a block move in it", (len(moving) > 30, all("/" in line or "\\" in line for line in moving)), (True, True)
