@@ -10,14 +10,35 @@ pub(crate) fn value_of_ones(kind: Kind, ones: u32, pins: u32) -> bool
     ensures { (bits : List Bool) → length bits ≡ pins → count_by (λ bit. bit) bits ≡ ones
         → result ≡ gate_value kind bits }
 {
-    match kind {
-        Kind::And => ones == pins,
-        Kind::Nand => ones != pins,
-        Kind::Or => ones != 0,
-        Kind::Nor => ones == 0,
-        Kind::Xor => ones % 2 == 1,
-        Kind::Xnor => ones % 2 != 1,
-        Kind::Not => ones == 0,
-        Kind::Buff => ones != 0,
-    }
+    let mask: u32 = match kind {
+        Kind::And => 4294967295,
+        Kind::Nand => 4294967295,
+        Kind::Or => 4294967295,
+        Kind::Nor => 4294967295,
+        Kind::Xor => 1,
+        Kind::Xnor => 1,
+        Kind::Not => 4294967295,
+        Kind::Buff => 4294967295,
+    };
+    let all: u32 = match kind {
+        Kind::And => 4294967295,
+        Kind::Nand => 4294967295,
+        Kind::Or => 0,
+        Kind::Nor => 0,
+        Kind::Xor => 0,
+        Kind::Xnor => 0,
+        Kind::Not => 0,
+        Kind::Buff => 0,
+    };
+    let inverted = match kind {
+        Kind::And => false,
+        Kind::Nand => true,
+        Kind::Or => true,
+        Kind::Nor => false,
+        Kind::Xor => true,
+        Kind::Xnor => false,
+        Kind::Not => false,
+        Kind::Buff => true,
+    };
+    ((ones & mask) == (pins & all)) != inverted
 }

@@ -96,10 +96,10 @@ pub trait Grammar<'t> {
         ensures same { context self.new ≡ context self.old };
 
     /// The statement of a line in the commonest form, read without its tokens. `None` says nothing of the line.
-    fn short(&self, line: &'t [u8]) -> Option<Self::Held>
+    fn short(&mut self, line: &'t [u8]) -> Option<Self::Held>
         ensures read { IfSome result
-            (λ held. meaning_of (grammar (context self.now)) line.now ≡ Means (stated held)) }
-        ensures sound { IfSome result (IsSound (context self.now)) };
+            (λ held. meaning_of (grammar (context self.old)) line.now ≡ Means (stated held)) }
+        ensures sound { IfSome result (IsSound (context self.old)) };
 }
 
 /// Reads the statements of a text, up to the first malformed line. It takes time linear in the text, besides what the

@@ -74,7 +74,7 @@ impl<'c, 't> Text<'t> for Statements<'c> {
     }
 
     // No line has a form of its own.
-    fn short(&self, _line: &'t [u8]) -> Option<Held<'t>> {
+    fn short(&mut self, _line: &'t [u8]) -> Option<Held<'t>> {
         None
     }
 

@@ -9,6 +9,7 @@ ghost use Rattle.hz_line.specs.Line.{most_text_bytes};
 use crate::build::build_runs;
 use crate::statement::{RunEntry, RunStatements};
 use crate::text::RunText;
+use crate::variables::Last;
 use bumpalo::Bump;
 use hz_net::Net;
 use hz_text::{TextFault, read_text};
@@ -54,6 +55,7 @@ fn read_accepted_runs<'a>(
         arena,
         net,
         variables,
+        last: Last { name: &[], node: None },
     };
     read_text(alloc, statements, text)
 }

@@ -6,11 +6,11 @@ ghost use Rattle.hz_line.specs.Statement.{meaning_of, Means};
 ghost use Rattle.hz_run_text.specs.RunStatement.{Step};
 ghost use Rattle.hz_run_text.specs.RunResolution.{resolve_run_tokens};
 
-use crate::variables::only_variable;
+use crate::variables::{Last, only_variable};
 use hz_net::Net;
 
 // The variable of a line `step NAME` or `step NAME(NUMBER)`, looked up, if one space stands behind the keyword.
-pub(crate) fn step_of_one(net: &Net, line: &[u8]) -> Option<Option<u32>>
+pub(crate) fn step_of_one<'t>(net: &Net, line: &'t [u8], last: &mut Last<'t>) -> Option<Option<u32>>
     ensures { IfSome result
         (λ variable. meaning_of (resolve_run_tokens net.now) line.now
         ≡ Means (Step (variable ∷ []))) }
@@ -22,7 +22,7 @@ pub(crate) fn step_of_one(net: &Net, line: &[u8]) -> Option<Option<u32>>
     if !is_step(keyword) {
         return None;
     }
-    let variable = only_variable(net, rest)?;
+    let variable = only_variable(net, rest, last)?;
     Some(variable)
 }
 

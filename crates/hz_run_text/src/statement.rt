@@ -18,6 +18,7 @@ use crate::rules::{
     assignments_in, first_mismatch, least_missing_node, line_beyond, names_unknown,
 };
 use crate::short::step_of_one;
+use crate::variables::Last;
 use crate::size::{Size, read_size, size_of};
 use crate::variables::read_variables;
 use bumpalo::Bump;
@@ -49,14 +50,15 @@ pub(crate) type RunEntry<'a> = Numbered<RunHeld<'a>>;
 /// The statements of a run text of a network. The variables of steps are laid into the arena; those of one step are gathered
 /// in `variables` before.
 #[derive(Drop)]
-pub(crate) struct RunStatements<'a, 'n> {
+pub(crate) struct RunStatements<'a, 'n, 't> {
+    pub(crate) last: Last<'t>,
     pub(crate) alloc: Global,
     pub(crate) arena: &'a Bump,
     pub(crate) net: &'n Net,
     pub(crate) variables: Vec<Option<u32>>,
 }
 
-impl<'a, 'n, 't> Text<'t> for RunStatements<'a, 'n> {
+impl<'a, 'n, 't> Text<'t> for RunStatements<'a, 'n, 't> {
     ghost use Rattle.std.specs.Prelude.{length};
     ghost use Rattle.hz_core.specs.Netlist.{Netlist};
     ghost use Rattle.hz_run_text.specs.RunResolution.{ResolvedRunStatement, run_resolution_of, resolve_run_tokens};
@@ -99,8 +101,8 @@ impl<'a, 'n, 't> Text<'t> for RunStatements<'a, 'n> {
         )
     }
 
-    fn short(&self, line: &'t [u8]) -> Option<RunHeld<'a>> {
-        let variable = step_of_one(self.net, line)?;
+    fn short(&mut self, line: &'t [u8]) -> Option<RunHeld<'a>> {
+        let variable = step_of_one(self.net, line, &mut self.last)?;
         Some(RunHeld::StepOfOne(variable))
     }
 

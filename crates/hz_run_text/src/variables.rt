@@ -60,18 +60,35 @@ fn first_variable<'a>(net: &Net, line: &'a [u8]) -> Option<(Option<u32>, &'a [u8
 }
 
 // The variable that a line has alone, looked up. `None` says nothing of the line.
-pub(crate) fn only_variable(net: &Net, line: &[u8]) -> Option<Option<u32>>
+// The name that was sought last, and its node.
+#[derive(Clone, Copy)]
+pub(crate) struct Last<'t> {
+    pub(crate) name: &'t [u8],
+    pub(crate) node: Option<u32>,
+}
+
+fn find_again<'t>(net: &Net, name: &'t [u8], last: &mut Last<'t>) -> Option<u32> {
+    if name == last.name {
+        return last.node;
+    }
+    let node = net.circuit().find(name);
+    last.name = name;
+    last.node = node;
+    node
+}
+
+pub(crate) fn only_variable<'t>(net: &Net, line: &'t [u8], last: &mut Last<'t>) -> Option<Option<u32>>
     ensures { IfSome result
         (λ variable. by_tokens (variables_by net.now) (tokens_of line.now)
         ≡ Some (variable ∷ [])) }
 {
     let (name, after) = first_word(line)?;
     match pin_after(after) {
-        PinAfter::Absent if is_blank_line(after) => Some(net.circuit().find(name)),
+        PinAfter::Absent if is_blank_line(after) => Some(find_again(net, name, last)),
         PinAfter::Absent => None,
         PinAfter::Malformed => None,
         PinAfter::Pin(number, rest) if is_blank_line(rest) => {
-            Some(wire_into(net, net.circuit().find(name), number))
+            Some(wire_into(net, find_again(net, name, last), number))
         }
         PinAfter::Pin(_, _) => None,
     }

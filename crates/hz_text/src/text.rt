@@ -54,12 +54,12 @@ pub trait Text<'t>: Drop {
         ensures same { context self.new ≡ context self.old };
 
     /// The statement of a line in the commonest form, read without its tokens. `None` says nothing of the line.
-    fn short(&self, line: &'t [u8]) -> Option<Self::Held>
+    fn short(&mut self, line: &'t [u8]) -> Option<Self::Held>
         ensures read { IfSome result
-            (λ held. meaning_of (grammar (context self.now)) line.now ≡ Means (stated held)) }
+            (λ held. meaning_of (grammar (context self.old)) line.now ≡ Means (stated held)) }
         ensures below { IfSome result
-            (λ held. AreBelow (node_count (context self.now))
-            ((rules (context self.now)).assigned (stated held))) };
+            (λ held. AreBelow (node_count (context self.old))
+            ((rules (context self.old)).assigned (stated held))) };
 
     /// The number of nodes.
     fn node_count(&self) -> u32
@@ -130,7 +130,7 @@ impl<'t, T: Text<'t>> Grammar<'t> for Lines<T> {
         self.text.statement(first, rest)
     }
 
-    fn short(&self, line: &'t [u8]) -> Option<T::Held> {
+    fn short(&mut self, line: &'t [u8]) -> Option<T::Held> {
         self.text.short(line)
     }
 }
@@ -158,6 +158,11 @@ pub fn read_text<'t, T: Text<'t>>(
     Ok(entries)
 }
 
+fn new_marks(alloc: Global, nodes: u32) -> Result<Vec<usize>, Memory> {
+    let marks = vec![in alloc; 0; nodes as usize]?;
+    Ok(marks)
+}
+
 // Whether statements are without a fault: one pass for each, in the order of their numbers.
 fn check<'t, T: Text<'t>>(
     alloc: Global,
@@ -173,13 +178,28 @@ fn check<'t, T: Text<'t>>(
         (first_fault_in (T.rules (T.context reader.now))
         (map (numbered_by T.stated) entries.now)) fault) }
 {
-    let unknown = first_unknown(reader, entries);
+    let mut marks = new_marks(alloc, reader.node_count())?;
+    let mut unknown = None;
+    let mut twice = None;
+    let mut bitless = None;
+    for (index, entry) in entries.iter().enumerate() {
+        if reader.is_unknown(&entry.held) && unknown.is_none() {
+            unknown = Some(entry.line);
+        }
+        let assigned = reader.assigned(&entry.held);
+        if !assigned.is_empty() {
+            if repeats(assigned, marks.as_mut_slice(), index + 1) && twice.is_none() {
+                twice = Some(entry.line);
+            }
+            if reader.lacks_bit(&entry.held) && bitless.is_none() {
+                bitless = Some(entry.line);
+            }
+        }
+    }
     refuse(unknown, |line| TextFault::Unknown { line })?;
-    let twice = first_twice(alloc, reader, entries)?;
     refuse(twice, |line| TextFault::Twice { line })?;
     let missing = reader.least_missing(alloc, entries)?;
     refuse(missing, |node| TextFault::Missing { node })?;
-    let bitless = first_without_bit(reader, entries);
     refuse(bitless, |line| TextFault::Bit { line })?;
     let order = reader.first_out_of_order(entries);
     refuse(order, |line| TextFault::Order { line })?;

@@ -83,7 +83,7 @@ impl<'n, 't> Text<'t> for TimedStatements<'n> {
     }
 
     // No line has a form of its own.
-    fn short(&self, _line: &'t [u8]) -> Option<TimedHeld> {
+    fn short(&mut self, _line: &'t [u8]) -> Option<TimedHeld> {
         None
     }
 
